@@ -26,5 +26,10 @@ mod composition;
 
 // The oracle's own.
 pub mod cases;
+pub mod events;
 pub mod hex;
+pub mod layouts;
+pub mod texts;
 pub mod values;
+pub mod verdicts;
+pub mod walks;

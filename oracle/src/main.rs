@@ -1,6 +1,9 @@
 //! The commands of the oracle; see README.md.
 
-use oracle::{cases, hex, values};
+use oracle::events::Event;
+use oracle::layouts::{self, HandMade};
+use oracle::walks::{self, Top};
+use oracle::{cases, hex, texts, values, verdicts};
 use std::io::{self, Read, Write};
 use std::process::ExitCode;
 
@@ -12,6 +15,17 @@ fn main() -> ExitCode {
         ["cases", "counts"] => Ok(count_cases()),
         ["values"] => input().and_then(|lines| value_answers(&lines)),
         ["counts"] => input().and_then(|lines| count_answers(&lines)),
+        ["layout", dict, msg_type] => layout(dict, msg_type),
+        ["layout-text", layout] => layout_text(layout),
+        ["events", "message", dict, msg] => message_events(dict, msg),
+        ["events", "group", dict, msg, position, count] => group_events(dict, msg, position, count),
+        ["events", "layout-message", layout, dict, msg] => layout_message_events(layout, dict, msg),
+        ["events", "layout-group", layout, msg, position, count] => {
+            layout_group_events(layout, msg, position, count)
+        }
+        ["verdicts", dict, msg] => verdict_line(dict, msg, false),
+        ["verdicts", dict, msg, "strict"] => verdict_line(dict, msg, true),
+        ["list", dict, msg] => list(dict, msg),
         _ => Err(USAGE.to_string()),
     };
     let written = answer.and_then(|text| {
@@ -32,7 +46,15 @@ fn main() -> ExitCode {
 const USAGE: &str = "usage: oracle COMMAND
   cases values | cases counts   the cases of the recorded lists
   values                        lines `TYPE HEX` from standard input
-  counts                        lines `HEX` from standard input";
+  counts                        lines `HEX` from standard input
+  layout DICT TYPE
+  layout-text LAYOUT
+  events message DICT MSG
+  events group DICT MSG POSITION COUNT
+  events layout-message LAYOUT DICT MSG
+  events layout-group LAYOUT MSG POSITION COUNT
+  verdicts DICT MSG [strict]
+  list DICT MSG                 what document 01's gatelist prints";
 
 fn input() -> Result<String, String> {
     let mut text = String::new();
@@ -93,4 +115,140 @@ fn count_answers(lines: &str) -> Result<String, String> {
         answers.push_str(&format!("{} {answer}\n", hex::encode(&bytes)));
     }
     Ok(answers)
+}
+
+fn file(path: &str) -> Result<Vec<u8>, String> {
+    std::fs::read(path).map_err(|error| format!("{path}: {error}"))
+}
+
+fn dictionary(path: &str) -> Result<oracle::schema::Dictionary, String> {
+    texts::dictionary(&file(path)?).map_err(|error| format!("{path}: {error}"))
+}
+
+fn message(path: &str) -> Result<texts::Message, String> {
+    texts::message(&file(path)?).map_err(|error| format!("{path}: {error}"))
+}
+
+/// A hand-made layout, or the line that says which rule is broken.
+fn hand_made(path: &str) -> Result<Result<HandMade, String>, String> {
+    let level = texts::layout(&file(path)?).map_err(|error| format!("{path}: {error}"))?;
+    Ok(layouts::hand_made(&level).map_err(|error| {
+        let (rule, tag) = layouts::broken_rule(error);
+        format!("refused=11 place={}\n", (rule << 32) + u64::from(tag))
+    }))
+}
+
+fn layout(dict: &str, msg_type: &str) -> Result<String, String> {
+    Ok(match layouts::expand(&dictionary(dict)?, msg_type) {
+        Ok(expansion) => layouts::expansion_lines(&expansion),
+        Err(refused) => layouts::refusal_lines(&refused),
+    })
+}
+
+fn layout_text(layout: &str) -> Result<String, String> {
+    Ok(match hand_made(layout)? {
+        Ok(_) => "accepted\n".to_string(),
+        Err(refused) => refused,
+    })
+}
+
+fn event_lines(events: &[Event]) -> String {
+    events.iter().map(|event| format!("{event}\n")).collect()
+}
+
+fn message_events(dict: &str, msg: &str) -> Result<String, String> {
+    let (dict, msg) = (dictionary(dict)?, message(msg)?);
+    match layouts::expand(&dict, &msg.msg_type()) {
+        Ok(expansion) => {
+            walks::checked_message_walk(&msg.fields(), &dict, &msg.msg_type(), &expansion)
+                .map(|events| event_lines(&events))
+        }
+        Err(refused) => Ok(layouts::refusal_lines(&refused)),
+    }
+}
+
+fn group_events(dict: &str, msg: &str, position: &str, count: &str) -> Result<String, String> {
+    let (dict, msg) = (dictionary(dict)?, message(msg)?);
+    match layouts::expand(&dict, &msg.msg_type()) {
+        Ok(expansion) => group_lines(&msg, position, count, Top::Expanded(&expansion)),
+        Err(refused) => Ok(layouts::refusal_lines(&refused)),
+    }
+}
+
+fn layout_message_events(layout: &str, dict: &str, msg: &str) -> Result<String, String> {
+    let (layout, dict, msg) = (hand_made(layout)?, dictionary(dict)?, message(msg)?);
+    Ok(match layout {
+        Ok(layout) => event_lines(&walks::message_walk(
+            &msg.fields(),
+            &dict,
+            Top::HandMade(&layout),
+        )),
+        Err(refused) => refused,
+    })
+}
+
+fn layout_group_events(
+    layout: &str,
+    msg: &str,
+    position: &str,
+    count: &str,
+) -> Result<String, String> {
+    let (layout, msg) = (hand_made(layout)?, message(msg)?);
+    match layout {
+        Ok(layout) => group_lines(&msg, position, count, Top::HandMade(&layout)),
+        Err(refused) => Ok(refused),
+    }
+}
+
+/// The events of a group walk, then the position behind the group.
+fn group_lines(
+    msg: &texts::Message,
+    position: &str,
+    count: &str,
+    top: Top<'_>,
+) -> Result<String, String> {
+    let position = position
+        .parse()
+        .map_err(|_| format!("`{position}` is not a position"))?;
+    let count = count
+        .parse()
+        .map_err(|_| format!("`{count}` is not a tag"))?;
+    Ok(
+        match walks::group_walk(&msg.fields(), position, count, top) {
+            Some((events, behind)) => format!("{}position={behind}\n", event_lines(&events)),
+            None => format!("refused=14 place={count}\n"),
+        },
+    )
+}
+
+fn verdict_digits(dict: &oracle::schema::Dictionary, msg: &texts::Message, strict: bool) -> String {
+    verdicts::verdicts(&msg.fields(), dict, strict)
+        .iter()
+        .map(u8::to_string)
+        .collect()
+}
+
+fn verdict_line(dict: &str, msg: &str, strict: bool) -> Result<String, String> {
+    let (dict, msg) = (dictionary(dict)?, message(msg)?);
+    Ok(format!(
+        "verdicts={}\n",
+        verdict_digits(&dict, &msg, strict)
+    ))
+}
+
+fn list(dict_path: &str, msg_path: &str) -> Result<String, String> {
+    let (dict, msg) = (dictionary(dict_path)?, message(msg_path)?);
+    let msg_type = msg.msg_type();
+    let expansion = match layouts::expand(&dict, &msg_type) {
+        Ok(expansion) => expansion,
+        Err(refused) => return Ok(layouts::refusal_lines(&refused)),
+    };
+    let fields = msg.fields();
+    let events = walks::checked_message_walk(&fields, &dict, &msg_type, &expansion)?;
+    Ok(format!(
+        "type={msg_type} fields={}\n{}verdicts={}\n",
+        fields.len(),
+        event_lines(&events),
+        verdict_digits(&dict, &msg, false),
+    ))
 }

@@ -1,0 +1,178 @@
+//! Layouts: the Rust's expansion of a message type, and hand-made ones.
+
+use crate::group::{GroupSet, GroupSpec, SpecError};
+use crate::schema::{Dictionary, GroupDef, Member, MessageDef};
+use crate::scope::{Level, ScopeBuilder};
+use crate::texts::TextLevel;
+use crate::validator::{MAX_SCOPE_NODES, ValidationError, resolve};
+use std::fmt::Write;
+
+/// The expansion of one message type.
+pub struct Expansion {
+    pub(crate) level: Level,
+    /// The nodes spent.
+    pub nodes: usize,
+}
+
+/// Why a message type has no layout.
+#[derive(Debug, PartialEq, Eq)]
+pub enum Refused {
+    /// The type is not defined.
+    UnknownMsgType,
+    /// All errors of the Rust's expansion, which goes on behind the first.
+    Schema(Vec<ValidationError>),
+}
+
+/// Expands `msg_type`, one dictionary being transport and application.
+pub fn expand(dict: &Dictionary, msg_type: &str) -> Result<Expansion, Refused> {
+    let (msg_def, _) = resolve(dict, dict, msg_type).ok_or(Refused::UnknownMsgType)?;
+    let (scope, errors) = ScopeBuilder::expand(dict, dict, msg_def);
+    if !errors.is_empty() {
+        return Err(Refused::Schema(errors));
+    }
+    Ok(Expansion {
+        level: scope.level,
+        nodes: nodes_spent(dict, msg_def),
+    })
+}
+
+/// The nodes an expansion without errors spends.
+///
+/// The Rust does not give them out. They are what is left of its limit when
+/// as many groups more as go are added to the message: each takes one node.
+fn nodes_spent(dict: &Dictionary, msg_def: &MessageDef) -> usize {
+    let fits = |more: usize| {
+        let mut wider = msg_def.clone();
+        for _ in 0..more {
+            wider.push(Member::Group(GroupDef::new(0, "0", 0, false, [])));
+        }
+        ScopeBuilder::expand(dict, dict, &wider).1.is_empty()
+    };
+    let mut most = 0;
+    let mut over = MAX_SCOPE_NODES + 1;
+    while over - most > 1 {
+        let middle = most + (over - most) / 2;
+        if fits(middle) {
+            most = middle;
+        } else {
+            over = middle;
+        }
+    }
+    MAX_SCOPE_NODES - most
+}
+
+/// The lines of an expansion: the nodes spent, then each level.
+pub fn expansion_lines(expansion: &Expansion) -> String {
+    let mut text = format!("nodes={}\n", expansion.nodes);
+    level_lines(&expansion.level, "top", &mut text);
+    text
+}
+
+/// A level's members, required list and groups, then the level of each group,
+/// named by the count tags from the top.
+fn level_lines(level: &Level, name: &str, text: &mut String) {
+    let required: Vec<u32> = level.required.iter().map(|(tag, _)| *tag).collect();
+    let _ = writeln!(
+        text,
+        "level={name} members={} required={} groups={}",
+        list(&level.members),
+        list(&required),
+        list(&level.group_tags),
+    );
+    for group in &level.groups {
+        let name = match name {
+            "top" => group.count_tag.to_string(),
+            _ => format!("{name}/{}", group.count_tag),
+        };
+        let _ = writeln!(
+            text,
+            "group={name} delimiter={} required={}",
+            group.delimiter_tag,
+            u8::from(group.required),
+        );
+        level_lines(&group.entry, &name, text);
+    }
+}
+
+/// Tags with commas between them, `-` for none.
+fn list(tags: &[u32]) -> String {
+    if tags.is_empty() {
+        return "-".to_string();
+    }
+    let tags: Vec<String> = tags.iter().map(u32::to_string).collect();
+    tags.join(",")
+}
+
+/// The lines of a refusal: document 01's number, with the name where the Rust
+/// gives one.
+pub fn refusal_lines(refused: &Refused) -> String {
+    match refused {
+        Refused::UnknownMsgType => "error=6\n".to_string(),
+        Refused::Schema(errors) => errors
+            .iter()
+            .map(|error| match error {
+                ValidationError::UnknownComponent { name } => format!("error=7 name={name}\n"),
+                ValidationError::SchemaTooDeep { name, .. } => format!("error=8 name={name}\n"),
+                ValidationError::SchemaTooLarge { .. } => "error=9\n".to_string(),
+                other => unreachable!("not an error of the expansion: {other}"),
+            })
+            .collect(),
+    }
+}
+
+/// A hand-made layout that meets the seven rules.
+pub struct HandMade {
+    pub(crate) set: GroupSet<'static>,
+    pub(crate) required: Vec<u32>,
+    pub(crate) required_groups: Vec<u32>,
+}
+
+/// Builds a hand-made layout with the Rust's constructors, which look at the
+/// rules.
+pub fn hand_made(level: &TextLevel) -> Result<HandMade, SpecError> {
+    let set = GroupSet::with_level_tags(groups_of(level)?, leak(level.members.clone()))?;
+    let groups = level.groups.iter();
+    Ok(HandMade {
+        set,
+        required: level.required.clone(),
+        required_groups: groups
+            .filter(|group| group.required)
+            .map(|group| group.count_tag)
+            .collect(),
+    })
+}
+
+/// The specs of a level's groups, the nested ones first.
+fn groups_of(level: &TextLevel) -> Result<&'static [GroupSpec<'static>], SpecError> {
+    let mut specs = Vec::new();
+    for group in &level.groups {
+        let nested = groups_of(&group.entry)?;
+        let members = leak(group.entry.members.clone());
+        specs.push(GroupSpec::new(
+            group.count_tag,
+            group.delimiter_tag,
+            members,
+            nested,
+        )?);
+    }
+    Ok(leak(specs))
+}
+
+/// The Rust's tables are borrowed; a program that ends soon may leave them.
+fn leak<T>(list: Vec<T>) -> &'static [T] {
+    Box::leak(list.into_boxed_slice())
+}
+
+/// Document 01's rule and tag of a broken rule: the count tag of the group
+/// whose rule it is, 0 for the top.
+pub fn broken_rule(error: SpecError) -> (u64, u32) {
+    match error {
+        SpecError::UnsortedMembers { count_tag } => (1, count_tag),
+        SpecError::DelimiterNotMember { count_tag, .. } => (2, count_tag),
+        SpecError::UnsortedNested { count_tag } => (3, count_tag),
+        SpecError::NestedNotMember { count_tag, .. } => (4, count_tag),
+        SpecError::UnsortedGroups => (5, 0),
+        SpecError::UnsortedLevelTags => (6, 0),
+        SpecError::GroupNotAtLevel { .. } => (7, 0),
+    }
+}
