@@ -1,0 +1,10 @@
+-- Definitions and laws of the crate `formats`: the values of FIX fields. A definition's laws stand in the file of its name with `Laws`,
+-- its examples in the one with `Cases`.
+pub mod Notation
+pub mod NotationLaws
+pub mod Bytes
+pub mod BytesLaws
+pub mod Digits
+pub mod DigitsLaws
+pub mod Count
+pub mod CountLaws

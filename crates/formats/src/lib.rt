@@ -1,0 +1,3 @@
+// Values of FIX fields: which bytes a value of each data type may have. Ported from schema.rs and walk.rs.
+pub mod count;
+pub mod digits;

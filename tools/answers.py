@@ -1,0 +1,265 @@
+#!/usr/bin/env python3
+"""Writes proof files from short templates, so that no path into `c` is counted by hand.
+
+    tools/answers.py CRATE [FUNCTION ..]     write crates/CRATE/proofs/FUNCTION/Proof.antt from tools/answers/CRATE/FUNCTION.answers
+    tools/answers.py --things CRATE FUNCTION what is known at each need: the names that @ may stand before
+
+FUNCTION is the path below proofs/, as count/parse_count; without one, every template of the crate is written.
+
+A template holds, in this order: comment lines (--), `use` lines, and clauses. A clause is the name of an invariant, a measure, a
+need or a fact, then ` =` and its text, perhaps on indented lines; a line `unfolding ..` may stand before it. In the text `@thing` stands
+for the path from `c` to that thing (a test, a call, a loop, `args`) or to that place (`@Else2`) at this need.
+A need without a clause is answered by `search needs`.
+A fact is typed by a place and is put before the first answer that cites it, with the comment above it:
+
+    fact digit-here at Else2
+        : isDigit (..) ≡ true
+        = sym (@is-digit .ensures) ∙ not-false _ (@if2 .left)
+"""
+import glob
+import hashlib
+import os
+import re
+import subprocess
+import sys
+
+ROOT = os.path.dirname(os.path.dirname(os.path.abspath(__file__)))
+CACHE = os.path.join(ROOT, "target", "answers")
+
+
+def run(*words):
+    env = dict(os.environ, RT_CUT="0")
+    done = subprocess.run(["rt", *words], cwd=ROOT, env=env, capture_output=True, text=True)
+    return done.stdout + done.stderr
+
+
+def source_key(crate):
+    digest = hashlib.sha256()
+    for path in sorted(glob.glob(f"{ROOT}/crates/*/src/**/*.rt", recursive=True)):
+        digest.update(path.encode() + open(path, "rb").read())
+    return digest.hexdigest()[:16] + "-" + crate
+
+
+def skeleton_and_records(crate, function):
+    """The lines that a check prints for a function without a proof, and the records of its places."""
+    folder = f"{CACHE}/{source_key(crate)}/{function}"
+    if not os.path.exists(folder + "/lts"):
+        proof = f"{ROOT}/crates/{crate}/proofs/{function}/Proof.antt"
+        aside = proof + ".aside"
+        had = os.path.exists(proof)
+        if had:
+            os.rename(proof, aside)
+        try:
+            printed = run("dev", crate)
+            generated = f"{ROOT}/target/generated"
+            run("dev", crate, "--generated", generated)
+            found = glob.glob(f"{generated}/Rattle.{crate}.proofs/proofs/{function}/Lts.antt")
+        finally:
+            if had:
+                os.rename(aside, proof)
+        lines = printed.split("\n")
+        start = [i for i, line in enumerate(lines) if line.startswith("help: write ") and f"/proofs/{function}/Proof.antt " in line]
+        if not start or not found:
+            told = [line for line in lines if line.startswith("fn ") or "error" in line]
+            sys.exit(f"no skeleton is printed for {function}:\n" + "\n".join(told[:20]))
+        skeleton = []
+        for line in lines[start[0] + 1:]:
+            if line.startswith("    ") or not line.strip():
+                skeleton.append(line[4:])
+            else:
+                break
+        os.makedirs(folder, exist_ok=True)
+        open(folder + "/skeleton", "w").write("\n".join(skeleton).strip() + "\n")
+        open(folder + "/lts", "w").write(open(found[0]).read())
+    return open(folder + "/skeleton").read(), records(open(folder + "/lts").read())
+
+
+def records(text):
+    """For each need and each place: what its `c` leads to, as name -> path."""
+    fields, needs, current, need = {}, {}, None, None
+    for line in text.split("\n"):
+        match = re.match(r" +pub record (\S+)( \(.*\))? : Type", line)
+        if match:
+            current = match.group(1)
+            fields[current] = []
+            continue
+        match = re.match(r" +pub (\S+) : (.*)", line)
+        if match and current:
+            fields[current].append((match.group(1), match.group(2).strip()))
+            continue
+        match = re.match(r" +(Need-\S+) =(.*)", line)
+        if match:
+            need, current, line = match.group(1)[5:], None, match.group(2)
+        match = re.match(r" *\(c : (\S+?)\)", line)
+        if match and need:
+            needs[need] = match.group(1)
+            need = None
+
+    def things(record):
+        known, path = {}, "c"
+        while record in fields:
+            here = dict(fields[record])
+            known.setdefault(record, path)
+            for name, _ in fields[record]:
+                if name not in ("before", "κs"):
+                    known.setdefault(name, f"{path} .{name}")
+            if "before" not in here:
+                break
+            record, path = here["before"].split()[0], path + " .before"
+        return known
+
+    result = {name: things(record) for name, record in needs.items()}
+    result.update({"place " + record: things(record) for record in fields if not record.endswith("·own")})
+    return result
+
+
+def read_template(path):
+    head, uses, clauses, facts, unfolding, comment = [], [], {}, {}, "", ""
+    lines = open(path).read().rstrip("\n").split("\n")
+    index = 0
+    while index < len(lines):
+        line = lines[index]
+        index += 1
+        if not line.strip():
+            continue
+        if line.startswith("--"):
+            if uses:
+                comment += line + "\n"
+            else:
+                head.append(line)
+            continue
+        if line.startswith("use "):
+            uses.append(line)
+            continue
+        if line.startswith("unfolding "):
+            unfolding = line + "\n"
+            continue
+        body = [line]
+        while index < len(lines) and (lines[index].startswith((" ", ")", "}")) or (not lines[index].strip() and index + 1 < len(lines) and lines[index + 1].startswith(" "))):
+            body.append(lines[index])
+            index += 1
+        text = "\n".join(body)
+        match = re.match(r"fact (\S+) at (\S+)\s*:(.*?)\n\s*=(.*)", text, re.S)
+        if match:
+            facts[match.group(1)] = (match.group(2), match.group(3).strip(), match.group(4).strip("\n"), unfolding, comment)
+        else:
+            match = re.match(r"(\S+) =(.*)", text, re.S)
+            if not match:
+                sys.exit(f"{path}: not a clause: {line}")
+            clauses[match.group(1)] = (match.group(2), unfolding)
+        unfolding, comment = "", ""
+    return head, uses, clauses, facts
+
+
+def expand(text, known, where):
+    def path(match):
+        if match.group(1) not in known:
+            sys.exit(f"{where}: no thing '{match.group(1)}' there; there are: " + " ".join(k for k in known))
+        return known[match.group(1)]
+
+    return re.sub(r"@([^\s().,]+)", path, text)
+
+
+def write(crate, function):
+    template = f"{ROOT}/tools/answers/{crate}/{function}.answers"
+    head, uses, clauses, facts = read_template(template)
+    skeleton, known = skeleton_and_records(crate, function)
+    source = {}
+    out, cited, last_comment = [], set(), None
+    places = re.search(r"^\S+ : tie\.Need-\S+(.*)$", skeleton, re.M)
+    arguments = places.group(1) if places else ""
+
+    def put_facts(text):
+        for name, (place, type_, body, unfolding, comment) in facts.items():
+            if name in cited or not re.search(r"(?<![\w-])" + re.escape(name) + r"(?![\w-])", text):
+                continue
+            put_facts(type_ + body)
+            cited.add(name)
+            here = known["place " + place]
+            out.append(f"{comment}{name} : (c : tie.{place}{arguments}) → {expand(type_, here, name)}")
+            out.append(f"{unfolding}{name} c ={expand(body, here, name)}\n")
+
+    unused = set(clauses)
+    lines = skeleton.split("\n")
+    index, comment = 0, None
+    while index < len(lines):
+        line = lines[index]
+        match = re.match(r"-- (src/\S+?):(\d+):\d+", line)
+        if match:
+            path = f"{ROOT}/crates/{crate}/{match.group(1)}"
+            source.setdefault(path, open(path).read().split("\n"))
+            comment = "-- " + source[path][int(match.group(2)) - 1].strip()
+        elif line.startswith("use ") or not line.strip():
+            pass
+        elif line.startswith("abbrev ") and " : tie." in line:
+            name = line.split()[1]
+            left = lines[index + 1].split(" = ")[0]
+            if name not in clauses:
+                sys.exit(f"{template}: {name} is missing; its variables: {left}")
+            text, unfolding = clauses[name]
+            unused.discard(name)
+            out.append(f"{line}\n{unfolding}{left} ={text}\n")
+            index += 1
+        elif re.match(r"\S+ : tie\.Need-", line):
+            name = line.split()[0]
+            left = lines[index + 1].split(" = ")[0]
+            if lines[index + 1].startswith("unfolding"):
+                index += 1
+                left = lines[index + 1].split(" = ")[0]
+            text, unfolding = clauses.get(name, (" search needs", ""))
+            unused.discard(name)
+            text = expand(text, known[name], name)
+            put_facts(text)
+            if comment and comment != last_comment:
+                out.append(comment)
+                last_comment = comment
+            out.append(f"{line}\n{unfolding}{left} ={text}\n")
+            index += 1
+        elif line.startswith("pub "):
+            out.append("\n".join(lines[index:]))
+            break
+        else:
+            out.append(line)
+        index += 1
+    if unused:
+        sys.exit(f"{template}: no such need: " + ", ".join(sorted(unused)))
+    text = "\n".join(out).rstrip("\n") + "\n"
+    module = f"Rattle.{crate}.proofs.{function.replace('/', '.')}"
+    imports = list(uses)
+    if "search needs" in text and not any("Author.Needs." in use for use in uses):
+        imports.append("use borrow.Author.Needs.{needs}")
+    imports.append(f"use {module}.Statement.{{statement}}")
+    imports.append(f"use {module}.Tie as tie")
+    for line in skeleton.split("\n"):
+        match = re.match(r"use \S+ as (\S+)$", line)
+        if match and match.group(1) != "tie" and re.search(r"(?<![\w-])" + re.escape(match.group(1)) + r"\.", text):
+            imports.append(line)
+    first = f"-- Generated by tools/answers.py from tools/answers/{crate}/{function}.answers; edit that."
+    proof = f"{ROOT}/crates/{crate}/proofs/{function}/Proof.antt"
+    os.makedirs(os.path.dirname(proof), exist_ok=True)
+    open(proof, "w").write("\n".join([first, *head, *imports]) + "\n\n" + text)
+    print("wrote", os.path.relpath(proof, ROOT))
+
+
+def main():
+    words = sys.argv[1:]
+    if not words:
+        sys.exit(__doc__)
+    if words[0] == "--things":
+        skeleton, known = skeleton_and_records(words[1], words[2])
+        print(skeleton)
+        for need, things in known.items():
+            if not need.startswith("place "):
+                print(need + ": " + "  ".join(f"{name}" for name in things))
+        return
+    crate, functions = words[0], words[1:]
+    folder = f"{ROOT}/tools/answers/{crate}/"
+    if not functions:
+        found = glob.glob(folder + "**/*.answers", recursive=True)
+        functions = sorted(path[len(folder):-len(".answers")] for path in found)
+    for function in functions:
+        write(crate, function)
+    run("fmt")
+
+
+main()
