@@ -9,7 +9,8 @@ FUNCTION is the path below proofs/, as count/parse_count; without one, every tem
 A template holds, in this order: comment lines (--), `use` lines, and clauses. A clause is the name of an invariant, a measure, a
 need or a fact, then ` =` and its text, perhaps on indented lines; a line `unfolding ..` may stand before it. In the text `@thing` stands
 for the path from `c` to that thing (a test, a call, a loop, `args`) or to that place (`@Else2`) at this need.
-A need without a clause is answered by `search needs`.
+A clause `returns* =` answers every need `returns`, `returns-2`, .. that has no clause of its own, and `@enum-told*` is the nearest of
+`enum-told`, `enum-told2`, .. A need without a clause is answered by `search needs`.
 A fact is typed by a place and is put before the first answer that cites it, with the comment above it:
 
     fact digit-here at Else2
@@ -153,6 +154,11 @@ def read_template(path):
 
 def expand(text, known, where):
     def path(match):
+        if match.group(1).endswith("*"):
+            pattern = re.compile(re.escape(match.group(1)[:-1]) + r"\d*$")
+            nearest = [name for name in known if pattern.match(name)]
+            if nearest:
+                return known[nearest[0]]
         if match.group(1) not in known:
             sys.exit(f"{where}: no thing '{match.group(1)}' there; there are: " + " ".join(k for k in known))
         return known[match.group(1)]
@@ -206,8 +212,9 @@ def write(crate, function):
             if lines[index + 1].startswith("unfolding"):
                 index += 1
                 left = lines[index + 1].split(" = ")[0]
-            text, unfolding = clauses.get(name, (" search needs", ""))
-            unused.discard(name)
+            key = name if name in clauses else re.sub(r"-\d+$", "", name) + "*"
+            text, unfolding = clauses.get(key, (" search needs", ""))
+            unused.discard(key)
             text = expand(text, known[name], name)
             put_facts(text)
             if comment and comment != last_comment:

@@ -8,3 +8,4 @@ pub mod Digits
 pub mod DigitsLaws
 pub mod Count
 pub mod CountLaws
+pub mod FieldType

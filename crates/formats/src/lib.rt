@@ -1,3 +1,4 @@
 // Values of FIX fields: which bytes a value of each data type may have. Ported from schema.rs and walk.rs.
 pub mod count;
 pub mod digits;
+pub mod field_type;
