@@ -9,3 +9,7 @@ pub mod DigitsLaws
 pub mod Count
 pub mod CountLaws
 pub mod FieldType
+pub mod Letters
+pub mod LettersLaws
+pub mod Split
+pub mod SplitLaws

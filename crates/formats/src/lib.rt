@@ -2,3 +2,5 @@
 pub mod count;
 pub mod digits;
 pub mod field_type;
+pub mod letters;
+pub mod split;
