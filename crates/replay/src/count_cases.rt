@@ -1,0 +1,36 @@
+// Cases of `parse_count`: the value in hexadecimal, then the number that the Rust gave, or `none`.
+use crate::cases::Replayed;
+use crate::hex::decode;
+use formats::count::Count;
+use formats::count::parse_count;
+use formats::split::find;
+
+pub fn replay(line: &[u8]) -> Replayed {
+    let space = find(line, 0, b' ');
+    if space == line.len() {
+        return Replayed::Unread;
+    }
+    let mut bytes = [0u8; 64];
+    let size = decode(&line[0..space], &mut bytes);
+    if 64 <= size {
+        return Replayed::Unread;
+    }
+    same_count(parse_count(&bytes[0..size]), &line[space + 1..])
+}
+
+// Whether the answer is the one recorded: decimal digits, or `none`.
+fn same_count(answer: Count, recorded: &[u8]) -> Replayed {
+    let Count::Number(number) = answer else {
+        return as_recorded(recorded.len() == 4 && recorded[0] == b'n');
+    };
+    let mut digits = [0u8; 20];
+    let size = io::decimal(number, &mut digits);
+    as_recorded(check::same(&digits[0..size], recorded))
+}
+
+fn as_recorded(same: bool) -> Replayed {
+    if same {
+        return Replayed::Same;
+    }
+    Replayed::Differs
+}

@@ -1,0 +1,25 @@
+// Replays the answers of the Rust that oracle/record.sh recorded, and says how many cases ran and how many differ.
+mod cases;
+mod count_cases;
+mod hex;
+mod lines;
+
+use crate::cases::CaseList;
+use crate::cases::Tally;
+use libc::STDOUT_FILENO;
+
+fn main() {
+    let counts = lines::replay_file(b"parse_count.cases", CaseList::Counts);
+    print_tally(b"parse_count: ", counts);
+}
+
+// One line: the name of the call, the cases, those that differ and those whose line is of no known form.
+fn print_tally(name: &[u8], tally: Tally) {
+    io::write_all(STDOUT_FILENO, name);
+    io::print_decimal(STDOUT_FILENO, tally.cases);
+    io::write_all(STDOUT_FILENO, b" cases, ");
+    io::print_decimal(STDOUT_FILENO, tally.differ);
+    io::write_all(STDOUT_FILENO, b" differ, ");
+    io::print_decimal(STDOUT_FILENO, tally.unread);
+    io::write_all(STDOUT_FILENO, b" of no known form\n");
+}
