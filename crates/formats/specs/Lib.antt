@@ -13,3 +13,6 @@ pub mod Letters
 pub mod LettersLaws
 pub mod Split
 pub mod SplitLaws
+pub mod Number
+pub mod NumberLaws
+pub mod NumberCases

@@ -4,3 +4,4 @@ pub mod digits;
 pub mod field_type;
 pub mod letters;
 pub mod split;
+pub mod number;
