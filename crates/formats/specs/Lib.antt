@@ -16,3 +16,5 @@ pub mod SplitLaws
 pub mod Number
 pub mod NumberLaws
 pub mod NumberCases
+pub mod Date
+pub mod DateLaws

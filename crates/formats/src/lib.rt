@@ -1,5 +1,6 @@
 // Values of FIX fields: which bytes a value of each data type may have. Ported from schema.rs and walk.rs.
 pub mod count;
+pub mod date;
 pub mod digits;
 pub mod field_type;
 pub mod letters;
