@@ -18,3 +18,6 @@ pub mod NumberLaws
 pub mod NumberCases
 pub mod Date
 pub mod DateLaws
+pub mod StrictDate
+pub mod StrictDateLaws
+pub mod DateCases

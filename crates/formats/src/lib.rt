@@ -6,3 +6,4 @@ pub mod field_type;
 pub mod letters;
 pub mod split;
 pub mod number;
+pub mod strict_date;
