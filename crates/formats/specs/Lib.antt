@@ -8,6 +8,8 @@ pub mod Digits
 pub mod DigitsLaws
 pub mod Count
 pub mod CountLaws
+pub mod Boolean
+pub mod BooleanLaws
 pub mod FieldType
 pub mod Letters
 pub mod LettersLaws

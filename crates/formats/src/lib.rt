@@ -1,9 +1,10 @@
 // Values of FIX fields: which bytes a value of each data type may have. Ported from schema.rs and walk.rs.
+pub mod boolean;
 pub mod count;
 pub mod date;
 pub mod digits;
 pub mod field_type;
 pub mod letters;
-pub mod split;
 pub mod number;
+pub mod split;
 pub mod strict_date;
