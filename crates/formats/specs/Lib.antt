@@ -23,3 +23,8 @@ pub mod DateLaws
 pub mod StrictDate
 pub mod StrictDateLaws
 pub mod DateCases
+pub mod Characters
+pub mod CharactersLaws
+pub mod CharactersCases
+pub mod MultiValue
+pub mod MultiValueLaws

@@ -1,10 +1,12 @@
 // Values of FIX fields: which bytes a value of each data type may have. Ported from schema.rs and walk.rs.
 pub mod boolean;
+pub mod characters;
 pub mod count;
 pub mod date;
 pub mod digits;
 pub mod field_type;
 pub mod letters;
 pub mod number;
+pub mod multi_value;
 pub mod split;
 pub mod strict_date;

@@ -1,0 +1,101 @@
+// The characters of a value after the Rust's String::from_utf8_lossy.
+ghost use mathlib.Core.Path.{_≡_};
+ghost use Rattle.formats.specs.Characters.{expectedAfter, continues, characters};
+
+// What the open character still expects: `more` bytes, the next of them from `low` to `high`.
+pub struct Expected {
+    pub more: u8,
+    pub low: u8,
+    pub high: u8,
+}
+
+// What a character that begins with this byte expects behind it (Unicode, table 3-7).
+pub fn expected_after(lead: u8) -> Expected
+    ensures { λ expected. ⌜ expected ≡ expectedAfter lead ⌝ }
+{
+    match lead {
+        0xC2..=0xDF => Expected {
+            more: 1,
+            low: 0x80,
+            high: 0xBF,
+        },
+        0xE0 => Expected {
+            more: 2,
+            low: 0xA0,
+            high: 0xBF,
+        },
+        0xE1..=0xEC => Expected {
+            more: 2,
+            low: 0x80,
+            high: 0xBF,
+        },
+        0xED => Expected {
+            more: 2,
+            low: 0x80,
+            high: 0x9F,
+        },
+        0xEE..=0xEF => Expected {
+            more: 2,
+            low: 0x80,
+            high: 0xBF,
+        },
+        0xF0 => Expected {
+            more: 3,
+            low: 0x90,
+            high: 0xBF,
+        },
+        0xF1..=0xF3 => Expected {
+            more: 3,
+            low: 0x80,
+            high: 0xBF,
+        },
+        0xF4 => Expected {
+            more: 3,
+            low: 0x80,
+            high: 0x8F,
+        },
+        _ => Expected {
+            more: 0,
+            low: 0x80,
+            high: 0xBF,
+        },
+    }
+}
+
+// Whether the byte goes on with the open character.
+pub fn continues(expected: Expected, byte: u8) -> bool
+    ensures { λ answer. ⌜ answer ≡ continues expected byte ⌝ }
+{
+    if expected.more == 0 {
+        return false;
+    }
+    expected.low <= byte && byte <= expected.high
+}
+
+// The number of characters of the value after from_utf8_lossy. The Rust's value.chars().count().
+pub fn count_chars(value: &[u8]) -> usize
+    ensures outcome { λ count. ⌜ count ≡ characters (now (value .entry)) ⌝ }
+{
+    let mut count: usize = 0;
+    let mut expected = Expected {
+        more: 0,
+        low: 0x80,
+        high: 0xBF,
+    };
+    let mut index = 0;
+    while index < value.len() {
+        let byte = value[index];
+        index += 1;
+        if continues(expected, byte) {
+            expected = Expected {
+                more: expected.more - 1,
+                low: 0x80,
+                high: 0xBF,
+            };
+        } else {
+            count += 1;
+            expected = expected_after(byte);
+        }
+    }
+    count
+}
