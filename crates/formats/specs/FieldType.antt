@@ -12,7 +12,8 @@ use lib.ListN.{getD}
 use Rattle.formats.specs.declared.field_type.FieldType.{FieldType}
 use Rattle.formats.specs.declared.field_type.FieldType.the-variants.{Int, Length, SeqNum, NumInGroup, TagNum, DayOfMonth, Float, Qty, Price, PriceOffset, Amt, Percentage, Char, Boolean, String, MultipleCharValue, MultipleStringValue, Country, Currency, Exchange, MonthYear, UtcTimestamp, UtcTimeOnly, UtcDateOnly, LocalMktDate, LocalMktTime, TzTimeOnly, TzTimestamp, Data, XmlData, Language, Pattern, Tenor, Reserved}
 use Rattle.formats.specs.declared.field_type.Format.{Format}
-use Rattle.formats.specs.declared.field_type.Format.the-variants.{SignedInteger, UnsignedInteger, Day, Decimal, OneCharacter, YesOrNo, Tokens, CharacterTokens, Letters, YearMonth, Date, TimeOfDay, DateAndTime, Anything}
+use Rattle.formats.specs.declared.field_type.Format.the-variants.{SignedInteger, UnsignedInteger, Day, Decimal, OneCharacter, YesOrNo, Tokens, Letters, YearMonth, Date, TimeOfDay, DateAndTime, Anything}
+use Rattle.formats.specs.declared.multi_value.TokenLen.the-variants.{Any, Exactly}
 use Rattle.formats.specs.declared.field_type.NumberedType.{NumberedType}
 use Rattle.formats.specs.declared.field_type.NumberedType.the-variants.{Numbered, Nothing}
 use Rattle.formats.specs.Notation.{_<ᵇ_, if_then_else_}
@@ -147,8 +148,8 @@ formatOf Percentage = Decimal
 formatOf Char = OneCharacter
 formatOf Boolean = YesOrNo
 formatOf String = Anything
-formatOf MultipleCharValue = CharacterTokens
-formatOf MultipleStringValue = Tokens
+formatOf MultipleCharValue = Tokens (Exactly 1)
+formatOf MultipleStringValue = Tokens Any
 formatOf Country = Letters 2
 formatOf Currency = Letters 3
 formatOf Exchange = Anything

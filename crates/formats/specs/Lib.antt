@@ -28,3 +28,5 @@ pub mod CharactersLaws
 pub mod CharactersCases
 pub mod MultiValue
 pub mod MultiValueLaws
+pub mod FieldValue
+pub mod FieldValueLaws

@@ -1,4 +1,5 @@
 // The data types of FIX fields. Ported from schema.rs, `FieldType`.
+use crate::multi_value::TokenLen;
 ghost use mathlib.Core.Path.{_≡_};
 ghost use Rattle.formats.specs.FieldType.{formatOf, typeNumbered};
 
@@ -82,8 +83,7 @@ pub enum Format {
     Decimal,
     OneCharacter,
     YesOrNo,
-    Tokens,
-    CharacterTokens,
+    Tokens(TokenLen),
     Letters(usize),
     YearMonth,
     Date,
@@ -156,8 +156,8 @@ impl FieldType {
             FieldType::Char => Format::OneCharacter,
             FieldType::Boolean => Format::YesOrNo,
             FieldType::String => Format::Anything,
-            FieldType::MultipleCharValue => Format::CharacterTokens,
-            FieldType::MultipleStringValue => Format::Tokens,
+            FieldType::MultipleCharValue => Format::Tokens(TokenLen::Exactly(1)),
+            FieldType::MultipleStringValue => Format::Tokens(TokenLen::Any),
             FieldType::Country => Format::Letters(2),
             FieldType::Currency => Format::Letters(3),
             FieldType::Exchange => Format::Anything,
