@@ -227,16 +227,18 @@ pub record CharactersSoFar (value : List ℕ) (index count : ℕ) (expected : Ex
   pub few : count ≤ index
   pub same : characters value ≡ count + charactersFrom expected (drop index value)
 
-pub characters-start : (value : List ℕ) → CharactersSoFar value 0 0 nothingExpected
+pub characters-start : (value : List ℕ) (expected : Expected) → expected ≡ nothingExpected → CharactersSoFar value 0 0 expected
 unfolding characters
-characters-start value = record { within = omega arith; few = omega arith; same = omega arith }
+characters-start value expected none = record { within = omega arith; few = omega arith; same = rw none (omega arith) }
 
 module _ (value : List ℕ) (index count : ℕ) (expected : Expected) (so-far : CharactersSoFar value index count expected) where
-  pub characters-continued : index < length value → continues expected (getD value index 0) ≡ true → CharactersSoFar value (index + 1) count (next expected)
-  characters-continued inside goes-on = record {
+  pub characters-continued : index < length value → continues expected (getD value index 0) ≡ true → (new : Expected)
+      → new ≡ next expected
+      → CharactersSoFar value (index + 1) count new
+  characters-continued inside goes-on new after = record {
     within = omega arith;
     few = omega arith;
-    same = omega (arith, charactersFrom-continues expected value index inside goes-on);
+    same = rw after (omega (arith, charactersFrom-continues expected value index inside goes-on));
   }
 
   pub characters-begun : index < length value → continues expected (getD value index 0) ≡ false → (new : Expected)

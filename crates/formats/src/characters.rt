@@ -1,6 +1,6 @@
 // The characters of a value after the Rust's String::from_utf8_lossy.
 ghost use mathlib.Core.Path.{_≡_};
-ghost use Rattle.formats.specs.Characters.{expectedAfter, continues, characters};
+ghost use Rattle.formats.specs.Characters.{expects, expectedAfter, continues, characters};
 
 // What the open character still expects: `more` bytes, the next of them from `low` to `high`.
 pub struct Expected {
@@ -9,56 +9,31 @@ pub struct Expected {
     pub high: u8,
 }
 
+// The state with these three numbers.
+fn expects(more: u8, low: u8, high: u8) -> Expected
+    ensures { λ expected. ⌜ expected ≡ expects more low high ⌝ }
+{
+    Expected {
+        more: more,
+        low: low,
+        high: high,
+    }
+}
+
 // What a character that begins with this byte expects behind it (Unicode, table 3-7).
 pub fn expected_after(lead: u8) -> Expected
     ensures { λ expected. ⌜ expected ≡ expectedAfter lead ⌝ }
 {
     match lead {
-        0xC2..=0xDF => Expected {
-            more: 1,
-            low: 0x80,
-            high: 0xBF,
-        },
-        0xE0 => Expected {
-            more: 2,
-            low: 0xA0,
-            high: 0xBF,
-        },
-        0xE1..=0xEC => Expected {
-            more: 2,
-            low: 0x80,
-            high: 0xBF,
-        },
-        0xED => Expected {
-            more: 2,
-            low: 0x80,
-            high: 0x9F,
-        },
-        0xEE..=0xEF => Expected {
-            more: 2,
-            low: 0x80,
-            high: 0xBF,
-        },
-        0xF0 => Expected {
-            more: 3,
-            low: 0x90,
-            high: 0xBF,
-        },
-        0xF1..=0xF3 => Expected {
-            more: 3,
-            low: 0x80,
-            high: 0xBF,
-        },
-        0xF4 => Expected {
-            more: 3,
-            low: 0x80,
-            high: 0x8F,
-        },
-        _ => Expected {
-            more: 0,
-            low: 0x80,
-            high: 0xBF,
-        },
+        0xC2..=0xDF => expects(1, 0x80, 0xBF),
+        0xE0 => expects(2, 0xA0, 0xBF),
+        0xE1..=0xEC => expects(2, 0x80, 0xBF),
+        0xED => expects(2, 0x80, 0x9F),
+        0xEE..=0xEF => expects(2, 0x80, 0xBF),
+        0xF0 => expects(3, 0x90, 0xBF),
+        0xF1..=0xF3 => expects(3, 0x80, 0xBF),
+        0xF4 => expects(3, 0x80, 0x8F),
+        _ => expects(0, 0x80, 0xBF),
     }
 }
 
@@ -77,21 +52,13 @@ pub fn count_chars(value: &[u8]) -> usize
     ensures outcome { λ count. ⌜ count ≡ characters (now (value .entry)) ⌝ }
 {
     let mut count: usize = 0;
-    let mut expected = Expected {
-        more: 0,
-        low: 0x80,
-        high: 0xBF,
-    };
+    let mut expected = expects(0, 0x80, 0xBF);
     let mut index = 0;
     while index < value.len() {
         let byte = value[index];
         index += 1;
         if continues(expected, byte) {
-            expected = Expected {
-                more: expected.more - 1,
-                low: 0x80,
-                high: 0xBF,
-            };
+            expected = expects(expected.more - 1, 0x80, 0xBF);
         } else {
             count += 1;
             expected = expected_after(byte);

@@ -15,9 +15,13 @@ Inv-loop value count₀ expected₀ index₀ count expected index = CharactersSo
 abbrev μ-loop : tie.MeasureT-loop
 μ-loop value count₀ expected₀ index₀ count expected index = length value - index
 
+-- let mut expected = expects(0, 0x80, 0xBF);
+expects-requires : tie.Need-expects-requires Inv-loop μ-loop
+expects-requires c κs = search needs
+
 -- while index < value.len() {
 loop-holds : tie.Need-loop-holds Inv-loop μ-loop
-loop-holds c = characters-start _
+loop-holds c = characters-start _ _ (c .expects .ensures)
 
 -- let byte = value[index];
 shared-slice-read-byte : tie.Need-shared-slice-read-byte Inv-loop μ-loop
@@ -31,16 +35,19 @@ add-index c = search needs
 continues-requires : tie.Need-continues-requires Inv-loop μ-loop
 continues-requires c κs = search needs
 
--- more: expected.more - 1,
-sub-t11 : tie.Need-sub-t11 Inv-loop μ-loop
-sub-t11 c = continues-more _ _ (sym (c .before .before .continues .ensures) ∙ c .before .if1 .taken)
+-- expected = expects(expected.more - 1, 0x80, 0xBF);
+sub-expects : tie.Need-sub-expects Inv-loop μ-loop
+sub-expects c = continues-more _ _ (sym (c .before .before .continues .ensures) ∙ c .before .if1 .taken)
+
+expects-requires-2 : tie.Need-expects-requires-2 Inv-loop μ-loop
+expects-requires-2 c κs = search needs
 
 -- while index < value.len() {
 loop-less : tie.Need-loop-less Inv-loop μ-loop
 loop-less c = search needs
 
 loop-again : tie.Need-loop-again Inv-loop μ-loop
-loop-again c = characters-continued _ _ _ _ (c .before .before .before .before .before .loop .inv) (c .before .before .before .before .loop-test .taken) (sym (c .before .before .continues .ensures) ∙ c .before .if1 .taken)
+loop-again c = characters-continued _ _ _ _ (c .before .before .before .before .before .before .loop .inv) (c .before .before .before .before .before .loop-test .taken) (sym (c .before .before .before .continues .ensures) ∙ c .before .before .if1 .taken) _ (c .expects2 .ensures)
 
 -- count += 1;
 add-count : tie.Need-add-count Inv-loop μ-loop
@@ -67,11 +74,13 @@ count-chars-spec =
     (tie.spec
     Inv-loop
     μ-loop
+    expects-requires
     loop-holds
     shared-slice-read-byte
     add-index
     continues-requires
-    sub-t11
+    sub-expects
+    expects-requires-2
     loop-less
     loop-again
     add-count
