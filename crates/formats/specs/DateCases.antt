@@ -5,7 +5,7 @@ use Rattle.formats.specs.Notation.{isBetween}
 use Rattle.formats.specs.Bytes.{ascii, every}
 use Rattle.formats.specs.Digits.{isDigitsOfLen, decimalFrom}
 use Rattle.formats.specs.Date.{standsFor, hasPicture, isMonthYear, isDate, isFraction, isTimeOfDay, isUtcTimestamp}
-use Rattle.formats.specs.StrictDate.{isInRange, isStrictMonthYear, isStrictDate, isStrictTimeOfDay, isStrictUtcTimestamp}
+use Rattle.formats.specs.StrictDate.{isInRange, isStrictDate, isStrictMonthYear, isStrictTimeOfDay, isStrictUtcTimestamp}
 
 pub record MonthsOfYears : Type 0 where
   pub month : isMonthYear (ascii "202402") ≡ true
@@ -22,7 +22,7 @@ pub record MonthsOfYears : Type 0 where
   pub day-32-strict : isStrictMonthYear (ascii "20241232") ≡ false
 
 pub months-of-years : MonthsOfYears
-unfolding isMonthYear hasPicture standsFor isDigitsOfLen every isBetween isStrictMonthYear isInRange decimalFrom
+unfolding isMonthYear hasPicture standsFor isDigitsOfLen every isBetween isStrictMonthYear isStrictDate isInRange decimalFrom
 months-of-years = record {
   month = refl;
   day = refl;

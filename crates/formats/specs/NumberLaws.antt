@@ -102,12 +102,18 @@ body-begins body = record {
 }
 
 module _ (body : List ℕ) (index digits points : ℕ) (so-far : BodySoFar body index digits points) where
-  pub body-ends : length body ≤ index → isDecimalBody body ≡ leb 1 digits && leb points 1
+  body-ends : length body ≤ index → isDecimalBody body ≡ leb 1 digits && leb points 1
   unfolding isDecimalBody
   body-ends over =
       let all-digits : howMany isDigit body ≡ digits = omega (arith, so-far .counted-digits, howMany-end isDigit body index over) in
       let all-points : howMany isPoint body ≡ points = omega (arith, so-far .counted-points, howMany-end isPoint body index over) in
       rw (so-far .passed, every-end isDigitOrPoint body index over, all-digits, all-points)
+
+  pub body-ends-with-digits : length body ≤ index → 1 ≤ digits → isDecimalBody body ≡ leb points 1
+  body-ends-with-digits over some = body-ends over ∙ rw (le-leb 1 digits some)
+
+  pub body-ends-without : length body ≤ index → digits < 1 → isDecimalBody body ≡ false
+  body-ends-without over none = body-ends over ∙ rw (lt-leb 1 digits none)
 
   module _ (inside : index < length body) where
     pub body-fails : isDigit (getD body index 0) ≡ false → isPoint (getD body index 0) ≡ false → isDecimalBody body ≡ false

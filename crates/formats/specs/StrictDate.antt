@@ -5,12 +5,12 @@
 --
 --   pairAt place value               the two bytes at a place
 --   isInRange low high place value   the two bytes at the place are digits and make a number from low to high
---   isStrictMonthYear value          the month of YYYYMM, YYYYMMDD and YYYYMMwN is in range, and the day of YYYYMMDD
 --   isStrictDate value               month and day of YYYYMMDD are in range
+--   isStrictMonthYear value          month and day of YYYYMMDD are in range, the month of YYYYMM and YYYYMMwN
 --   isStrictTimeOfDay value          hour, minute and second of HH:MM:SS are in range
 --   isStrictUtcTimestamp value       both parts of YYYYMMDD-HH:MM:SS are in range
 use Prim.Native.Nat.{ℕ}
-use mathlib.Core.Bool.{Bool, true, _&&_}
+use mathlib.Core.Bool.{Bool, _&&_}
 use mathlib.Core.List.{List}
 use lib.ListN.{take, drop}
 use Rattle.formats.specs.Notation.{if_then_else_, isBetween}
@@ -22,13 +22,14 @@ pairAt place value = take 2 (drop place value)
 unfoldable pub isInRange : ℕ → ℕ → ℕ → List ℕ → Bool
 isInRange low high place value = isDigitsOfLen 2 (pairAt place value) && isBetween low high (decimal (pairAt place value))
 
-unfoldable pub isStrictMonthYear : List ℕ → Bool
-isStrictMonthYear value =
-    isInRange 1 12 4 value
-    && (if isDigitsOfLen 8 value then isInRange 1 31 6 value else true)
-
 unfoldable pub isStrictDate : List ℕ → Bool
 isStrictDate value = isInRange 1 12 4 value && isInRange 1 31 6 value
+
+unfoldable pub isStrictMonthYear : List ℕ → Bool
+isStrictMonthYear value =
+    if isDigitsOfLen 8 value
+    then isStrictDate value
+    else isInRange 1 12 4 value
 
 unfoldable pub isStrictTimeOfDay : List ℕ → Bool
 isStrictTimeOfDay value =

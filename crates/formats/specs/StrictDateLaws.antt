@@ -12,7 +12,7 @@ use Rattle.formats.specs.Bytes.{every}
 use Rattle.formats.specs.BytesLaws.{drop-step}
 use Rattle.formats.specs.Digits.{isDigit, isDigitsOfLen, decimalFrom}
 use Rattle.formats.specs.DigitsLaws.{isDigitsOfLen-other-length}
-use Rattle.formats.specs.StrictDate.{pairAt, isInRange, isStrictMonthYear, isStrictDate, isStrictTimeOfDay, isStrictUtcTimestamp}
+use Rattle.formats.specs.StrictDate.{pairAt, isInRange, isStrictDate, isStrictMonthYear, isStrictTimeOfDay, isStrictUtcTimestamp}
 
 -- ---- pairAt
 
@@ -50,20 +50,6 @@ module _ (low high : ℕ) (value : List ℕ) (place : ℕ) where
     isInRange-digits tens ones = rw (pairAt-inside value place inside, tens, ones) (ap (isBetween low high) (omega arith))
 
 module _ (value : List ℕ) where
-  -- ---- isStrictMonthYear
-
-  pub isStrictMonthYear-month : isInRange 1 12 4 value ≡ false → isStrictMonthYear value ≡ false
-  unfolding isStrictMonthYear
-  isStrictMonthYear-month out = rw out
-
-  pub isStrictMonthYear-day : isInRange 1 12 4 value ≡ true → isDigitsOfLen 8 value ≡ true → isStrictMonthYear value ≡ isInRange 1 31 6 value
-  unfolding isStrictMonthYear
-  isStrictMonthYear-day month eight = rw (month, eight)
-
-  pub isStrictMonthYear-no-day : isInRange 1 12 4 value ≡ true → isDigitsOfLen 8 value ≡ false → isStrictMonthYear value ≡ true
-  unfolding isStrictMonthYear
-  isStrictMonthYear-no-day month other = rw (month, other)
-
   -- ---- isStrictDate
 
   pub isStrictDate-month : isInRange 1 12 4 value ≡ false → isStrictDate value ≡ false
@@ -73,6 +59,16 @@ module _ (value : List ℕ) where
   pub isStrictDate-day : isInRange 1 12 4 value ≡ true → isStrictDate value ≡ isInRange 1 31 6 value
   unfolding isStrictDate
   isStrictDate-day month = rw month
+
+  -- ---- isStrictMonthYear
+
+  pub isStrictMonthYear-date : isDigitsOfLen 8 value ≡ true → isStrictMonthYear value ≡ isStrictDate value
+  unfolding isStrictMonthYear
+  isStrictMonthYear-date date = rw date
+
+  pub isStrictMonthYear-month : isDigitsOfLen 8 value ≡ false → isStrictMonthYear value ≡ isInRange 1 12 4 value
+  unfolding isStrictMonthYear
+  isStrictMonthYear-month other = rw other
 
   -- ---- isStrictTimeOfDay
 

@@ -2,7 +2,7 @@
 use crate::digits::is_ascii_digit;
 use crate::digits::is_digits_of_len;
 ghost use mathlib.Core.Path.{_≡_};
-ghost use Rattle.formats.specs.StrictDate.{isInRange, isStrictMonthYear, isStrictDate, isStrictTimeOfDay, isStrictUtcTimestamp};
+ghost use Rattle.formats.specs.StrictDate.{isInRange, isStrictDate, isStrictMonthYear, isStrictTimeOfDay, isStrictUtcTimestamp};
 
 // Returns true where two digits at the place make a number from low to high.
 pub fn two_digits_between(value: &[u8], place: usize, low: u8, high: u8) -> bool
@@ -26,19 +26,6 @@ pub fn two_digits_between(value: &[u8], place: usize, low: u8, high: u8) -> bool
     low <= number && number <= high
 }
 
-// Month 01-12, and for `YYYYMMDD` day 01-31.
-pub fn is_strict_month_year(value: &[u8]) -> bool
-    ensures outcome { λ answer. ⌜ answer ≡ isStrictMonthYear (now (value .entry)) ⌝ }
-{
-    if !two_digits_between(value, 4, 1, 12) {
-        return false;
-    }
-    if is_digits_of_len(value, 8) {
-        return two_digits_between(value, 6, 1, 31);
-    }
-    true
-}
-
 // Month 01-12 and day 01-31.
 pub fn is_strict_date(value: &[u8]) -> bool
     ensures outcome { λ answer. ⌜ answer ≡ isStrictDate (now (value .entry)) ⌝ }
@@ -47,6 +34,16 @@ pub fn is_strict_date(value: &[u8]) -> bool
         return false;
     }
     two_digits_between(value, 6, 1, 31)
+}
+
+// A value of `YYYYMMDD` is asked as a date, one of `YYYYMM` or `YYYYMMww` for month 01-12.
+pub fn is_strict_month_year(value: &[u8]) -> bool
+    ensures outcome { λ answer. ⌜ answer ≡ isStrictMonthYear (now (value .entry)) ⌝ }
+{
+    if is_digits_of_len(value, 8) {
+        return is_strict_date(value);
+    }
+    two_digits_between(value, 4, 1, 12)
 }
 
 // Hour 00-23, minute 00-59, second 00-60.

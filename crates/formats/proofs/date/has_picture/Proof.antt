@@ -2,6 +2,7 @@
 -- `formats::date::has_picture` meets its contract. The loop's invariant is `PictureSoFar`; the laws are those of specs/DateLaws.antt.
 use mathlib.Core.Path.{sym, _∙_}
 use Prim.Native.Nat.{_-_}
+use native.Mathlib.Omega.{arith}
 use borrow.Author.Tests.{not-true, not-false}
 use lib.ListN.{length}
 use Rattle.formats.specs.DateLaws.{hasPicture-other-length, PictureSoFar, picture-begins, picture-goes-on, picture-fails, picture-holds}
@@ -17,11 +18,11 @@ abbrev μ-loop : tie.MeasureT-loop
 
 -- return false;
 returns : tie.Need-returns Inv-loop μ-loop
-returns c = sym (hasPicture-other-length _ _ (c .if1 .taken))
+returns c = sym (hasPicture-other-length _ _ (λ same. omega arith))
 
 -- while index < value.len() {
 loop-holds : tie.Need-loop-holds Inv-loop μ-loop
-loop-holds c = picture-begins _ _ (c .if1 .left)
+loop-holds c = picture-begins _ _ (omega arith)
 
 -- if !stands_for(picture[index], value[index]) {
 shared-slice-read-stands-for : tie.Need-shared-slice-read-stands-for Inv-loop μ-loop

@@ -13,7 +13,7 @@ use Rattle.formats.proofs.date.is_time_of_day.Tie as tie
 
 -- return false;
 returns : tie.Need-returns
-returns c = sym (isTimeOfDay-short _ (c .if1 .taken))
+returns c = sym (isTimeOfDay-short _ (omega arith))
 
 -- if !has_picture(&value[..8], b"HH:MM:SS") {
 slice-aggregate-has-picture : tie.Need-slice-aggregate-has-picture

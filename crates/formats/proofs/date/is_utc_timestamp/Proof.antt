@@ -13,7 +13,7 @@ use Rattle.formats.proofs.date.is_utc_timestamp.Tie as tie
 
 -- return false;
 returns : tie.Need-returns
-returns c = sym (isUtcTimestamp-short _ (c .if1 .taken))
+returns c = sym (isUtcTimestamp-short _ (omega arith))
 
 -- if !has_picture(&value[..9], b"YYYYMMDD-") {
 slice-aggregate-has-picture : tie.Need-slice-aggregate-has-picture

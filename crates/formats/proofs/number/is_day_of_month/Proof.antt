@@ -58,7 +58,7 @@ add-next c = omega (arith, isDigit-range _ (digit-here (c)))
 
 -- return false;
 returns-3 : tie.Need-returns-3 Inv-loop μ-loop
-returns-3 c = sym (day-too-large _ _ _ (c .before .before .before .before .before .loop .inv) (c .before .before .before .before .loop-test .taken) (c .if3 .taken))
+returns-3 c = sym (day-too-large _ _ _ (c .before .before .before .before .before .loop .inv) (c .before .before .before .before .loop-test .taken) (omega arith))
 
 -- index += 1;
 add-index : tie.Need-add-index Inv-loop μ-loop
@@ -69,7 +69,7 @@ loop-less : tie.Need-loop-less Inv-loop μ-loop
 loop-less c = search needs
 
 loop-again : tie.Need-loop-again Inv-loop μ-loop
-loop-again c = day-adds _ _ _ (c .before .before .before .before .before .loop .inv) (c .before .before .before .before .loop-test .taken) (digit-here (c .before)) (c .if3 .left)
+loop-again c = day-adds _ _ _ (c .before .before .before .before .before .loop .inv) (c .before .before .before .before .loop-test .taken) (digit-here (c .before)) (omega arith)
 
 -- pub fn is_day_of_month(value: &[u8]) -> bool
 returns-4 : tie.Need-returns-4 Inv-loop μ-loop

@@ -3,10 +3,10 @@
 use mathlib.Core.Path.{_≡_, sym, _∙_}
 use Prim.Native.Nat.{_-_}
 use mathlib.Core.Bool.{false}
-use borrow.Author.Tests.{eq-eqb, ne-eqb, le-leb, lt-leb}
+use borrow.Author.Tests.{eq-eqb, ne-eqb, lt-leb}
 use lib.ListN.{length, getD}
 use Rattle.formats.specs.Digits.{isDigit}
-use Rattle.formats.specs.NumberLaws.{BodySoFar, body-begins, body-takes-digit, body-takes-point, body-fails, body-ends}
+use Rattle.formats.specs.NumberLaws.{BodySoFar, body-begins, body-takes-digit, body-takes-point, body-fails, body-ends-with-digits, body-ends-without}
 use borrow.Author.Needs.{needs}
 use Rattle.formats.proofs.number.is_decimal_body.Statement.{statement}
 use Rattle.formats.proofs.number.is_decimal_body.Tie as tie
@@ -65,10 +65,10 @@ returns c = sym (body-fails _ _ _ _ (c .before .before .before .before .before .
 
 -- fn is_decimal_body(body: &[u8]) -> bool
 returns-2 : tie.Need-returns-2 Inv-loop μ-loop
-returns-2 c = sym (body-ends _ _ _ _ (c .before .before .loop .inv) (c .before .loop-test .left) ∙ rw (le-leb _ _ (c .if3 .taken)))
+returns-2 c = sym (body-ends-with-digits _ _ _ _ (c .before .before .loop .inv) (c .before .loop-test .left) (c .if3 .taken))
 
 returns-3 : tie.Need-returns-3 Inv-loop μ-loop
-returns-3 c = sym (body-ends _ _ _ _ (c .before .before .loop .inv) (c .before .loop-test .left) ∙ rw (lt-leb _ _ (c .if3 .left)))
+returns-3 c = lt-leb _ _ (c .if3 .left) ∙ sym (body-ends-without _ _ _ _ (c .before .before .loop .inv) (c .before .loop-test .left) (c .if3 .left))
 
 pub is-decimal-body-spec : {M : Type 1} → statement M
 is-decimal-body-spec =

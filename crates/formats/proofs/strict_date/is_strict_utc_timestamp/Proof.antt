@@ -13,7 +13,7 @@ use Rattle.formats.proofs.strict_date.is_strict_utc_timestamp.Tie as ti
 
 -- return false;
 returns : tie.Need-returns
-returns c = sym (isStrictUtcTimestamp-short _ (c .if1 .taken))
+returns c = sym (isStrictUtcTimestamp-short _ (omega arith))
 
 -- if !is_strict_date(&value[..8]) {
 slice-aggregate-is-strict-date : tie.Need-slice-aggregate-is-strict-date
