@@ -8,10 +8,10 @@ use crate::validator::{MAX_SCOPE_NODES, ValidationError, resolve};
 use std::fmt::Write;
 
 /// The expansion of one message type.
-pub struct Expansion {
+pub struct Expansion<'d> {
     pub(crate) level: Level,
-    /// The nodes spent.
-    pub nodes: usize,
+    dict: &'d Dictionary,
+    msg_def: &'d MessageDef,
 }
 
 /// Why a message type has no layout.
@@ -24,7 +24,7 @@ pub enum Refused {
 }
 
 /// Expands `msg_type`, one dictionary being transport and application.
-pub fn expand(dict: &Dictionary, msg_type: &str) -> Result<Expansion, Refused> {
+pub fn expand<'d>(dict: &'d Dictionary, msg_type: &str) -> Result<Expansion<'d>, Refused> {
     let (msg_def, _) = resolve(dict, dict, msg_type).ok_or(Refused::UnknownMsgType)?;
     let (scope, errors) = ScopeBuilder::expand(dict, dict, msg_def);
     if !errors.is_empty() {
@@ -32,38 +32,43 @@ pub fn expand(dict: &Dictionary, msg_type: &str) -> Result<Expansion, Refused> {
     }
     Ok(Expansion {
         level: scope.level,
-        nodes: nodes_spent(dict, msg_def),
+        dict,
+        msg_def,
     })
 }
 
-/// The nodes an expansion without errors spends.
-///
-/// The Rust does not give them out. They are what is left of its limit when
-/// as many groups more as go are added to the message: each takes one node.
-fn nodes_spent(dict: &Dictionary, msg_def: &MessageDef) -> usize {
-    let fits = |more: usize| {
-        let mut wider = msg_def.clone();
-        for _ in 0..more {
-            wider.push(Member::Group(GroupDef::new(0, "0", 0, false, [])));
+impl Expansion<'_> {
+    /// The nodes spent.
+    ///
+    /// The Rust does not give them out. They are what is left of its limit
+    /// when as many groups more as go are added to the message: each takes
+    /// one node.
+    pub fn nodes(&self) -> usize {
+        let fits = |more: usize| {
+            let mut wider = self.msg_def.clone();
+            for _ in 0..more {
+                wider.push(Member::Group(GroupDef::new(0, "0", 0, false, [])));
+            }
+            let (_, errors) = ScopeBuilder::expand(self.dict, self.dict, &wider);
+            errors.is_empty()
+        };
+        let mut most = 0;
+        let mut over = MAX_SCOPE_NODES + 1;
+        while over - most > 1 {
+            let middle = most + (over - most) / 2;
+            if fits(middle) {
+                most = middle;
+            } else {
+                over = middle;
+            }
         }
-        ScopeBuilder::expand(dict, dict, &wider).1.is_empty()
-    };
-    let mut most = 0;
-    let mut over = MAX_SCOPE_NODES + 1;
-    while over - most > 1 {
-        let middle = most + (over - most) / 2;
-        if fits(middle) {
-            most = middle;
-        } else {
-            over = middle;
-        }
+        MAX_SCOPE_NODES - most
     }
-    MAX_SCOPE_NODES - most
 }
 
 /// The lines of an expansion: the nodes spent, then each level.
-pub fn expansion_lines(expansion: &Expansion) -> String {
-    let mut text = format!("nodes={}\n", expansion.nodes);
+pub fn expansion_lines(expansion: &Expansion<'_>) -> String {
+    let mut text = format!("nodes={}\n", expansion.nodes());
     level_lines(&expansion.level, "top", &mut text);
     text
 }

@@ -14,7 +14,7 @@ use std::collections::HashSet;
 /// The top level of a layout.
 #[derive(Clone, Copy)]
 pub enum Top<'s> {
-    Expanded(&'s Expansion),
+    Expanded(&'s Expansion<'s>),
     HandMade(&'s HandMade),
 }
 
@@ -121,7 +121,7 @@ pub fn checked_message_walk(
     fields: &[FieldRef<'_>],
     dict: &Dictionary,
     msg_type: &str,
-    expansion: &Expansion,
+    expansion: &Expansion<'_>,
 ) -> Result<Vec<Event>, String> {
     let events = message_walk(fields, dict, Top::Expanded(expansion));
     let message = RawMessage::new(msg_type, fields.to_vec());
