@@ -59,7 +59,7 @@ pub fn value_cases() -> Vec<(FieldType, Vec<u8>)> {
         for value in short_values() {
             cases.add((field_type, value));
         }
-        for value in published_examples(field_type) {
+        for value in examples(field_type) {
             cases.add((field_type, value.as_bytes().to_vec()));
         }
         for value in values_for(field_type) {
@@ -169,9 +169,12 @@ fn words_up_to(length: usize, letters: &[&[u8]]) -> Vec<Vec<u8>> {
     all
 }
 
-/// Values as FIX's descriptions of the data types show them (FIX 4.4, and
-/// FIX 5.0 for the types that came later).
-fn published_examples(field_type: FieldType) -> &'static [&'static str] {
+/// The examples in FIX's descriptions of the data types (FIX 4.4, and FIX 5.0
+/// for the types that came later), as far as a description gives any: Int,
+/// Float, Percentage, Boolean, String, the lists, MonthYear, the UTC and Tz
+/// types and Tenor. For the others, ordinary values. The descriptions do not
+/// lie in docs/, so the examples stand here as they are remembered.
+fn examples(field_type: FieldType) -> &'static [&'static str] {
     match field_type {
         FieldType::Int => &["723", "-723", "99999", "-99999", "00023", "23"],
         FieldType::Length => &["30", "5"],

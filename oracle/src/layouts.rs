@@ -99,6 +99,32 @@ fn level_lines(level: &Level, name: &str, text: &mut String) {
     }
 }
 
+/// An expansion as a layout text.
+pub fn layout_text(expansion: &Expansion<'_>) -> String {
+    let mut text = String::new();
+    level_text(&expansion.level, &mut text);
+    text
+}
+
+fn level_text(level: &Level, text: &mut String) {
+    for tag in &level.members {
+        let _ = writeln!(text, "member={tag}");
+    }
+    for (tag, _) in &level.required {
+        let _ = writeln!(text, "required={tag}");
+    }
+    for group in &level.groups {
+        let (count, delimiter) = (group.count_tag, group.delimiter_tag);
+        let _ = writeln!(
+            text,
+            "group={count},{delimiter},{}",
+            u8::from(group.required)
+        );
+        level_text(&group.entry, text);
+        let _ = writeln!(text, "end={count}");
+    }
+}
+
 /// Tags with commas between them, `-` for none.
 fn list(tags: &[u32]) -> String {
     if tags.is_empty() {

@@ -16,7 +16,8 @@ fn main() -> ExitCode {
         ["values"] => input().and_then(|lines| value_answers(&lines)),
         ["counts"] => input().and_then(|lines| count_answers(&lines)),
         ["layout", dict, msg_type] => layout(dict, msg_type),
-        ["layout-text", layout] => layout_text(layout),
+        ["layout-text", dict, msg_type] => layout_text(dict, msg_type),
+        ["rules", layout] => rules(layout),
         ["events", "message", dict, msg] => message_events(dict, msg),
         ["events", "group", dict, msg, position, count] => group_events(dict, msg, position, count),
         ["events", "layout-message", layout, dict, msg] => layout_message_events(layout, dict, msg),
@@ -48,7 +49,8 @@ const USAGE: &str = "usage: oracle COMMAND
   values                        lines `TYPE HEX` from standard input
   counts                        lines `HEX` from standard input
   layout DICT TYPE
-  layout-text LAYOUT
+  layout-text DICT TYPE         the same as a layout text
+  rules LAYOUT
   events message DICT MSG
   events group DICT MSG POSITION COUNT
   events layout-message LAYOUT DICT MSG
@@ -145,7 +147,14 @@ fn layout(dict: &str, msg_type: &str) -> Result<String, String> {
     })
 }
 
-fn layout_text(layout: &str) -> Result<String, String> {
+fn layout_text(dict: &str, msg_type: &str) -> Result<String, String> {
+    Ok(match layouts::expand(&dictionary(dict)?, msg_type) {
+        Ok(expansion) => layouts::layout_text(&expansion),
+        Err(refused) => layouts::refusal_lines(&refused),
+    })
+}
+
+fn rules(layout: &str) -> Result<String, String> {
     Ok(match hand_made(layout)? {
         Ok(_) => "accepted\n".to_string(),
         Err(refused) => refused,

@@ -270,6 +270,32 @@ fn small_walks() {
         walk(around, "9=1 1=v 2=v", 9),
         ("1:9:0:0:0 5:9:0:0:2 8:9:0:1:1".to_string(), 3)
     );
+    assert_eq!(
+        walk(
+            "member=1 member=9 group=9,1,0 member=1 end=9",
+            "9=1 1=v 1=v",
+            9
+        ),
+        ("1:9:0:0:0 5:9:0:0:1 8:9:0:1:1".to_string(), 2)
+    );
+    // The level around a nested group is the group it stands in, and a tag in
+    // a nested entry is not one of the entry around.
+    let nested = "member=2 member=9 group=9,1,0 member=1 group=1,2,0 member=2 end=1 end=9";
+    assert_eq!(
+        walk(nested, "9=1 1=0 2=v", 9),
+        (
+            "1:9:0:0:0 1:1:1:0:0 5:1:1:0:1 6:1:1:0:1 8:1:1:0:1 5:9:0:0:1 8:9:0:1:1".to_string(),
+            3
+        )
+    );
+    let both = "member=9 group=9,1,0 member=1 member=2 group=1,2,0 member=2 end=1 end=9";
+    assert_eq!(
+        walk(both, "9=1 1=1 2=v 2=v", 9),
+        (
+            "1:9:0:0:0 1:1:1:0:0 5:1:1:0:1 8:1:1:1:1 5:9:0:0:2 8:9:0:1:1".to_string(),
+            4
+        )
+    );
     // A count that is none, a member ahead of the delimiter, a tag twice.
     assert_eq!(
         walk(around, "9=x 2=v 2=v 1=v", 9),
@@ -418,10 +444,15 @@ fn message_walks_agree_with_the_validator() {
             })
             .collect();
         let msg = message(&msg);
-        let walked = walks::checked_message_walk(&msg.fields(), &dict, "D", &expansion);
-        events += walked
-            .unwrap_or_else(|error| panic!("{text}: {error}"))
-            .len();
+        let walked = walks::checked_message_walk(&msg.fields(), &dict, "D", &expansion)
+            .unwrap_or_else(|error| panic!("{text}: {error}"));
+        // The same layout by the Rust's other constructors.
+        let layout = hand_made(&layouts::layout_text(&expansion));
+        assert_eq!(
+            walks::message_walk(&msg.fields(), &dict, Top::HandMade(&layout)),
+            walked
+        );
+        events += walked.len();
     }
     assert!(events > 100_000);
 }
