@@ -460,7 +460,7 @@ fn message_walks_agree_with_the_validator() {
 #[test]
 fn the_recorded_lists_are_the_oracles_answers() {
     let read = |name: &str| {
-        let path = format!("{}/recorded/{name}", env!("CARGO_MANIFEST_DIR"));
+        let path = format!("{}/../crates/replay/data/{name}", env!("CARGO_MANIFEST_DIR"));
         std::fs::read_to_string(path).expect("a recorded list")
     };
     let values: Vec<String> = cases::value_cases()

@@ -3,6 +3,7 @@ use std::num::wrapping_add_u64;
 
 // The recorded lists.
 pub enum CaseList {
+    Values,
     Counts,
 }
 

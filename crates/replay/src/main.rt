@@ -3,12 +3,15 @@ mod cases;
 mod count_cases;
 mod hex;
 mod lines;
+mod value_cases;
 
 use crate::cases::CaseList;
 use crate::cases::Tally;
 use libc::STDOUT_FILENO;
 
 fn main() {
+    let values = lines::replay_file(b"is_valid_value.cases", CaseList::Values);
+    print_tally(b"is_valid_value, plain and strict: ", values);
     let counts = lines::replay_file(b"parse_count.cases", CaseList::Counts);
     print_tally(b"parse_count: ", counts);
 }
