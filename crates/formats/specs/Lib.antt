@@ -30,3 +30,4 @@ pub mod MultiValue
 pub mod MultiValueLaws
 pub mod FieldValue
 pub mod FieldValueLaws
+pub mod StarredCases
