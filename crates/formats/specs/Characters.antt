@@ -13,6 +13,8 @@
 --   next expected                   what the open character expects behind a byte that continued it
 --   charactersFrom expected value   the number of characters that begin in the value, where before it one is open that expects this
 --   characters value                the number of characters of the value
+--   leadsFrom expected value        the first bytes of the characters that begin in the value, where before it one is open that expects this
+--   leads value                     the value's characters in their order, each by its first byte (that of a space is 20)
 use Prim.Native.Nat.{ℕ, suc, _-_}
 use mathlib.Core.Bool.{Bool, _&&_}
 use mathlib.Core.List.{List, [], _∷_}
@@ -53,3 +55,13 @@ charactersFrom expected (byte ∷ rest) =
 
 unfoldable pub characters : List ℕ → ℕ
 characters value = charactersFrom nothingExpected value
+
+unfoldable pub leadsFrom : Expected → List ℕ → List ℕ
+leadsFrom expected [] = []
+leadsFrom expected (byte ∷ rest) =
+    if continues expected byte
+    then leadsFrom (next expected) rest
+    else byte ∷ leadsFrom (expectedAfter byte) rest
+
+abbrev pub leads : List ℕ → List ℕ
+leads value = leadsFrom nothingExpected value

@@ -1,7 +1,7 @@
 -- Laws of `Characters.antt`, in its order. Assumes nothing.
 use mathlib.Core.Path.{_≡_, refl, ap, _∙_}
 use Prim.Native.Nat.{ℕ, suc, _+_, _-_, _≤_, _<_}
-use mathlib.Core.Bool.{Bool, true, false, _&&_, cond}
+use mathlib.Core.Bool.{Bool, true, false, cond}
 use mathlib.Core.List.{List, [], _∷_, _++_}
 use native.Mathlib.Omega.{arith}
 use lib.Dec.{ltb, leb}
@@ -10,9 +10,9 @@ use borrow.Author.Tests.{ltb-true, le-leb, lt-leb, lt-ltb, le-ltb}
 use Rattle.formats.specs.declared.characters.Expected.{Expected}
 use Rattle.formats.specs.Notation.{isBetween}
 use Rattle.formats.specs.NotationLaws.{and-left, and-right, and-false, isBetween-below, isBetween-from}
-use Rattle.formats.specs.Bytes.{every}
+use Rattle.formats.specs.Bytes.{nonEmpty, every}
 use Rattle.formats.specs.BytesLaws.{drop-step}
-use Rattle.formats.specs.Characters.{expects, nothingExpected, expectedAfter, continues, next, charactersFrom, characters}
+use Rattle.formats.specs.Characters.{expects, nothingExpected, expectedAfter, continues, next, charactersFrom, characters, leadsFrom, leads}
 
 -- ---- expectedAfter, row by row
 
@@ -218,6 +218,47 @@ characters-ascii (byte ∷ rest) all-ascii =
     let small : byte < 0x80 = ltb-true byte 0x80 (and-left _ _ all-ascii) in
     rw (continues-ascii nothingExpected byte (record { from = omega arith }) small, expectedAfter-below byte (omega arith))
     (ap suc (characters-ascii rest (and-right (ltb byte 0x80) _ all-ascii)))
+
+-- ---- leadsFrom
+
+module _ (expected : Expected) (byte : ℕ) (rest : List ℕ) where
+  pub leadsFrom-continues : continues expected byte ≡ true → leadsFrom expected (byte ∷ rest) ≡ leadsFrom (next expected) rest
+  unfolding leadsFrom
+  leadsFrom-continues goes-on = rw goes-on
+
+  pub leadsFrom-begins : continues expected byte ≡ false → leadsFrom expected (byte ∷ rest) ≡ byte ∷ leadsFrom (expectedAfter byte) rest
+  unfolding leadsFrom
+  leadsFrom-begins other = rw other
+
+length-leads-by : (test : Bool) (byte : ℕ) (continued begun : List ℕ) (m n : ℕ) → length continued ≡ m → length begun ≡ n
+    → length (cond test continued (byte ∷ begun)) ≡ cond test m (suc n)
+length-leads-by true byte continued begun m n of-continued of-begun = of-continued
+length-leads-by false byte continued begun m n of-continued of-begun = ap suc of-begun
+
+-- a first byte for each character
+pub length-leadsFrom : (expected : Expected) (value : List ℕ) → length (leadsFrom expected value) ≡ charactersFrom expected value
+unfolding leadsFrom charactersFrom
+length-leadsFrom expected [] = refl
+length-leadsFrom expected (byte ∷ rest) =
+    length-leads-by
+    (continues expected byte)
+    byte
+    _
+    _
+    _
+    _
+    (length-leadsFrom (next expected) rest)
+    (length-leadsFrom (expectedAfter byte) rest)
+
+pub length-leads : (value : List ℕ) → length (leads value) ≡ characters value
+unfolding characters
+length-leads value = length-leadsFrom nothingExpected value
+
+-- a value with a byte has a character
+pub nonEmpty-leads : (value : List ℕ) → nonEmpty (leads value) ≡ nonEmpty value
+unfolding nonEmpty leadsFrom
+nonEmpty-leads [] = refl
+nonEmpty-leads (byte ∷ rest) = rw (continues-none nothingExpected byte refl)
 
 -- ---- the loop of `count_chars`
 

@@ -13,6 +13,7 @@ pub mod BooleanLaws
 pub mod FieldType
 pub mod Letters
 pub mod LettersLaws
+pub mod LettersCases
 pub mod Split
 pub mod SplitLaws
 pub mod Number
@@ -31,3 +32,5 @@ pub mod MultiValueLaws
 pub mod FieldValue
 pub mod FieldValueLaws
 pub mod StarredCases
+pub mod MultiValueOrder
+pub mod MultiValueCases

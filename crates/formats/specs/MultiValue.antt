@@ -3,10 +3,10 @@
 -- token is non-empty and, when `token_len` is set, exactly that many characters". Assumes nothing.
 --
 -- The Rust cuts the value at its spaces after `from_utf8_lossy`; here the bytes are cut at 20 (hexadecimal) and the characters of each
--- token are counted by themselves. This is the same. A space is one byte, 20, and 20 stands in no row of table 3-7 behind the first byte:
--- it is inside no character of several bytes and inside no maximal invalid part. So the replacement joins nothing across a space, makes
--- no space and takes none away, and what it makes of a token depends on the token's bytes alone: `characters-parted` (CharactersLaws.antt)
--- says so of the numbers. A token is empty after the replacement exactly where it was empty before.
+-- token are counted by themselves. That is the same: 20 stands in no row of table 3-7 behind the first byte, so a space is inside no
+-- character of several bytes and inside no maximal invalid part. The replacement joins nothing across a space, makes no space and takes
+-- none away, and what it makes of a token depends on the token's bytes alone. Proved: `characters-parted` (CharactersLaws.antt) of the
+-- numbers, `cut-before-or-behind` (MultiValueOrder.antt) of the answer.
 --
 --   TokenLen                        the code's enum: `Any`, or `Exactly len` characters
 --   isToken tokenLen token          the token is non-empty and of this length

@@ -1,14 +1,13 @@
 -- Laws of `MultiValue.antt`, in its order, and the loop of `is_multi_value_list`. Assumes nothing.
-use mathlib.Core.Path.{_≡_, refl, ap, _∙_}
-use Prim.Native.Nat.{ℕ, suc, _+_, _-_, _≤_, _<_}
-use mathlib.Core.Bool.{Bool, true, false, _&&_}
+use mathlib.Core.Path.{_≡_, refl, _∙_}
+use Prim.Native.Nat.{ℕ, _+_, _-_, _≤_}
+use mathlib.Core.Bool.{true, false}
 use mathlib.Core.List.{List}
 use native.Mathlib.Omega.{arith}
 use lib.Dec.{eqb}
 use lib.ListN.{length, take, drop}
 use Rattle.formats.specs.declared.multi_value.TokenLen.{TokenLen}
 use Rattle.formats.specs.declared.multi_value.TokenLen.the-variants.{Any, Exactly}
-use Rattle.formats.specs.Bytes.{nonEmpty}
 use Rattle.formats.specs.BytesLaws.{nonEmpty-none, nonEmpty-some, part-to-end}
 use Rattle.formats.specs.Characters.{characters}
 use Rattle.formats.specs.Split.{indexOf, split, everyPart}
@@ -28,7 +27,8 @@ module _ (token : List ℕ) where
     unfolding isToken
     isToken-any tokenLen any = rw (any, nonEmpty-some token some-byte)
 
-    pub isToken-exactly : (tokenLen : TokenLen) (len count : ℕ) → tokenLen ≡ Exactly len → count ≡ characters token → isToken tokenLen token ≡ eqb count len
+    pub isToken-exactly : (tokenLen : TokenLen) (len count : ℕ) → tokenLen ≡ Exactly len → count ≡ characters token
+        → isToken tokenLen token ≡ eqb count len
     unfolding isToken
     isToken-exactly tokenLen len count exactly counted = rw (exactly, nonEmpty-some token some-byte, counted)
 
