@@ -1,0 +1,3 @@
+-- Definitions and laws of the crate `sorting`: words in order. A definition's laws stand in the file of its name with `Laws`.
+pub mod Sort
+pub mod SortLaws
