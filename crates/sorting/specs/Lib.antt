@@ -1,3 +1,5 @@
 -- Definitions and laws of the crate `sorting`: words in order. A definition's laws stand in the file of its name with `Laws`.
 pub mod Sort
 pub mod SortLaws
+pub mod Heap
+pub mod HeapLaws

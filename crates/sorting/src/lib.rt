@@ -1,1 +1,2 @@
-// Words in order.
+// Words in order: sorting and searching them, and dropping those that are there twice.
+pub mod heap_sort;
