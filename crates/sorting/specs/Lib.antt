@@ -3,3 +3,5 @@ pub mod Sort
 pub mod SortLaws
 pub mod Heap
 pub mod HeapLaws
+pub mod Search
+pub mod SearchLaws

@@ -1,0 +1,209 @@
+-- Laws of `Search.antt`, in its order, and the loops of `is_strictly_ascending` and `binary_search`, turn by turn. Assumes nothing.
+use mathlib.Core.Path.{_≡_, refl, sym, ap, _∙_}
+use Prim.Native.Nat.{ℕ, zero, suc, _+_, _-_, _≤_, _<_}
+use mathlib.Core.Bool.{Bool, true, false, cond}
+use mathlib.Core.List.{List, [], _∷_}
+use native.Mathlib.Omega.{arith}
+use lib.Dec.{ltb, eqb}
+use lib.ListN.{length, getD, drop, drop-of-length-le}
+use borrow.Author.Tests.{ltb-true, ltb-false, lt-ltb, le-ltb, eqb-true, eqb-false, eq-eqb, ne-eqb}
+use Rattle.formats.specs.NotationLaws.{and-left, and-right, and-both}
+use Rattle.formats.specs.BytesLaws.{drop-step}
+use Rattle.sorting.specs.declared.search.Found.the-variants.{At, Nothing}
+use Rattle.sorting.specs.Sort.{isIn}
+use Rattle.sorting.specs.Search.{StrictlyAbove, StrictlyAscending, isStrictlyAbove, isStrictlyAscending, rankFrom, rankIn, isFound}
+
+-- ---- StrictlyAscending, place by place
+
+above-each : (low : ℕ) (words : List ℕ) → StrictlyAbove low words → (place : ℕ) → place < length words → low < getD words place 0
+above-each low [] ascends place inside = absurd (omega arith)
+above-each low (word ∷ rest) ascends zero inside = ascends .0
+above-each low (word ∷ rest) ascends (suc place) inside = omega (arith, ascends .0, above-each word rest (ascends .1) place (omega arith))
+
+above-places : (low : ℕ) (words : List ℕ) → StrictlyAbove low words → (place later : ℕ)
+    → place < later
+    → later < length words
+    → getD words place 0 < getD words later 0
+above-places low [] ascends place later order inside = absurd (omega arith)
+above-places low (word ∷ rest) ascends place zero order inside = absurd (omega arith)
+above-places low (word ∷ rest) ascends zero (suc later) order inside = above-each word rest (ascends .1) later (omega arith)
+above-places low (word ∷ rest) ascends (suc place) (suc later) order inside = above-places word rest (ascends .1) place later (omega arith) (omega arith)
+
+pub strictly-places : (words : List ℕ) → StrictlyAscending words → (place later : ℕ)
+    → place < later
+    → later < length words
+    → getD words place 0 < getD words later 0
+strictly-places [] ascends place later order inside = absurd (omega arith)
+strictly-places (word ∷ rest) ascends place zero order inside = absurd (omega arith)
+strictly-places (word ∷ rest) ascends zero (suc later) order inside = above-each word rest ascends later (omega arith)
+strictly-places (word ∷ rest) ascends (suc place) (suc later) order inside = above-places word rest ascends place later (omega arith) (omega arith)
+
+-- ---- isStrictlyAscending is the test of StrictlyAscending
+
+isStrictlyAbove-true : (low : ℕ) (words : List ℕ) → isStrictlyAbove low words ≡ true → StrictlyAbove low words
+unfolding isStrictlyAbove
+isStrictlyAbove-true low [] holds = tt
+isStrictlyAbove-true low (word ∷ rest) holds = (
+  ltb-true low word (and-left (ltb low word) (isStrictlyAbove word rest) holds),
+  isStrictlyAbove-true word rest (and-right (ltb low word) (isStrictlyAbove word rest) holds),
+)
+
+above-isStrictlyAbove : (low : ℕ) (words : List ℕ) → StrictlyAbove low words → isStrictlyAbove low words ≡ true
+unfolding isStrictlyAbove
+above-isStrictlyAbove low [] ascends = refl
+above-isStrictlyAbove low (word ∷ rest) ascends =
+    and-both (ltb low word) (isStrictlyAbove word rest) (lt-ltb low word (ascends .0)) (above-isStrictlyAbove word rest (ascends .1))
+
+pub isStrictlyAscending-true : (words : List ℕ) → isStrictlyAscending words ≡ true → StrictlyAscending words
+unfolding isStrictlyAscending
+isStrictlyAscending-true [] holds = tt
+isStrictlyAscending-true (word ∷ rest) holds = isStrictlyAbove-true word rest holds
+
+pub strictly-isStrictlyAscending : (words : List ℕ) → StrictlyAscending words → isStrictlyAscending words ≡ true
+unfolding isStrictlyAscending
+strictly-isStrictlyAscending [] ascends = refl
+strictly-isStrictlyAscending (word ∷ rest) ascends = above-isStrictlyAbove word rest ascends
+
+-- ---- the loop of `is_strictly_ascending`
+
+-- the words before `index` are each above the one before
+pub record AscendsSoFar (words : List ℕ) (index : ℕ) : Type 0 where
+  pub some-word : 0 < index
+  pub left-over : isStrictlyAscending words ≡ isStrictlyAbove (getD words (index - 1) 0) (drop index words)
+
+pub ascends-empty : (words : List ℕ) → length words ≡ 0 → isStrictlyAscending words ≡ true
+unfolding isStrictlyAscending
+ascends-empty [] empty = refl
+ascends-empty (word ∷ rest) empty = absurd (omega arith)
+
+pub ascends-begins : (words : List ℕ) → (length words ≡ 0 → ⊥) → AscendsSoFar words 1
+unfolding isStrictlyAscending
+ascends-begins [] some-word = absurd (some-word refl)
+ascends-begins (word ∷ rest) some-word = record { some-word = omega arith; left-over = refl }
+
+module _ (words : List ℕ) (index : ℕ) (so-far : AscendsSoFar words index) where
+  pub ascends-ends : length words ≤ index → isStrictlyAscending words ≡ true
+  unfolding isStrictlyAbove
+  ascends-ends over = so-far .left-over ∙ rw (drop-of-length-le words over)
+
+  module _ (inside : index < length words) where
+    pub ascends-goes-on : getD words (index - 1) 0 < getD words index 0 → AscendsSoFar words (index + 1)
+    unfolding isStrictlyAbove
+    ascends-goes-on above = record {
+      some-word = omega arith;
+      left-over =
+          let last : index + 1 - 1 ≡ index = omega arith in
+          so-far .left-over ∙ rw (drop-step words index inside, lt-ltb (getD words (index - 1) 0) (getD words index 0) above, last);
+    }
+
+    pub ascends-stops : getD words index 0 ≤ getD words (index - 1) 0 → isStrictlyAscending words ≡ false
+    unfolding isStrictlyAbove
+    ascends-stops not-above = so-far .left-over ∙ rw (drop-step words index inside, le-ltb (getD words (index - 1) 0) (getD words index 0) not-above)
+
+-- ---- rankIn
+
+rankFrom-at : (index : ℕ) (words : List ℕ) (tag place : ℕ)
+    → place < length words
+    → getD words place 0 ≡ tag
+    → ((before : ℕ) → before < place → getD words before 0 ≡ tag → ⊥)
+    → rankFrom index words tag ≡ At (index + place)
+unfolding rankFrom
+rankFrom-at index [] tag place inside there first = absurd (omega arith)
+rankFrom-at index (word ∷ rest) tag zero inside there first = rw (eq-eqb word tag there) (ap At (omega arith))
+rankFrom-at index (word ∷ rest) tag (suc place) inside there first =
+    let next : index + 1 + place ≡ index + suc place = omega arith in
+    rw (ne-eqb word tag (first 0 (omega arith)))
+    (rankFrom-at (index + 1) rest tag place (omega arith) there (λ before order. first (suc before) (omega arith)) ∙ ap At next)
+
+rankFrom-nothing : (index : ℕ) (words : List ℕ) (tag : ℕ)
+    → ((place : ℕ) → place < length words → getD words place 0 ≡ tag → ⊥)
+    → rankFrom index words tag ≡ Nothing
+unfolding rankFrom
+rankFrom-nothing index [] tag nowhere = refl
+rankFrom-nothing index (word ∷ rest) tag nowhere =
+    rw (ne-eqb word tag (nowhere 0 (omega arith))) (rankFrom-nothing (index + 1) rest tag (λ place inside. nowhere (suc place) (omega arith)))
+
+module _ (words : List ℕ) (tag : ℕ) where
+  pub rankIn-at : (place : ℕ)
+      → place < length words
+      → getD words place 0 ≡ tag
+      → ((before : ℕ) → before < place → getD words before 0 ≡ tag → ⊥)
+      → rankIn words tag ≡ At place
+  unfolding rankIn
+  rankIn-at place inside there first =
+      let same : 0 + place ≡ place = omega arith in
+      rankFrom-at 0 words tag place inside there first ∙ ap At same
+
+  pub rankIn-nothing : ((place : ℕ) → place < length words → getD words place 0 ≡ tag → ⊥) → rankIn words tag ≡ Nothing
+  unfolding rankIn
+  rankIn-nothing = rankFrom-nothing 0 words tag
+
+isFound-by : (test : Bool) (index : ℕ) (rest : List ℕ) (tag : ℕ) → isFound (rankFrom (index + 1) rest tag) ≡ isIn tag rest
+    → isFound (cond test (At index) (rankFrom (index + 1) rest tag)) ≡ cond test true (isIn tag rest)
+unfolding isFound
+isFound-by true index rest tag deeper = refl
+isFound-by false index rest tag deeper = deeper
+
+isFound-from : (index : ℕ) (words : List ℕ) (tag : ℕ) → isFound (rankFrom index words tag) ≡ isIn tag words
+unfolding rankFrom isFound isIn
+isFound-from index [] tag = refl
+isFound-from index (word ∷ rest) tag = isFound-by (eqb word tag) index rest tag (isFound-from (index + 1) rest tag)
+
+-- a tag has a rank where it is among the words
+pub isFound-rank : (words : List ℕ) (tag : ℕ) → isFound (rankIn words tag) ≡ isIn tag words
+unfolding rankIn
+isFound-rank words tag = isFound-from 0 words tag
+
+-- ---- the loop of `binary_search`
+
+-- where the words ascend, those before `low` are below the tag and those from `high` on above it
+pub record SearchSoFar (words : List ℕ) (tag low high : ℕ) : Type 0 where
+  pub within : high ≤ length words
+  pub below : StrictlyAscending words → (place : ℕ) → place < low → getD words place 0 < tag
+  pub above : StrictlyAscending words → (place : ℕ) → high ≤ place → place < length words → tag < getD words place 0
+
+pub search-begins : (words : List ℕ) (tag : ℕ) → SearchSoFar words tag 0 (length words)
+search-begins words tag = record {
+  within = omega arith;
+  below = λ ascends place before. absurd (omega arith);
+  above = λ ascends place from inside. absurd (omega arith);
+}
+
+module _ (words : List ℕ) (tag low high : ℕ) (so-far : SearchSoFar words tag low high) where
+  pub search-ends : high ≤ low → StrictlyAscending words → Nothing ≡ rankIn words tag
+  search-ends met ascends = sym (rankIn-nothing words tag (λ place inside there. by-side (ltb place low) place refl inside there))
+    where
+      by-side : (test : Bool) (place : ℕ) → ltb place low ≡ test → place < length words → getD words place 0 ≡ tag → ⊥
+      by-side true place test inside there = omega (arith, so-far .below ascends place (ltb-true place low test))
+      by-side false place test inside there = omega (arith, so-far .above ascends place (omega (arith, ltb-false place low test)) inside)
+
+  module _ (middle : ℕ) (from : low ≤ middle) (before : middle < high) where
+    pub search-finds : getD words middle 0 ≡ tag → StrictlyAscending words → At middle ≡ rankIn words tag
+    search-finds there ascends =
+        let inside : middle < length words = omega (arith, so-far .within) in
+        sym (rankIn-at words tag middle inside there (λ place earlier same. omega (arith, strictly-places words ascends place middle earlier inside)))
+
+    pub search-goes-up : getD words middle 0 < tag → SearchSoFar words tag (middle + 1) high
+    search-goes-up under = record {
+      within = so-far .within;
+      below = λ ascends place earlier. by-last ascends place (eqb place middle) refl earlier;
+      above = so-far .above;
+    }
+      where
+        by-last : StrictlyAscending words → (place : ℕ) (test : Bool) → eqb place middle ≡ test → place < middle + 1 → getD words place 0 < tag
+        by-last ascends place true test earlier = rw (eqb-true place middle test) under
+        by-last ascends place false test earlier =
+            omega (arith, strictly-places words ascends place middle (omega (arith, eqb-false place middle test)) (omega (arith, so-far .within)))
+
+    pub search-goes-down : tag < getD words middle 0 → SearchSoFar words tag low middle
+    search-goes-down over = record {
+      within = omega (arith, so-far .within);
+      below = so-far .below;
+      above = λ ascends place later inside. by-first ascends place (eqb place middle) refl later inside;
+    }
+      where
+        by-first : StrictlyAscending words → (place : ℕ) (test : Bool) → eqb place middle ≡ test → middle ≤ place → place < length words
+            → tag < getD words place 0
+        by-first ascends place true test later inside = rw (eqb-true place middle test) over
+        by-first ascends place false test later inside =
+            omega (arith, strictly-places words ascends middle place (omega (arith, eqb-false place middle test)) inside)
