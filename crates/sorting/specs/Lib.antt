@@ -1,7 +1,11 @@
--- Definitions and laws of the crate `sorting`: words in order. A definition's laws stand in the file of its name with `Laws`.
+-- Definitions and laws of the crate `sorting`: words in order. A definition's laws stand in the file of its name with `Laws`; the examples
+-- of all stand in `OrderCases`.
 pub mod Sort
 pub mod SortLaws
 pub mod Heap
 pub mod HeapLaws
 pub mod Search
 pub mod SearchLaws
+pub mod Dedup
+pub mod DedupLaws
+pub mod OrderCases

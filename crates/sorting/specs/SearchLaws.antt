@@ -9,9 +9,10 @@ use lib.ListN.{length, getD, drop, drop-of-length-le}
 use borrow.Author.Tests.{ltb-true, ltb-false, lt-ltb, le-ltb, eqb-true, eqb-false, eq-eqb, ne-eqb}
 use Rattle.formats.specs.NotationLaws.{and-left, and-right, and-both}
 use Rattle.formats.specs.BytesLaws.{drop-step}
+use Rattle.sorting.specs.declared.search.Found.{Found}
 use Rattle.sorting.specs.declared.search.Found.the-variants.{At, Nothing}
 use Rattle.sorting.specs.Sort.{isIn}
-use Rattle.sorting.specs.Search.{StrictlyAbove, StrictlyAscending, isStrictlyAbove, isStrictlyAscending, rankFrom, rankIn, isFound}
+use Rattle.sorting.specs.Search.{StrictlyAbove, StrictlyAscending, isStrictlyAbove, isStrictlyAscending, rankFrom, rankIn, isFound, Holds}
 
 -- ---- StrictlyAscending, place by place
 
@@ -153,6 +154,14 @@ isFound-from index (word ∷ rest) tag = isFound-by (eqb word tag) index rest ta
 pub isFound-rank : (words : List ℕ) (tag : ℕ) → isFound (rankIn words tag) ≡ isIn tag words
 unfolding rankIn
 isFound-rank words tag = isFound-from 0 words tag
+
+-- ---- Holds
+
+pub holds-at : (words : List ℕ) (tag place : ℕ) (found : Found)
+    → found ≡ At place
+    → Holds words tag found
+    → (place < length words) × (getD words place 0 ≡ tag)
+holds-at words tag place found there holds = rw there at holds
 
 -- ---- the loop of `binary_search`
 

@@ -1,3 +1,4 @@
 // Words in order: sorting and searching them, and dropping those that are there twice.
+pub mod dedup;
 pub mod heap_sort;
 pub mod search;
