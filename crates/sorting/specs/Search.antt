@@ -1,5 +1,5 @@
 -- The place of a tag among words in strictly ascending order, and the test of that order. The Rust's `members.binary_search(&tag)`
--- (scope.rs). Assumes nothing.
+-- (walk.rs, scope.rs). Assumes nothing.
 --
 --   StrictlyAbove low words       every word is above the one before it, and the first is above `low`
 --   StrictlyAscending words       every word is above the one before it

@@ -3,6 +3,7 @@
 -- specs/SearchLaws.antt.
 use mathlib.Core.Path.{sym}
 use Prim.Native.Nat.{_-_}
+use native.Mathlib.Omega.{arith}
 use lib.ListN.{length}
 use Rattle.sorting.specs.SearchLaws.{AscendsSoFar, ascends-empty, ascends-begins, ascends-goes-on, ascends-stops, ascends-ends}
 use borrow.Author.Needs.{needs}
@@ -41,7 +42,7 @@ shared-slice-read-if2-2 c = search needs
 
 -- return false;
 returns-2 : tie.Need-returns-2 Inv-loop μ-loop
-returns-2 c = sym (ascends-stops _ _ (c .before .before .before .before .loop .inv) (c .before .before .before .loop-test .taken) (c .if2 .taken))
+returns-2 c = sym (ascends-stops _ _ (c .before .before .before .before .loop .inv) (c .before .before .before .loop-test .taken) (omega arith))
 
 -- index += 1;
 add-index : tie.Need-add-index Inv-loop μ-loop
