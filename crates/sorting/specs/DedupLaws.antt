@@ -2,7 +2,7 @@
 -- Assumes nothing.
 use mathlib.Core.Path.{_≡_, refl, sym, ap, _∙_}
 use Prim.Native.Nat.{ℕ, suc, _+_, _-_, _≤_, _<_}
-use mathlib.Core.Bool.{Bool, true, false, cond}
+use mathlib.Core.Bool.{Bool, true, false, cond, _||_}
 use mathlib.Core.List.{List, [], _∷_, _++_, append-nil}
 use native.Mathlib.Omega.{arith}
 use native.Mathlib.Numerals.{add-one}
@@ -66,7 +66,7 @@ deduped-strictly (word ∷ rest) ascends = dedupedAfter-strictly word rest (asce
 
 -- ---- the same words are there
 
-either-twice : (test other : Bool) → cond test true other ≡ cond test true (cond test true other)
+either-twice : (test other : Bool) → test || other ≡ test || (test || other)
 either-twice true other = refl
 either-twice false other = refl
 

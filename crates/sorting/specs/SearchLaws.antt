@@ -1,7 +1,7 @@
 -- Laws of `Search.antt`, in its order, and the loops of `is_strictly_ascending` and `binary_search`, turn by turn. Assumes nothing.
 use mathlib.Core.Path.{_≡_, refl, sym, ap, _∙_}
 use Prim.Native.Nat.{ℕ, zero, suc, _+_, _-_, _≤_, _<_}
-use mathlib.Core.Bool.{Bool, true, false, cond}
+use mathlib.Core.Bool.{Bool, true, false, cond, _||_}
 use mathlib.Core.List.{List, [], _∷_}
 use native.Mathlib.Omega.{arith}
 use lib.Dec.{ltb, eqb}
@@ -140,7 +140,7 @@ module _ (words : List ℕ) (tag : ℕ) where
   rankIn-nothing = rankFrom-nothing 0 words tag
 
 isFound-by : (test : Bool) (index : ℕ) (rest : List ℕ) (tag : ℕ) → isFound (rankFrom (index + 1) rest tag) ≡ isIn tag rest
-    → isFound (cond test (At index) (rankFrom (index + 1) rest tag)) ≡ cond test true (isIn tag rest)
+    → isFound (cond test (At index) (rankFrom (index + 1) rest tag)) ≡ test || isIn tag rest
 unfolding isFound
 isFound-by true index rest tag deeper = refl
 isFound-by false index rest tag deeper = deeper
