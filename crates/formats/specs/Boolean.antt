@@ -5,7 +5,7 @@ use Prim.Native.Nat.{ℕ}
 use Prim.Native.Char.{code}
 use mathlib.Core.Bool.{Bool, false, _||_}
 use mathlib.Core.List.{List, [], _∷_}
-use Rattle.formats.specs.Notation.{_≡ᵇ_}
+use Rattle.ascii.specs.Notation.{_≡ᵇ_}
 
 unfoldable pub isBoolean : List ℕ → Bool
 isBoolean [] = false

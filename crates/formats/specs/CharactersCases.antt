@@ -1,8 +1,8 @@
 -- Examples of `characters`, by computation: invalid parts, and the first and last of the rows that are narrower than 80 to BF. Assumes nothing.
 use mathlib.Core.Path.{_≡_, refl}
 use mathlib.Core.List.{[], _∷_}
-use Rattle.formats.specs.Notation.{isBetween}
-use Rattle.formats.specs.Bytes.{ascii}
+use Rattle.ascii.specs.Notation.{isBetween}
+use Rattle.ascii.specs.Bytes.{ascii}
 use Rattle.formats.specs.Characters.{expectedAfter, continues, charactersFrom, characters}
 
 pub record CharactersCases : Type 0 where

@@ -7,8 +7,8 @@ use mathlib.Core.Bool.{_&&_}
 use mathlib.Core.List.{List}
 use Rattle.formats.specs.declared.count.Count.{Count}
 use Rattle.formats.specs.declared.count.Count.the-variants.{Number, Nothing}
-use Rattle.formats.specs.Notation.{_<ᵇ_, if_then_else_}
-use Rattle.formats.specs.Digits.{isDigits, decimal}
+use Rattle.ascii.specs.Notation.{_<ᵇ_, if_then_else_}
+use Rattle.ascii.specs.Digits.{isDigits, decimal}
 
 unfoldable pub countOf : List ℕ → Count
 countOf value =

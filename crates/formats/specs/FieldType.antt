@@ -16,8 +16,8 @@ use Rattle.formats.specs.declared.field_type.Format.the-variants.{Signed
 use Rattle.formats.specs.declared.multi_value.TokenLen.the-variants.{Any, Exactly}
 use Rattle.formats.specs.declared.field_type.NumberedType.{NumberedType}
 use Rattle.formats.specs.declared.field_type.NumberedType.the-variants.{Numbered, Nothing}
-use Rattle.formats.specs.Notation.{_<ᵇ_, if_then_else_}
-use Rattle.formats.specs.Bytes.{ascii}
+use Rattle.ascii.specs.Notation.{_<ᵇ_, if_then_else_}
+use Rattle.ascii.specs.Bytes.{ascii}
 
 abbrev pub fieldTypes : List FieldType
 fieldTypes =

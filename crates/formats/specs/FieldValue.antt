@@ -11,14 +11,14 @@ use mathlib.Core.List.{List}
 use Rattle.formats.specs.declared.field_type.FieldType.{FieldType}
 use Rattle.formats.specs.declared.field_type.Format.{Format}
 use Rattle.formats.specs.declared.field_type.Format.the-variants.{SignedInteger, UnsignedInteger, Day, Decimal, OneCharacter, YesOrNo, Tokens, Letters, YearMonth, Date, TimeOfDay, DateAndTime, Anything}
-use Rattle.formats.specs.Notation.{_≡ᵇ_}
+use Rattle.ascii.specs.Notation.{_≡ᵇ_}
 use Rattle.formats.specs.Boolean.{isBoolean}
 use Rattle.formats.specs.Number.{isInteger, isDecimal, isDayOfMonth}
 use Rattle.formats.specs.Characters.{characters}
 use Rattle.formats.specs.MultiValue.{isMultiValueList}
-use Rattle.formats.specs.Letters.{isAlphaOfLen}
-use Rattle.formats.specs.Date.{isMonthYear, isDate, isTimeOfDay, isUtcTimestamp}
-use Rattle.formats.specs.StrictDate.{isStrictMonthYear, isStrictDate, isStrictTimeOfDay, isStrictUtcTimestamp}
+use Rattle.ascii.specs.Letters.{isAlphaOfLen}
+use Rattle.dates.specs.Date.{isMonthYear, isDate, isTimeOfDay, isUtcTimestamp}
+use Rattle.dates.specs.StrictDate.{isStrictMonthYear, isStrictDate, isStrictTimeOfDay, isStrictUtcTimestamp}
 use Rattle.formats.specs.FieldType.{formatOf}
 
 unfoldable pub isOfFormat : Format → List ℕ → Bool

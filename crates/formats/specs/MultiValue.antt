@@ -17,10 +17,10 @@ use mathlib.Core.Bool.{Bool, _&&_}
 use mathlib.Core.List.{List}
 use Rattle.formats.specs.declared.multi_value.TokenLen.{TokenLen}
 use Rattle.formats.specs.declared.multi_value.TokenLen.the-variants.{Any, Exactly}
-use Rattle.formats.specs.Notation.{_≡ᵇ_}
-use Rattle.formats.specs.Bytes.{nonEmpty}
+use Rattle.ascii.specs.Notation.{_≡ᵇ_}
+use Rattle.ascii.specs.Bytes.{nonEmpty}
 use Rattle.formats.specs.Characters.{characters}
-use Rattle.formats.specs.Split.{split, everyPart}
+use Rattle.ascii.specs.Split.{split, everyPart}
 
 unfoldable pub isToken : TokenLen → List ℕ → Bool
 isToken Any token = nonEmpty token

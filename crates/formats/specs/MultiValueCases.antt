@@ -3,10 +3,10 @@ use mathlib.Core.Path.{_≡_, refl}
 use mathlib.Core.Bool.{true, false}
 use mathlib.Core.List.{[], _∷_}
 use Rattle.formats.specs.declared.multi_value.TokenLen.the-variants.{Any, Exactly}
-use Rattle.formats.specs.Notation.{isBetween}
-use Rattle.formats.specs.Bytes.{ascii, nonEmpty}
+use Rattle.ascii.specs.Notation.{isBetween}
+use Rattle.ascii.specs.Bytes.{ascii, nonEmpty}
 use Rattle.formats.specs.Characters.{expectedAfter, continues, charactersFrom, characters}
-use Rattle.formats.specs.Split.{withFirst, split, everyPart}
+use Rattle.ascii.specs.Split.{withFirst, split, everyPart}
 use Rattle.formats.specs.MultiValue.{isToken, isMultiValueList}
 
 pub record MultiValueCases : Type 0 where

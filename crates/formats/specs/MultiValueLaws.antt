@@ -8,10 +8,10 @@ use lib.Dec.{eqb}
 use lib.ListN.{length, take, drop}
 use Rattle.formats.specs.declared.multi_value.TokenLen.{TokenLen}
 use Rattle.formats.specs.declared.multi_value.TokenLen.the-variants.{Any, Exactly}
-use Rattle.formats.specs.BytesLaws.{nonEmpty-none, nonEmpty-some, part-to-end}
+use Rattle.ascii.specs.BytesLaws.{nonEmpty-none, nonEmpty-some, part-to-end}
 use Rattle.formats.specs.Characters.{characters}
-use Rattle.formats.specs.Split.{indexOf, split, everyPart}
-use Rattle.formats.specs.SplitLaws.{found-within, everyPart-last, everyPart-goes-on, everyPart-fails}
+use Rattle.ascii.specs.Split.{indexOf, split, everyPart}
+use Rattle.ascii.specs.SplitLaws.{found-within, everyPart-last, everyPart-goes-on, everyPart-fails}
 use Rattle.formats.specs.MultiValue.{isToken, isMultiValueList}
 
 -- ---- isToken

@@ -16,8 +16,8 @@ use borrow.Author.Tests.{eqb-true}
 use Rattle.formats.specs.declared.characters.Expected.{Expected}
 use Rattle.formats.specs.declared.multi_value.TokenLen.{TokenLen}
 use Rattle.formats.specs.declared.multi_value.TokenLen.the-variants.{Any, Exactly}
-use Rattle.formats.specs.Notation.{_≡ᵇ_}
-use Rattle.formats.specs.Bytes.{nonEmpty}
+use Rattle.ascii.specs.Notation.{_≡ᵇ_}
+use Rattle.ascii.specs.Bytes.{nonEmpty}
 use Rattle.formats.specs.Characters.{nothingExpected, expectedAfter, continues, next, leadsFrom, leads}
 use Rattle.formats.specs.CharactersLaws.{
   BehindAscii,
@@ -29,7 +29,7 @@ use Rattle.formats.specs.CharactersLaws.{
   length-leads,
   nonEmpty-leads,
 }
-use Rattle.formats.specs.Split.{Parts, last, part, withFirst, split, everyPart}
+use Rattle.ascii.specs.Split.{Parts, last, part, withFirst, split, everyPart}
 use Rattle.formats.specs.MultiValue.{isToken, isMultiValueList}
 
 unfoldable pub isTokenOf : TokenLen → List ℕ → Bool

@@ -13,9 +13,9 @@ use Prim.Native.Char.{code}
 use mathlib.Core.Bool.{Bool, false, _&&_, _||_}
 use mathlib.Core.List.{List, [], _∷_}
 use lib.ListN.{drop}
-use Rattle.formats.specs.Notation.{_≤ᵇ_, _≡ᵇ_, if_then_else_, isBetween}
-use Rattle.formats.specs.Bytes.{every, howMany}
-use Rattle.formats.specs.Digits.{isDigit, isDigits, decimal}
+use Rattle.ascii.specs.Notation.{_≤ᵇ_, _≡ᵇ_, if_then_else_, isBetween}
+use Rattle.ascii.specs.Bytes.{every, howMany}
+use Rattle.ascii.specs.Digits.{isDigit, isDigits, decimal}
 
 unfoldable pub isSigned : List ℕ → Bool
 isSigned [] = false

@@ -1,9 +1,9 @@
 -- Cases of `Number.antt`, by computation: document 01's (The verdict on a value), and the bounds beside them. Assumes nothing.
 use mathlib.Core.Path.{_≡_, refl}
 use mathlib.Core.Bool.{true, false}
-use Rattle.formats.specs.Notation.{isBetween}
-use Rattle.formats.specs.Bytes.{ascii, nonEmpty, every, howMany}
-use Rattle.formats.specs.Digits.{isDigits, decimalFrom}
+use Rattle.ascii.specs.Notation.{isBetween}
+use Rattle.ascii.specs.Bytes.{ascii, nonEmpty, every, howMany}
+use Rattle.ascii.specs.Digits.{isDigits, decimalFrom}
 use Rattle.formats.specs.Number.{isSigned, withoutSign, isInteger, isDecimalBody, isDecimal, isDayOfMonth}
 
 pub record Integers : Type 0 where

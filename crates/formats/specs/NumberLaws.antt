@@ -7,12 +7,12 @@ use native.Mathlib.Omega.{arith}
 use lib.Dec.{leb, eqb}
 use lib.ListN.{length, getD, drop}
 use borrow.Author.Tests.{ne-eqb, le-leb, lt-leb}
-use Rattle.formats.specs.Notation.{isBetween}
-use Rattle.formats.specs.NotationLaws.{and-false, and-true}
-use Rattle.formats.specs.Bytes.{every, howMany}
-use Rattle.formats.specs.BytesLaws.{every-step, every-stop, every-end, howMany-counts, howMany-skips, howMany-end}
-use Rattle.formats.specs.Digits.{isDigit, isDigits, decimalFrom, decimal}
-use Rattle.formats.specs.DigitsLaws.{isDigit-range, isDigits-empty, isDigits-some, decimalFrom-step, decimalFrom-end, decimalFrom-grows}
+use Rattle.ascii.specs.Notation.{isBetween}
+use Rattle.ascii.specs.NotationLaws.{and-false, and-true}
+use Rattle.ascii.specs.Bytes.{every, howMany}
+use Rattle.ascii.specs.BytesLaws.{every-step, every-stop, every-end, howMany-counts, howMany-skips, howMany-end}
+use Rattle.ascii.specs.Digits.{isDigit, isDigits, decimalFrom, decimal}
+use Rattle.ascii.specs.DigitsLaws.{isDigit-range, isDigits-empty, isDigits-some, decimalFrom-step, decimalFrom-end, decimalFrom-grows}
 use Rattle.formats.specs.Number.{isSigned, withoutSign, isInteger, isPoint, isDigitOrPoint, isDecimalBody, isDecimal, isDayOfMonth}
 
 -- ---- isSigned
@@ -200,7 +200,10 @@ module _ (value : List ℕ) (index day : ℕ) (so-far : DaySoFar value index day
         let grown = decimalFrom-grows (drop (index + 1) value) (day * 10 + (getD value index 0 - 48)) in
         isDayOfMonth-too-large value (omega (arith, so-far .makes ∙ decimalFrom-step value index day inside, grown))
 
-    pub day-adds : isDigit (getD value index 0) ≡ true → day * 10 + (getD value index 0 - 48) ≤ 31 → DaySoFar value (index + 1) (day * 10 + (getD value index 0 - 48))
+    pub day-adds
+        : isDigit (getD value index 0) ≡ true
+        → day * 10 + (getD value index 0 - 48) ≤ 31
+        → DaySoFar value (index + 1) (day * 10 + (getD value index 0 - 48))
     day-adds digit small = record {
       within = omega arith;
       digits = so-far .digits ∙ every-step isDigit value index inside digit;

@@ -5,16 +5,16 @@ use Prim.Native.Nat.{ℕ}
 use mathlib.Core.Bool.{Bool, true, false}
 use Rattle.formats.specs.declared.count.Count.the-variants.{Number, Nothing}
 use Rattle.formats.specs.declared.field_type.FieldType.the-variants.{Int, Price, DayOfMonth, MultipleCharValue, MonthYear}
-use Rattle.formats.specs.Notation.{isBetween}
-use Rattle.formats.specs.Bytes.{ascii, nonEmpty, every, howMany}
-use Rattle.formats.specs.Digits.{isDigits, isDigitsOfLen, decimalFrom}
+use Rattle.ascii.specs.Notation.{isBetween}
+use Rattle.ascii.specs.Bytes.{ascii, nonEmpty, every, howMany}
+use Rattle.ascii.specs.Digits.{isDigits, isDigitsOfLen, decimalFrom}
 use Rattle.formats.specs.Count.{countOf}
 use Rattle.formats.specs.Number.{isSigned, withoutSign, isInteger, isDecimalBody, isDecimal, isDayOfMonth}
 use Rattle.formats.specs.Characters.{expectedAfter, continues, charactersFrom, characters}
-use Rattle.formats.specs.Split.{joined, split, everyPart}
+use Rattle.ascii.specs.Split.{withFirst, split, everyPart}
 use Rattle.formats.specs.MultiValue.{isToken, isMultiValueList}
-use Rattle.formats.specs.Date.{standsFor, hasPicture, isMonthYear}
-use Rattle.formats.specs.StrictDate.{isInRange, isStrictMonthYear}
+use Rattle.dates.specs.Date.{standsFor, hasPicture, isMonthYear}
+use Rattle.dates.specs.StrictDate.{isInRange, isStrictMonthYear}
 use Rattle.formats.specs.FieldValue.{isOfFormat, isValidValue, isInRanges, isStrictValue}
 
 pub record Starred : Type 0 where
@@ -40,7 +40,7 @@ pub record Starred : Type 0 where
   pub month-year-month-thirteen : isStrictValue MonthYear (ascii "202413") ≡ false
 
 pub starred : Starred
-unfolding isBetween nonEmpty every howMany isDigits isDigitsOfLen decimalFrom countOf isSigned withoutSign isInteger isDecimalBody isDecimal isDayOfMonth expectedAfter continues charactersFrom characters joined split everyPart isToken isMultiValueList standsFor hasPicture isMonthYear isInRange isStrictMonthYear isOfFormat isInRanges
+unfolding isBetween nonEmpty every howMany isDigits isDigitsOfLen decimalFrom countOf isSigned withoutSign isInteger isDecimalBody isDecimal isDayOfMonth expectedAfter continues charactersFrom characters withFirst split everyPart isToken isMultiValueList standsFor hasPicture isMonthYear isInRange isStrictMonthYear isOfFormat isInRanges
 starred = record {
   count-empty = refl;
   count-leading-zeros = refl;

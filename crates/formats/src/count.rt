@@ -1,5 +1,5 @@
 // The value of a count field (FIX: NumInGroup). Ported from walk.rs, `parse_count`.
-use crate::digits::is_ascii_digit;
+use ascii::digits::is_ascii_digit;
 ghost use mathlib.Core.Path.{_≡_};
 ghost use Rattle.formats.specs.Count.{countOf};
 

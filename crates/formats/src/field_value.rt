@@ -1,21 +1,21 @@
 // The values that a field of each data type may have. Ported from schema.rs, `FieldType::is_valid_value`.
 use crate::boolean::is_boolean;
 use crate::characters::count_chars;
-use crate::date::is_month_year;
-use crate::date::is_time_of_day;
-use crate::date::is_utc_timestamp;
-use crate::digits::is_digits_of_len;
 use crate::field_type::FieldType;
 use crate::field_type::Format;
-use crate::letters::is_alpha_of_len;
 use crate::multi_value::is_multi_value_list;
 use crate::number::is_day_of_month;
 use crate::number::is_decimal;
 use crate::number::is_integer;
-use crate::strict_date::is_strict_date;
-use crate::strict_date::is_strict_month_year;
-use crate::strict_date::is_strict_time_of_day;
-use crate::strict_date::is_strict_utc_timestamp;
+use ascii::digits::is_digits_of_len;
+use ascii::letters::is_alpha_of_len;
+use dates::date::is_month_year;
+use dates::date::is_time_of_day;
+use dates::date::is_utc_timestamp;
+use dates::strict_date::is_strict_date;
+use dates::strict_date::is_strict_month_year;
+use dates::strict_date::is_strict_time_of_day;
+use dates::strict_date::is_strict_utc_timestamp;
 ghost use mathlib.Core.Path.{_≡_};
 ghost use Rattle.formats.specs.FieldValue.{isOfFormat, isValidValue, isInRanges, isStrictValue};
 

@@ -2,12 +2,7 @@
 pub mod boolean;
 pub mod characters;
 pub mod count;
-pub mod date;
-pub mod digits;
 pub mod field_type;
 pub mod field_value;
-pub mod letters;
 pub mod multi_value;
 pub mod number;
-pub mod split;
-pub mod strict_date;

@@ -1,6 +1,6 @@
 // Whole and decimal numbers (FIX: int, float, day-of-month). Ported from schema.rs.
-use crate::digits::is_ascii_digit;
-use crate::digits::is_digits;
+use ascii::digits::is_ascii_digit;
+use ascii::digits::is_digits;
 ghost use mathlib.Core.Path.{_≡_};
 ghost use Rattle.formats.specs.Number.{isSigned, isInteger, isDecimalBody, isDecimal, isDayOfMonth};
 

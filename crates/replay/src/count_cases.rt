@@ -1,9 +1,9 @@
 // Cases of `parse_count`: the value in hexadecimal, then the number that the Rust gave, or `none`.
 use crate::cases::Replayed;
 use crate::hex::decode;
+use ascii::split::find;
 use formats::count::Count;
 use formats::count::parse_count;
-use formats::split::find;
 
 pub fn replay(line: &[u8]) -> Replayed {
     let space = find(line, 0, b' ');

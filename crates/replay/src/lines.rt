@@ -6,7 +6,7 @@ use crate::cases::Replayed;
 use crate::cases::Tally;
 use crate::count_cases;
 use crate::value_cases;
-use formats::split::find;
+use ascii::split::find;
 use libc::STDOUT_FILENO;
 
 // What is known behind one piece: the bytes kept at the front of the buffer, the tally, and whether the file went on.

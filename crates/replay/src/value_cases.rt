@@ -3,13 +3,13 @@
 ghost use mathlib.Core.Path.{_≡_};
 use crate::cases::Replayed;
 use crate::hex::decode;
-use formats::digits::is_ascii_digit;
+use ascii::digits::is_ascii_digit;
+use ascii::split::find;
 use formats::field_type::FieldType;
 use formats::field_type::NumberedType;
 use formats::field_type::type_numbered;
 use formats::field_value::is_strict_value;
 use formats::field_value::is_valid_value;
-use formats::split::find;
 
 pub fn replay(line: &[u8]) -> Replayed {
     if line.len() < 8 {

@@ -7,7 +7,7 @@
 use Prim.Native.Nat.{ℕ}
 use mathlib.Core.List.{List, [], _∷_, _++_}
 use lib.ListN.{length, drop}
-use Rattle.formats.specs.Notation.{_≡ᵇ_, if_then_else_}
+use Rattle.ascii.specs.Notation.{_≡ᵇ_, if_then_else_}
 
 unfoldable pub dedupedAfter : ℕ → List ℕ → List ℕ
 dedupedAfter last [] = []

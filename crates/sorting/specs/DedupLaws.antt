@@ -10,7 +10,7 @@ use lib.Dec.{eqb}
 use lib.ListN.{length, getD, take, drop, set, length-set, take-append-drop, drop-of-length-le}
 use lib.Seq.{length-take-le, take-suc-set, drop-set-lt, getD-set-same, getD-drop, drop-drop, append-snoc, take-at}
 use borrow.Author.Tests.{eqb-true, eqb-false, eq-eqb, ne-eqb}
-use Rattle.formats.specs.BytesLaws.{drop-step}
+use Rattle.ascii.specs.BytesLaws.{drop-step}
 use Rattle.sorting.specs.Sort.{sorted, AscendingFrom, Ascending, isIn}
 use Rattle.sorting.specs.SortLaws.{sorted-ascending, isIn-sorted}
 use Rattle.sorting.specs.Search.{StrictlyAbove, StrictlyAscending}

@@ -14,7 +14,7 @@ use Prim.Native.Nat.{ℕ, _+_, _<_}
 use mathlib.Core.Bool.{Bool, true, false, _&&_}
 use mathlib.Core.List.{List, [], _∷_}
 use lib.ListN.{length, getD}
-use Rattle.formats.specs.Notation.{_<ᵇ_, _≡ᵇ_, if_then_else_}
+use Rattle.ascii.specs.Notation.{_<ᵇ_, _≡ᵇ_, if_then_else_}
 use Rattle.sorting.specs.declared.search.Found.{Found}
 use Rattle.sorting.specs.declared.search.Found.the-variants.{At, Nothing}
 

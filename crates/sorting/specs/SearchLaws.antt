@@ -7,8 +7,8 @@ use native.Mathlib.Omega.{arith}
 use lib.Dec.{ltb, eqb}
 use lib.ListN.{length, getD, drop, drop-of-length-le}
 use borrow.Author.Tests.{ltb-true, ltb-false, lt-ltb, le-ltb, eqb-true, eqb-false, eq-eqb, ne-eqb}
-use Rattle.formats.specs.NotationLaws.{and-left, and-right, and-both}
-use Rattle.formats.specs.BytesLaws.{drop-step}
+use Rattle.ascii.specs.NotationLaws.{and-left, and-right, and-both}
+use Rattle.ascii.specs.BytesLaws.{drop-step}
 use Rattle.sorting.specs.declared.search.Found.{Found}
 use Rattle.sorting.specs.declared.search.Found.the-variants.{At, Nothing}
 use Rattle.sorting.specs.Sort.{isIn}

@@ -3,7 +3,7 @@
 use mathlib.Core.Path.{sym, _∙_}
 use native.Mathlib.Omega.{arith}
 use borrow.Author.Tests.{lt-leb}
-use Rattle.formats.specs.NotationLaws.{isBetween-below, isBetween-from}
+use Rattle.ascii.specs.NotationLaws.{isBetween-below, isBetween-from}
 use Rattle.formats.specs.CharactersLaws.{continues-none, continues-some}
 use Rattle.formats.proofs.characters.continues.Statement.{statement}
 use Rattle.formats.proofs.characters.continues.Tie as tie

@@ -6,8 +6,8 @@ use mathlib.Core.Bool.{true}
 use native.Mathlib.Omega.{arith}
 use lib.ListN.{length, getD}
 use borrow.Author.Tests.{not-true, not-false}
-use Rattle.formats.specs.Digits.{isDigit}
-use Rattle.formats.specs.DigitsLaws.{isDigit-range}
+use Rattle.ascii.specs.Digits.{isDigit}
+use Rattle.ascii.specs.DigitsLaws.{isDigit-range}
 use Rattle.formats.specs.CountLaws.{CountSoFar, countOf-empty, count-begins, count-stops, count-overflows, count-adds, count-ends}
 use borrow.Author.Needs.{needs}
 use Rattle.formats.proofs.count.parse_count.Statement.{statement}

@@ -6,8 +6,8 @@ use mathlib.Core.Bool.{true}
 use native.Mathlib.Omega.{arith}
 use lib.ListN.{length, getD}
 use borrow.Author.Tests.{not-true, not-false}
-use Rattle.formats.specs.Digits.{isDigit}
-use Rattle.formats.specs.DigitsLaws.{isDigit-range}
+use Rattle.ascii.specs.Digits.{isDigit}
+use Rattle.ascii.specs.DigitsLaws.{isDigit-range}
 use Rattle.formats.specs.NumberLaws.{DaySoFar, isDayOfMonth-empty, day-begins, day-stops, day-too-large, day-adds, day-ends}
 use borrow.Author.Needs.{needs}
 use Rattle.formats.proofs.number.is_day_of_month.Statement.{statement}

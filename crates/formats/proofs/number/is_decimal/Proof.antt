@@ -2,7 +2,7 @@
 -- `formats::number::is_decimal` meets its contract, by specs/NumberLaws.antt.
 use mathlib.Core.Path.{_≡_, sym, ap, _∙_}
 use mathlib.Core.Bool.{true}
-use Rattle.formats.specs.BytesLaws.{part-to-end}
+use Rattle.ascii.specs.BytesLaws.{part-to-end}
 use Rattle.formats.specs.Number.{isSigned, isDecimalBody}
 use Rattle.formats.specs.NumberLaws.{isSigned-length, isDecimal-signed, isDecimal-unsigned}
 use borrow.Author.Needs.{needs}

@@ -5,7 +5,7 @@ use Prim.Native.Nat.{_-_}
 use mathlib.Core.Bool.{false}
 use borrow.Author.Tests.{eq-eqb, ne-eqb, lt-leb}
 use lib.ListN.{length, getD}
-use Rattle.formats.specs.Digits.{isDigit}
+use Rattle.ascii.specs.Digits.{isDigit}
 use Rattle.formats.specs.NumberLaws.{BodySoFar, body-begins, body-takes-digit, body-takes-point, body-fails, body-ends-with-digits, body-ends-without}
 use borrow.Author.Needs.{needs}
 use Rattle.formats.proofs.number.is_decimal_body.Statement.{statement}

@@ -3,8 +3,8 @@
 use mathlib.Core.Path.{_≡_, sym, ap, _∙_}
 use mathlib.Core.Bool.{true}
 use borrow.Author.Tests.{not-true, not-false}
-use Rattle.formats.specs.BytesLaws.{part-to-end}
-use Rattle.formats.specs.Digits.{isDigits}
+use Rattle.ascii.specs.BytesLaws.{part-to-end}
+use Rattle.ascii.specs.Digits.{isDigits}
 use Rattle.formats.specs.Number.{isSigned}
 use Rattle.formats.specs.NumberLaws.{isSigned-length, isInteger-no-sign, isInteger-signed, isInteger-unsigned}
 use borrow.Author.Needs.{needs}

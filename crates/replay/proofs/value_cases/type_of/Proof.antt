@@ -3,7 +3,7 @@
 use mathlib.Core.Path.{sym, _∙_}
 use native.Mathlib.Omega.{arith}
 use borrow.Author.Tests.{not-false}
-use Rattle.formats.specs.DigitsLaws.{isDigit-range}
+use Rattle.ascii.specs.DigitsLaws.{isDigit-range}
 use borrow.Author.Needs.{needs}
 use Rattle.replay.proofs.value_cases.type_of.Statement.{statement}
 use Rattle.replay.proofs.value_cases.type_of.Tie as tie
