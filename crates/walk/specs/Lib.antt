@@ -1,0 +1,7 @@
+-- Definitions and laws of the crate `walk`: the events of a walk over the fields of a message, and the readings of a group. A definition's laws
+-- stand in the file of its name with `Laws`, its examples in the one with `Cases`. To read: `GroupReading`, then `ReadingTheorem`.
+pub mod Membership
+pub mod Events
+pub mod EventsLaws
+pub mod EventSpace
+pub mod EventSpaceLaws

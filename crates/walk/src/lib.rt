@@ -1,0 +1,2 @@
+// The walk over the fields of a message: groups and their entries.
+pub mod event;
