@@ -5,3 +5,6 @@ pub mod Events
 pub mod EventsLaws
 pub mod EventSpace
 pub mod EventSpaceLaws
+pub mod WalkInput
+pub mod GroupReading
+pub mod GroupReadingLaws
