@@ -8,3 +8,8 @@ pub mod EventSpaceLaws
 pub mod WalkInput
 pub mod GroupReading
 pub mod GroupReadingLaws
+pub mod GroupSteps
+pub mod GroupStepsLaws
+pub mod GroupWalk
+pub mod GroupWalkLaws
+pub mod GroupWalkCases
