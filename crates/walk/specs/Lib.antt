@@ -13,3 +13,4 @@ pub mod GroupStepsLaws
 pub mod GroupWalk
 pub mod GroupWalkLaws
 pub mod GroupWalkCases
+pub mod ReadingTheorem
