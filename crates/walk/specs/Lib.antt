@@ -14,3 +14,5 @@ pub mod GroupWalk
 pub mod GroupWalkLaws
 pub mod GroupWalkCases
 pub mod ReadingTheorem
+pub mod EntryTags
+pub mod EntryTagsLaws

@@ -1,2 +1,3 @@
 // The walk over the fields of a message: groups and their entries.
+pub mod entry_tags;
 pub mod event;

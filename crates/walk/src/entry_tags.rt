@@ -1,0 +1,117 @@
+// The tags seen at one entry's own level, as a set of ranks: each tag's rank in the group's sorted member list. Ported from walk.rs, `EntryTags`,
+// by value: inserting gives the set back with whether the rank was new.
+ghost use mathlib.Core.Path.{_≡_};
+ghost use Prim.Native.Nat.{_≤_, _<_};
+ghost use mathlib.Core.Bool.{not};
+ghost use lib.Count as Count;
+ghost use Rattle.walk.specs.EntryTags.{noRanks, holdsRank, insertRank, rankCount};
+
+// A level of up to 512 members, the Rust's INLINE_MEMBERS.
+pub struct EntryTags {
+    pub words: [u64; 8],
+}
+
+// The set with a rank, and whether it was not there before.
+pub struct Inserted {
+    pub tags: EntryTags,
+    pub fresh: bool,
+}
+
+// A wider level, of up to 8,192 members. The Rust's set on the heap.
+pub struct WideEntryTags {
+    pub words: [u64; 128],
+}
+
+pub struct WideInserted {
+    pub tags: WideEntryTags,
+    pub fresh: bool,
+}
+
+// How many of the word's bits are set.
+fn ones_in(word: u64) -> u64
+    ensures { λ ones. ⌜ (ones ≡ Count.ones word) × (ones ≤ 64) ⌝ }
+{
+    u64::count_ones(word) as u64
+}
+
+impl EntryTags {
+    pub fn new() -> Self
+        ensures { λ tags. ⌜ tags .words ≡ noRanks 8 ⌝ }
+    {
+        EntryTags { words: [0u64; 8] }
+    }
+
+    // Records the member ranked `rank`; `fresh` is false if it was already recorded.
+    pub fn insert_rank(self, rank: usize) -> Inserted
+        requires { ⌜ rank < 512 ⌝ }
+        ensures { λ inserted. ⌜ (inserted .tags .words ≡ insertRank (self .words) rank) × (inserted .fresh ≡ not (holdsRank (self .words) rank)) ⌝ }
+    {
+        let word = rank / 64;
+        let mask = 1u64 << (rank % 64);
+        let old = self.words[word];
+        let hit = old & mask;
+        let mut tags = self;
+        tags.words[word] = old | mask;
+        Inserted {
+            tags,
+            fresh: hit == 0,
+        }
+    }
+
+    // How many ranks the set has, of a level of so many members: the ones of the words in use.
+    pub fn close(self, members: usize) -> u64
+        requires { ⌜ members ≤ 512 ⌝ }
+        ensures { λ seen. ⌜ seen ≡ rankCount (self .words) members ⌝ }
+    {
+        let words = self.words;
+        let used = (members + 63) / 64;
+        let mut seen: u64 = 0;
+        let mut index = 0;
+        while index < used {
+            seen += ones_in(words[index]);
+            index += 1;
+        }
+        seen
+    }
+}
+
+impl WideEntryTags {
+    pub fn new() -> Self
+        ensures { λ tags. ⌜ tags .words ≡ noRanks 128 ⌝ }
+    {
+        WideEntryTags { words: [0u64; 128] }
+    }
+
+    // As `EntryTags::insert_rank`.
+    pub fn insert_rank(self, rank: usize) -> WideInserted
+        requires { ⌜ rank < 8192 ⌝ }
+        ensures { λ inserted. ⌜ (inserted .tags .words ≡ insertRank (self .words) rank) × (inserted .fresh ≡ not (holdsRank (self .words) rank)) ⌝ }
+    {
+        let word = rank / 64;
+        let mask = 1u64 << (rank % 64);
+        let old = self.words[word];
+        let hit = old & mask;
+        let mut tags = self;
+        tags.words[word] = old | mask;
+        WideInserted {
+            tags,
+            fresh: hit == 0,
+        }
+    }
+
+    // As `EntryTags::close`.
+    pub fn close(self, members: usize) -> u64
+        requires { ⌜ members ≤ 8192 ⌝ }
+        ensures { λ seen. ⌜ seen ≡ rankCount (self .words) members ⌝ }
+    {
+        let words = self.words;
+        let used = (members + 63) / 64;
+        let mut seen: u64 = 0;
+        let mut index = 0;
+        while index < used {
+            seen += ones_in(words[index]);
+            index += 1;
+        }
+        seen
+    }
+}
