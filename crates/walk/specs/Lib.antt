@@ -5,6 +5,8 @@ pub mod Events
 pub mod EventsLaws
 pub mod EventSpace
 pub mod EventSpaceLaws
+pub mod FieldTable
+pub mod FieldTableLaws
 pub mod WalkInput
 pub mod GroupReading
 pub mod GroupReadingLaws
