@@ -3,6 +3,7 @@
 -- the level of its entries. The layout of a message type is its top level. A tag is a number. Assumes nothing.
 --
 --   membersOf level, requiredOf level    the members and the required tags of a level
+--   listed groups, grouped list          the groups of a level as a list, and back
 --   groupsOf level                       the groups that stand in a level, in their order
 --   countTagsOf level                    the count tags of these groups
 --   countTag group, delimiter group, isRequired group, entry group   what a group has
@@ -34,6 +35,10 @@ Layout = Level
 abbrev pub listed : Groups → List Group
 listed no-groups = []
 listed (group-and first others) = first ∷ listed others
+
+abbrev pub grouped : List Group → Groups
+grouped [] = no-groups
+grouped (first ∷ others) = group-and first (grouped others)
 
 abbrev pub membersOf : Level → List ℕ
 membersOf (level-of members required groups) = members

@@ -21,12 +21,14 @@
 --   levelMembers words number, levelRequired words number, levelCountTags words number   what the words say of the level of that number
 --   countTagAt words number, delimiterAt words number, flagAt words number               and of the group of that number
 --   firstGroup words number     the number of the first group that stands in the level of that number
+--   groupsFrom words number count   the `count` groups from that number on, the last of the words being the last of them
+--   layoutIn words              the layout that the words tell of
 use Prim.Native.Nat.{ℕ, zero, suc, _+_, _*_, _-_}
 use mathlib.Core.Bool.{Bool}
 use mathlib.Core.List.{List, [], _∷_, _++_, map}
 use lib.ListN.{length, getD, take, drop}
-use Rattle.ascii.specs.Notation.{if_then_else_}
-use Rattle.layouts.specs.Layout.{Group, Layout, membersOf, requiredOf, countTagsOf, delimiter, isRequired, allGroups, allLevels, allMembers, allRequired, allCountTags, joined}
+use Rattle.ascii.specs.Notation.{_≡ᵇ_, if_then_else_}
+use Rattle.layouts.specs.Layout.{Group, Layout, level-of, group-of, grouped, membersOf, requiredOf, countTagsOf, delimiter, isRequired, allGroups, allLevels, allMembers, allRequired, allCountTags, joined}
 
 unfoldable pub placesFrom : ℕ → List (List ℕ) → List ℕ
 placesFrom first [] = first ∷ []
@@ -100,3 +102,23 @@ delimiterAt words number = getD words (firstDelimiter (groupCount words) + numbe
 
 abbrev pub flagAt : List ℕ → ℕ → ℕ
 flagAt words number = getD words (firstFlag (groupCount words) + number) 0
+
+-- a group whose entry has some of the groups behind it
+abbrev pub groupAt : List ℕ → ℕ → List Group → Group
+groupAt words number later =
+    group-of
+    (countTagAt words number)
+    (delimiterAt words number)
+    (flagAt words number ≡ᵇ 1)
+    (level-of
+    (levelMembers words (1 + number))
+    (levelRequired words (1 + number))
+    (grouped (take (firstGroup words (2 + number) - firstGroup words (1 + number)) (drop (firstGroup words (1 + number) - (1 + number)) later))))
+
+unfoldable pub groupsFrom : List ℕ → ℕ → ℕ → List Group
+groupsFrom words number zero = []
+groupsFrom words number (suc count) = groupAt words number (groupsFrom words (number + 1) count) ∷ groupsFrom words (number + 1) count
+
+unfoldable pub layoutIn : List ℕ → Layout
+layoutIn words =
+    level-of (levelMembers words 0) (levelRequired words 0) (grouped (take (firstGroup words 1) (groupsFrom words 0 (groupCount words))))

@@ -2,10 +2,12 @@
 -- stand in the file of its name with `Laws`, its examples in the one with `Cases`.
 pub mod Limits
 pub mod Layout
+pub mod LayoutLaws
 pub mod LayoutRules
 pub mod LayoutRulesLaws
 pub mod LayoutWords
 pub mod LayoutWordsLaws
 pub mod LayoutCheck
 pub mod LayoutCheckLaws
+pub mod LayoutCheckFacts
 pub mod LayoutCases
