@@ -1,0 +1,5 @@
+-- Definitions and laws of the crate `texts`: refusals, lines and their forms, the dictionary text and the layout text. A definition's laws stand
+-- in the file of its name with `Laws`, its examples in the one with `Cases`.
+pub mod Refusal
+pub mod Lines
+pub mod LinesLaws
