@@ -3,3 +3,6 @@
 pub mod Refusal
 pub mod Lines
 pub mod LinesLaws
+pub mod LineParts
+pub mod LinePartsLaws
+pub mod LinePartsCases

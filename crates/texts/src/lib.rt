@@ -1,3 +1,4 @@
 // The texts that the gate reads: their lines, the dictionary text and the order of its lines, and the refusals of every call.
+pub mod line_parts;
 pub mod lines;
 pub mod refusal;
