@@ -6,3 +6,5 @@ pub mod LinesLaws
 pub mod LineParts
 pub mod LinePartsLaws
 pub mod LinePartsCases
+pub mod LineForms
+pub mod LineFormsCases

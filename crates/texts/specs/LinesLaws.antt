@@ -10,7 +10,7 @@ use lib.Seq.{drop-drop}
 use borrow.Author.Tests.{eq-eqb, ne-eqb}
 use Rattle.ascii.specs.NotationLaws.{and-right}
 use Rattle.ascii.specs.BytesLaws.{drop-step}
-use Rattle.texts.specs.Lines.{positionOf, startsWith, isSame, Pieces, last, piece, longer, cut}
+use Rattle.texts.specs.Lines.{positionOf, before, behind, startsWith, isSame, Pieces, last, piece, longer, cut}
 
 -- ---- positionOf
 
@@ -37,6 +37,21 @@ pub positionOf-within : (byte : ℕ) (bytes : List ℕ) → positionOf byte byte
 unfolding positionOf
 positionOf-within byte [] = omega arith
 positionOf-within byte (first ∷ rest) = position-within (eqb first byte) _ _ (positionOf-within byte rest)
+
+-- ---- before, behind
+
+module _ (byte : ℕ) (bytes : List ℕ) (place : ℕ) (found : place ≡ 0 + positionOf byte bytes) where
+  pub before-found : take (place - 0) bytes ≡ before byte bytes
+  before-found = let same : place - 0 ≡ positionOf byte bytes = omega arith in rw same
+
+  pub behind-found : drop (place + 1) bytes ≡ behind byte bytes
+  behind-found = let same : place + 1 ≡ suc (positionOf byte bytes) = omega arith in rw same
+
+  pub behind-nothing : place ≡ length bytes → drop place bytes ≡ behind byte bytes
+  behind-nothing at-end =
+      let over : length bytes ≤ suc (positionOf byte bytes) = omega arith in
+      let at : length bytes ≤ place = omega arith in
+      drop-of-length-le bytes at ∙ sym (drop-of-length-le bytes over)
 
 -- ---- startsWith
 

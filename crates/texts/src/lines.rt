@@ -2,7 +2,7 @@
 ghost use mathlib.Core.Path.{_≡_};
 ghost use Prim.Native.Nat.{_+_, _≤_};
 ghost use lib.ListN.{length, drop};
-ghost use Rattle.texts.specs.Lines.{positionOf, startsWith, isSame};
+ghost use Rattle.texts.specs.Lines.{positionOf, before, behind, startsWith, isSame};
 
 // The place of the first such byte from `first` on, or the length where there is none.
 pub fn position_of(bytes: &[u8], first: usize, byte: u8) -> usize
@@ -18,6 +18,26 @@ pub fn position_of(bytes: &[u8], first: usize, byte: u8) -> usize
         index += 1;
     }
     index
+}
+
+// What stands before the first such byte.
+pub fn before(bytes: &[u8], byte: u8) -> &[u8]
+    ensures { λ part. ⌜ now part ≡ before byte (now (bytes .entry)) ⌝ }
+{
+    let place = position_of(bytes, 0, byte);
+    &bytes[0..place]
+}
+
+// What stands behind the first such byte, nothing where there is none.
+pub fn behind(bytes: &[u8], byte: u8) -> &[u8]
+    ensures { λ part. ⌜ now part ≡ behind byte (now (bytes .entry)) ⌝ }
+{
+    let place = position_of(bytes, 0, byte);
+    if place == bytes.len() {
+        return &bytes[place..];
+    }
+    let first = place + 1;
+    &bytes[first..]
 }
 
 // The Rust's slice::starts_with.
