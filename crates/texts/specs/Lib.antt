@@ -8,3 +8,4 @@ pub mod LinePartsLaws
 pub mod LinePartsCases
 pub mod LineForms
 pub mod LineFormsCases
+pub mod DictionaryText
