@@ -7,5 +7,8 @@ pub mod LineParts
 pub mod LinePartsLaws
 pub mod LinePartsCases
 pub mod LineForms
+pub mod LineFormsLaws
 pub mod LineFormsCases
 pub mod DictionaryText
+pub mod DictionaryTextLaws
+pub mod DictionaryTextCases
