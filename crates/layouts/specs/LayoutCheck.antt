@@ -11,7 +11,7 @@
 --   levelsHold members countTags  these rules for every level
 --   delimitersHold members delimiters   rule 2 for every group
 --   isLayout limits words         the words begin with the arrangement of a layout that meets the rules and the limits
-use Prim.Native.Nat.{ℕ, suc, _+_, _*_, _-_}
+use Prim.Native.Nat.{ℕ, _+_, _*_}
 use mathlib.Core.Bool.{Bool, true, false, _&&_}
 use mathlib.Core.List.{List, [], _∷_}
 use lib.ListN.{length, getD, take, drop}

@@ -1,10 +1,10 @@
 -- What holds of words that pass the check, for calls that read them: every level's stretches lie in the words, the members and count tags of
 -- each level ascend, the count tags of a level and the delimiter of a group are members, and the groups of a level have higher numbers than
 -- the level: so the entry level of a group stands behind the level that the group stands in. Assumes nothing.
-use mathlib.Core.Path.{_≡_, refl, sym, ap, _∙_}
-use Prim.Native.Nat.{ℕ, zero, suc, _+_, _*_, _-_, _≤_, _<_}
+use mathlib.Core.Path.{_≡_, refl, ap}
+use Prim.Native.Nat.{ℕ, zero, suc, _+_, _*_, _≤_, _<_}
 use mathlib.Core.Bool.{Bool, true, false, _&&_, false≢true}
-use mathlib.Core.List.{List, [], _∷_, _++_}
+use mathlib.Core.List.{List, [], _∷_}
 use native.Mathlib.Omega.{arith}
 use lib.ListN.{length, getD, take, drop}
 use lib.Dec.{leb, ltb}
@@ -16,7 +16,7 @@ use Rattle.layouts.specs.LayoutRules.{isAscending, _∈ᵇ_, areAmong}
 use Rattle.layouts.specs.LayoutWords.{memberPlaces, groupPlaces, firstMember, firstCountTag, firstDelimiter, firstFlag, groupCount, stretch, stretches, levelMembers, levelCountTags, firstGroup, delimiterAt, flagAt}
 use Rattle.layouts.specs.LayoutWordsLaws.{StretchInside}
 use Rattle.layouts.specs.LayoutCheck.{isAhead, memberPlacesHold, requiredPlacesHold, groupPlacesHold, isFlag, isLevel, levelsHold, delimitersHold, allLevelsHold, allDelimitersHold, isLayoutOf, isLayout}
-use Rattle.layouts.specs.LayoutCheckLaws.{RunIn, member-places, members-few, required-places, required-few, all-inside, group-places, groups-end, groups-ahead, member-stretches, required-stretches, count-tag-stretches, word-of-part, length-part}
+use Rattle.layouts.specs.LayoutCheckLaws.{RunIn, group-places, groups-end, groups-ahead, member-stretches, required-stretches, count-tag-stretches, word-of-part, length-part}
 
 -- the tests of `isLayout`, one by one
 pub record Passed (limits : Limits) (words : List ℕ) : Type 0 where

@@ -1,23 +1,23 @@
 -- Laws of `LayoutCheck.antt`, in its order, and the loops of the check, turn by turn. Assumes nothing.
-use mathlib.Core.Path.{_≡_, refl, sym, ap, ap₂, _∙_}
+use mathlib.Core.Path.{_≡_, refl, sym, ap, _∙_}
 use Prim.Native.Nat.{ℕ, zero, suc, _+_, _*_, _-_, _≤_, _<_}
 use mathlib.Core.Bool.{Bool, true, false, _&&_, false≢true}
-use mathlib.Core.List.{List, [], _∷_, _++_}
+use mathlib.Core.List.{List, [], _∷_}
 use native.Mathlib.Omega.{arith}
 use native.Mathlib.Numerals.{add-one}
 use lib.ListN.{length, getD, take, drop, drop-of-length-le, length-drop}
 use lib.Seq.{length-take-le, getD-take, getD-drop}
-use lib.Dec.{eqb, leb, ltb}
+use lib.Dec.{eqb, leb}
 use borrow.Author.Tests.{le-leb, lt-leb, leb-true, lt-ltb, le-ltb, eq-eqb, ne-eqb, eqb-true}
 use Rattle.ascii.specs.Notation.{if_then_else_}
 use Rattle.ascii.specs.NotationLaws.{and-left, and-right}
-use Rattle.ascii.specs.Bytes.{nonEmpty, every}
+use Rattle.ascii.specs.Bytes.{every}
 use Rattle.ascii.specs.BytesLaws.{drop-step, nonEmpty-none, nonEmpty-some}
 use Rattle.layouts.specs.Limits.{Limits}
 use Rattle.layouts.specs.LayoutRules.{_∈ᵇ_}
 use Rattle.layouts.specs.LayoutRulesLaws.{metAmong, metAmong-level, member-first, member-later}
 use Rattle.layouts.specs.LayoutWords.{stretch, stretches, firstMember, firstCountTag, firstDelimiter, groupPlaces}
-use Rattle.layouts.specs.LayoutWordsLaws.{StretchInside}
+use Rattle.layouts.specs.LayoutWordsLaws.{StretchInside, stretches-next}
 use Rattle.layouts.specs.LayoutCheck.{neverFalls, isRun, isAhead, memberPlacesHold, requiredPlacesHold, groupPlacesHold, isFlag, isLevel, levelsHold, delimitersHold, allLevelsHold, allDelimitersHold, isLayoutOf, isLayout}
 
 -- ---- isRun: the places before `index` begin at `first` and do not fall, the last of them is `place`
@@ -208,10 +208,6 @@ pub entry-stretch : (groups : ℕ) (words : List ℕ) → PlacesInside groups wo
 entry-stretch groups words inside number below = let same : 1 + (number + 1) ≡ 2 + number = omega arith in rw same at (inside .members (number + 1) (omega arith))
 
 -- ---- allLevelsHold: the levels before `number` meet the rules
-
-pub stretches-next : (words : List ℕ) (place next count left : ℕ) → count ≡ suc left → next ≡ place + 1 → stretches words place count ≡ stretch words place ∷ stretches words next left
-unfolding stretches
-stretches-next words place next count left some follows = rw (some, follows)
 
 pub record LevelsSoFar (groups : ℕ) (words : List ℕ) (number : ℕ) : Type 0 where
   pub within : number ≤ groups + 1

@@ -4,12 +4,11 @@
 --   everyListed test groups  each group of the list passes the test
 --   everyBelow test groups   each group of the list and each below them passes the test
 use mathlib.Core.Path.{_≡_, refl, sym, ap, _∙_}
-use Prim.Native.Nat.{ℕ, zero, suc, _+_, _≤_, _<_}
+use Prim.Native.Nat.{ℕ, zero, suc, _+_}
 use mathlib.Core.Bool.{Bool, true, false, _&&_}
 use mathlib.Core.List.{List, [], _∷_, _++_, map, append-assoc}
 use native.Mathlib.Omega.{arith}
-use lib.ListN.{length, length-append, length-map}
-use Rattle.ascii.specs.NotationLaws.{and-false}
+use lib.ListN.{length}
 use Rattle.layouts.specs.Layout.{Level, Groups, Group, level-of, no-groups, group-and, group-of, listed, grouped, groupsOf, countTag, countTagsOf, entry, groupsBelow, groupsAmong, groupsWith, levelOrder, joined}
 use Rattle.layouts.specs.LayoutRules.{everyGroup, everyAmong, everyWith}
 
@@ -44,6 +43,10 @@ unfolding groupsBelow
 groupsWith-total (group-of tag first needed inner) = ap suc (groupsBelow-total inner)
 
 -- ---- levelOrder
+
+pub groupTotal-first : (first : Group) (waiting : List Group) → groupTotal (first ∷ waiting) ≡ suc (groupTotal (waiting ++ groupsOf (entry first)))
+unfolding groupTotal
+groupTotal-first first waiting = omega (arith, groupTotal-append waiting (groupsOf (entry first)), groupsWith-total first)
 
 -- one group that waits is passed
 waiting-next : (count : ℕ) (first : Group) (waiting : List Group) → groupTotal (first ∷ waiting) ≡ suc count → groupTotal (waiting ++ groupsOf (entry first)) ≡ count

@@ -10,7 +10,7 @@
 --   meetsRules layout          the top meets rules 5 to 7 and every group of every level rules 1 to 4
 --   BrokenAt layout rule tag   "the rule given is broken at the tag given": by a group of that count tag, or by the top, whose tag is 0
 --   meetsLimits limits layout  no more members and no more required tags in all than the limits allow
-use Prim.Native.Nat.{ℕ, suc, _≤_}
+use Prim.Native.Nat.{ℕ, suc}
 use mathlib.Core.Path.{_≡_}
 use mathlib.Core.Bool.{Bool, true, false, _&&_, _||_}
 use mathlib.Core.List.{List, [], _∷_, List·Memᴰ}

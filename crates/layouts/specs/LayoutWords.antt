@@ -14,7 +14,7 @@
 -- Assumes nothing.
 --
 --   placesFrom first lists      where each of the lists begins when they stand one behind the other from `first` on, and where the last ends
---   arranged layout             the words of a layout
+--   arranged layout             the words of a layout, by `arrangedParts`
 --   groupCount words            how many groups the words tell of
 --   stretch words place         the stretch of words from the place that stands at `place` up to the one that stands behind it
 --   stretches words place count the `count` stretches whose places stand from `place` on
@@ -24,11 +24,10 @@
 --   groupsFrom words number count   the `count` groups from that number on, the last of the words being the last of them
 --   layoutIn words              the layout that the words tell of
 use Prim.Native.Nat.{ℕ, zero, suc, _+_, _*_, _-_}
-use mathlib.Core.Bool.{Bool}
 use mathlib.Core.List.{List, [], _∷_, _++_, map}
 use lib.ListN.{length, getD, take, drop}
 use Rattle.ascii.specs.Notation.{_≡ᵇ_, if_then_else_}
-use Rattle.layouts.specs.Layout.{Group, Layout, level-of, group-of, grouped, membersOf, requiredOf, countTagsOf, delimiter, isRequired, allGroups, allLevels, allMembers, allRequired, allCountTags, joined}
+use Rattle.layouts.specs.Layout.{Group, Layout, level-of, group-of, grouped, membersOf, requiredOf, countTagsOf, delimiter, isRequired, allGroups, allLevels, joined}
 
 unfoldable pub placesFrom : ℕ → List (List ℕ) → List ℕ
 placesFrom first [] = first ∷ []
@@ -58,17 +57,28 @@ firstMember groups = 7 + 6 * groups
 abbrev pub flag : Group → ℕ
 flag group = if isRequired group then 1 else 0
 
+-- of so many groups: the members, required tags and count tags of each level, the delimiters and the flags of the groups
+unfoldable pub arrangedParts : ℕ → List (List ℕ) → List (List ℕ) → List (List ℕ) → List ℕ → List ℕ → List ℕ
+arrangedParts groups members required countTags delimiters flags =
+    groups
+    ∷ (placesFrom (firstMember groups) members
+    ++ (placesFrom (firstMember groups + length (joined members)) required
+    ++ (placesFrom (firstCountTag groups) countTags
+    ++ (joined countTags
+    ++ (delimiters
+    ++ (flags
+    ++ (joined members
+    ++ joined required)))))))
+
 unfoldable pub arranged : Layout → List ℕ
 arranged layout =
-    length (allGroups layout)
-    ∷ (placesFrom (firstMember (length (allGroups layout))) (map membersOf (allLevels layout))
-    ++ (placesFrom (firstMember (length (allGroups layout)) + length (allMembers layout)) (map requiredOf (allLevels layout))
-    ++ (placesFrom (firstCountTag (length (allGroups layout))) (map countTagsOf (allLevels layout))
-    ++ (allCountTags layout
-    ++ (map delimiter (allGroups layout)
-    ++ (map flag (allGroups layout)
-    ++ (allMembers layout
-    ++ allRequired layout)))))))
+    arrangedParts
+    (length (allGroups layout))
+    (map membersOf (allLevels layout))
+    (map requiredOf (allLevels layout))
+    (map countTagsOf (allLevels layout))
+    (map delimiter (allGroups layout))
+    (map flag (allGroups layout))
 
 -- ---- reading the words
 

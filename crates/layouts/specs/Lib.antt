@@ -10,4 +10,7 @@ pub mod LayoutWordsLaws
 pub mod LayoutCheck
 pub mod LayoutCheckLaws
 pub mod LayoutCheckFacts
+pub mod LayoutCheckRules
+pub mod LayoutCheckSound
+pub mod LayoutCheckComplete
 pub mod LayoutCases
