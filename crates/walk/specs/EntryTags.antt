@@ -7,10 +7,11 @@
 --   onesOf words             how many bits of the words are set
 --   rankCount words members  how many are set in the words that a level of so many members uses, (members + 63) / 64 of them
 --   Stands words width members ranks   the words, so many, stand for the set of these ranks of a level of so many members, each listed once
+--   TagsSeen words width members isMember rankOf seen   the words stand for the tags seen, members of the level, by their ranks
 use mathlib.Core.Path.{_≡_}
 use Prim.Native.Nat.{ℕ, _+_, _*_, _/_, _%_, _^_, _≤_, _<_}
-use mathlib.Core.Bool.{Bool}
-use mathlib.Core.List.{List, [], _∷_}
+use mathlib.Core.Bool.{Bool, true}
+use mathlib.Core.List.{List, [], _∷_, map}
 use lib.Bits.{bitOr}
 use lib.Count.{ones}
 use lib.ListN.{length, getD, set, take, replicate}
@@ -38,3 +39,7 @@ pub record Stands (words : List ℕ) (width members : ℕ) (ranks : List ℕ) : 
   pub fits : members ≤ 64 * width
   pub holds : (rank : ℕ) → rank < 64 * width → holdsRank words rank ≡ rank ∈ᵇ ranks
   pub counts : rankCount words members ≡ length ranks
+
+pub record TagsSeen (words : List ℕ) (width members : ℕ) (isMember : ℕ → Bool) (rankOf : ℕ → ℕ) (seen : List ℕ) : Type 0 where
+  pub stands : Stands words width members (map rankOf seen)
+  pub of-level : (tag : ℕ) → tag ∈ᵇ seen ≡ true → isMember tag ≡ true

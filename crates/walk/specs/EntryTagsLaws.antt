@@ -1,10 +1,10 @@
 -- Laws of `EntryTags.antt`: one bit of a word, a rank of the words, and the set of ranks that the words stand for. One law serves every number of
 -- words. Assumes nothing.
-use mathlib.Core.Path.{_≡_, refl, sym, ap, subst, _∙_}
+use mathlib.Core.Path.{_≡_, refl, ap, _∙_}
 use mathlib.Core.Logic.{_≢_}
-use Prim.Native.Nat.{ℕ, zero, suc, _+_, _*_, _-_, _/_, _%_, _^_, min, max, _≤_, _<_}
-use mathlib.Core.Bool.{Bool, true, false, not, _||_}
-use mathlib.Core.List.{List, [], _∷_, _++_}
+use Prim.Native.Nat.{ℕ, zero, suc, _+_, _*_, _-_, _/_, _%_, _^_, min, _≤_, _<_}
+use mathlib.Core.Bool.{Bool, true, false, not, _||_, false≢true}
+use mathlib.Core.List.{List, [], _∷_, _++_, map}
 use native.Mathlib.Omega.{arith}
 use native.Mathlib.Nat.{pow-suc, pow-succ', div-div-eq-div-mul, one-mul, zero-mul, zero-div, mul-assoc}
 use native.Mathlib.Decide.{ℕ-discrete}
@@ -12,12 +12,12 @@ use native.Mathlib.Numerals.{add-one}
 use lib.Bits.{bitAnd, bitOr, and-step, or-step, and-zero-r, or-zero-r}
 use lib.Count.{ones, ones-step}
 use lib.Dec.{eqb}
-use lib.ListN.{length, getD, set, take, replicate, length-set, length-replicate, getD-replicate}
+use lib.ListN.{length, length-map, getD, set, take, replicate, length-set, length-replicate, getD-replicate}
 use lib.Pow.{shl-exact, pow-pos}
 use lib.Seq.{take-suc, take-set-lt, getD-take, length-take-le, getD-set-same, getD-set-other, set-getD}
 use borrow.Author.Tests.{eq-eqb, ne-eqb, eqb-true, eqb-false}
 use Rattle.walk.specs.Membership.{_∈ᵇ_}
-use Rattle.walk.specs.EntryTags.{noRanks, holdsRank, insertRank, onesOf, rankCount, Stands}
+use Rattle.walk.specs.EntryTags.{noRanks, holdsRank, insertRank, onesOf, rankCount, Stands, TagsSeen}
 use Rattle.walk.specs.GroupWalk.{insertIf}
 
 -- ---- one bit of a word
@@ -113,13 +113,15 @@ unfolding onesOf
 onesOf-append [] others = omega arith
 onesOf-append (word ∷ rest) others = omega (arith, onesOf-append rest others)
 
-onesOf-set : (words : List ℕ) (index word : ℕ) → index < length words → onesOf (set words index word) + ones (getD words index 0) ≡ onesOf words + ones word
+onesOf-set : (words : List ℕ) (index word : ℕ) → index < length words
+    → onesOf (set words index word) + ones (getD words index 0) ≡ onesOf words + ones word
 unfolding onesOf
 onesOf-set [] index word inside = absurd (omega arith)
 onesOf-set (first ∷ rest) zero word inside = omega arith
 onesOf-set (first ∷ rest) (suc index) word inside = omega (arith, onesOf-set rest index word (omega arith))
 
-onesOf-next : (words : List ℕ) (index : ℕ) → index < length words → onesOf (take (index + 1) words) ≡ onesOf (take index words) + ones (getD words index 0)
+onesOf-next : (words : List ℕ) (index : ℕ) → index < length words
+    → onesOf (take (index + 1) words) ≡ onesOf (take index words) + ones (getD words index 0)
 unfolding onesOf
 onesOf-next words index inside =
     rw (add-one, take-suc words index 0 inside) (onesOf-append (take index words) (getD words index 0 ∷ []) ∙ omega arith)
@@ -217,7 +219,8 @@ module _ (words : List ℕ) (rank : ℕ) (inside : rank / 64 < length words) whe
   insertRank-held held = rw (or-again (rank % 64) (getD words (rank / 64) 0) (eqb-true _ 1 held), set-getD)
 
   -- a rank that is not there adds one
-  rankCount-new : (members : ℕ) → rank < members → members ≤ 64 * length words → holdsRank words rank ≡ false → rankCount (insertRank words rank) members ≡ suc (rankCount words members)
+  rankCount-new : (members : ℕ) → rank < members → members ≤ 64 * length words → holdsRank words rank ≡ false
+      → rankCount (insertRank words rank) members ≡ suc (rankCount words members)
   unfolding holdsRank insertRank rankCount
   rankCount-new members low fits new =
       let used : rank / 64 < (members + 63) / 64 = omega arith in
@@ -246,3 +249,56 @@ module _ (words : List ℕ) (width members : ℕ) (ranks : List ℕ) (stands : S
         holds = λ other in-words. holdsRank-insertRank words rank inside other ∙ rw (stands .holds other in-words);
         counts = rankCount-new words rank inside members low (omega (arith, stands .wide, stands .fits)) new ∙ ap suc (stands .counts);
       }
+
+-- ---- the tags seen, by their ranks
+
+-- two members of the level have different ranks, each below the number of members
+module _ (width members : ℕ) (isMember : ℕ → Bool) (rankOf : ℕ → ℕ) (low : (tag : ℕ) → isMember tag ≡ true → rankOf tag < members)
+    (apart : (tag other : ℕ) → isMember tag ≡ true → isMember other ≡ true → rankOf tag ≡ rankOf other → tag ≡ other) where
+  -- a rank is among those of members exactly where its tag is among the members
+  rank-member : (tag : ℕ) → isMember tag ≡ true → (seen : List ℕ) → ((other : ℕ) → other ∈ᵇ seen ≡ true → isMember other ≡ true)
+      → rankOf tag ∈ᵇ map rankOf seen ≡ tag ∈ᵇ seen
+  rank-member tag member [] of-level = refl
+  rank-member tag member (first ∷ rest) of-level =
+      go (ℕ-discrete tag first) (rank-member tag member rest (λ other there. of-level other (or-right (eqb other first) (other ∈ᵇ rest) there)))
+    where
+      or-right : (here there : Bool) → there ≡ true → (here || there) ≡ true
+      or-right true there holds = refl
+      or-right false there holds = holds
+
+      first-member : isMember first ≡ true
+      first-member = of-level first (rw (eq-eqb first first refl))
+
+      go : Dec (tag ≡ first) → rankOf tag ∈ᵇ map rankOf rest ≡ tag ∈ᵇ rest
+          → (eqb (rankOf tag) (rankOf first) || rankOf tag ∈ᵇ map rankOf rest) ≡ (eqb tag first || tag ∈ᵇ rest)
+      go (yes same) others = rw (eq-eqb tag first same, eq-eqb (rankOf tag) (rankOf first) (ap rankOf same))
+      go (no other) others =
+          rw (ne-eqb tag first other, ne-eqb (rankOf tag) (rankOf first) (λ (same : rankOf tag ≡ rankOf first). other (apart tag first member first-member same))) others
+
+  pub seen-empty : members ≤ 64 * width → TagsSeen (noRanks width) width members isMember rankOf []
+  seen-empty fits = record { stands = stands-empty width members fits; of-level = λ tag there. absurd (false≢true there) }
+
+  module _ (words seen : List ℕ) (so-far : TagsSeen words width members isMember rankOf seen) where
+    -- `close` gives the number of distinct tags
+    pub seen-count : rankCount words members ≡ length seen
+    seen-count = so-far .stands .counts ∙ simp length-map
+
+    module _ (tag : ℕ) (member : isMember tag ≡ true) where
+      -- a tag repeats exactly where its rank is not fresh
+      pub seen-holds : holdsRank words (rankOf tag) ≡ tag ∈ᵇ seen
+      seen-holds = stands-holds words width members (map rankOf seen) (so-far .stands) (rankOf tag) (low tag member) ∙ rank-member tag member seen (so-far .of-level)
+
+      pub seen-insert : TagsSeen (insertRank words (rankOf tag)) width members isMember rankOf (insertIf (tag ∈ᵇ seen) tag seen)
+      seen-insert = go (tag ∈ᵇ seen) (rank-member tag member seen (so-far .of-level))
+        where
+          inserted : Stands (insertRank words (rankOf tag)) width members (insertIf (rankOf tag ∈ᵇ map rankOf seen) (rankOf tag) (map rankOf seen))
+          inserted = stands-insert words width members (map rankOf seen) (so-far .stands) (rankOf tag) (low tag member)
+
+          also : (other : ℕ) → Dec (other ≡ tag) → (eqb other tag || other ∈ᵇ seen) ≡ true → isMember other ≡ true
+          also other (yes same) there = rw same member
+          also other (no apart-from) there = so-far .of-level other (rw (ne-eqb other tag apart-from) at there)
+
+          go : (repeated : Bool) → rankOf tag ∈ᵇ map rankOf seen ≡ repeated
+              → TagsSeen (insertRank words (rankOf tag)) width members isMember rankOf (insertIf repeated tag seen)
+          go true again = record { stands = rw again at inserted; of-level = so-far .of-level }
+          go false fresh = record { stands = rw fresh at inserted; of-level = λ other there. also other (ℕ-discrete other tag) there }

@@ -1,7 +1,7 @@
 // The tags seen at one entry's own level, as a set of ranks: each tag's rank in the group's sorted member list. Ported from walk.rs, `EntryTags`,
 // by value: inserting gives the set back with whether the rank was new.
 ghost use mathlib.Core.Path.{_≡_};
-ghost use Prim.Native.Nat.{_≤_, _<_};
+ghost use Prim.Native.Nat.{_+_, _/_, _%_, _^_, _≤_, _<_};
 ghost use mathlib.Core.Bool.{not};
 ghost use lib.Count as Count;
 ghost use Rattle.walk.specs.EntryTags.{noRanks, holdsRank, insertRank, rankCount};
@@ -27,6 +27,21 @@ pub struct WideInserted {
     pub fresh: bool,
 }
 
+// The bit of the member ranked `rank` in its word. The Rust's `slot`.
+fn mask_of(rank: usize) -> u64
+    ensures { λ mask. ⌜ mask ≡ 2 ^ (rank % 64) ⌝ }
+{
+    1u64 << (rank % 64)
+}
+
+// Words that a level of so many members uses: the only ones ever touched.
+fn words_used(members: usize) -> usize
+    requires { ⌜ members ≤ 8192 ⌝ }
+    ensures { λ used. ⌜ used ≡ (members + 63) / 64 ⌝ }
+{
+    (members + 63) / 64
+}
+
 // How many of the word's bits are set.
 fn ones_in(word: u64) -> u64
     ensures { λ ones. ⌜ (ones ≡ Count.ones word) × (ones ≤ 64) ⌝ }
@@ -47,7 +62,7 @@ impl EntryTags {
         ensures { λ inserted. ⌜ (inserted .tags .words ≡ insertRank (self .words) rank) × (inserted .fresh ≡ not (holdsRank (self .words) rank)) ⌝ }
     {
         let word = rank / 64;
-        let mask = 1u64 << (rank % 64);
+        let mask = mask_of(rank);
         let old = self.words[word];
         let hit = old & mask;
         let mut tags = self;
@@ -64,7 +79,7 @@ impl EntryTags {
         ensures { λ seen. ⌜ seen ≡ rankCount (self .words) members ⌝ }
     {
         let words = self.words;
-        let used = (members + 63) / 64;
+        let used = words_used(members);
         let mut seen: u64 = 0;
         let mut index = 0;
         while index < used {
@@ -88,7 +103,7 @@ impl WideEntryTags {
         ensures { λ inserted. ⌜ (inserted .tags .words ≡ insertRank (self .words) rank) × (inserted .fresh ≡ not (holdsRank (self .words) rank)) ⌝ }
     {
         let word = rank / 64;
-        let mask = 1u64 << (rank % 64);
+        let mask = mask_of(rank);
         let old = self.words[word];
         let hit = old & mask;
         let mut tags = self;
@@ -105,7 +120,7 @@ impl WideEntryTags {
         ensures { λ seen. ⌜ seen ≡ rankCount (self .words) members ⌝ }
     {
         let words = self.words;
-        let used = (members + 63) / 64;
+        let used = words_used(members);
         let mut seen: u64 = 0;
         let mut index = 0;
         while index < used {
