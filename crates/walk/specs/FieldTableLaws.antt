@@ -1,20 +1,18 @@
 -- Laws of `FieldTable.antt`: what `tableCheckOf` gives in each case, the loop of `check_field_table`, and what an accepted table is. Assumes nothing.
-use mathlib.Core.Path.{_≡_, refl, sym, _∙_}
+use mathlib.Core.Path.{_≡_, refl, _∙_}
 use mathlib.Core.Logic.{_↔_}
-use Prim.Native.Nat.{ℕ, zero, suc, _+_, _*_, _-_, _/_, _%_, _≤_, _<_}
+use Prim.Native.Nat.{ℕ, zero, suc, _+_, _-_, _%_, _≤_, _<_}
 use mathlib.Core.Bool.{Bool, true, false, not, _||_, true≢false}
 use mathlib.Core.List.{List}
 use native.Mathlib.Omega.{arith}
 use native.Mathlib.Numerals.{add-one}
 use native.Mathlib.Decide.{ℕ-discrete}
 use lib.Dec.{eqb, ltb}
-use lib.ListN.{length}
+use lib.ListN.{length, take, drop}
 use borrow.Author.Tests.{eq-eqb, ne-eqb, eqb-true, lt-ltb, le-ltb, ltb-false}
-use Rattle.ascii.specs.NotationLaws.{or-false}
 use Rattle.ascii.specs.Notation.{if_then_else_}
-use Rattle.walk.specs.declared.field_table.TableCheck.{TableCheck}
 use Rattle.walk.specs.declared.field_table.TableCheck.the-variants.{Accepted, Refused}
-use Rattle.walk.specs.FieldTable.{rowCount, firstOf, pastOf, isBadField, badFrom, tableCheckOf, AcceptedTable}
+use Rattle.walk.specs.FieldTable.{rowCount, firstOf, pastOf, isBadField, badFrom, tableCheckOf, AcceptedTable, fieldsOf}
 
 -- ---- isBadField
 
@@ -23,19 +21,23 @@ module _ (fields : List ℕ) (messageLength position : ℕ) where
   unfolding isBadField
   isBadField-reversed reversed = rw (lt-ltb _ _ reversed)
 
-  pub isBadField-behind : firstOf fields position ≤ pastOf fields position → messageLength < pastOf fields position → isBadField fields messageLength position ≡ true
+  pub isBadField-behind : firstOf fields position ≤ pastOf fields position → messageLength < pastOf fields position
+      → isBadField fields messageLength position ≡ true
   unfolding isBadField
   isBadField-behind ordered behind = rw (le-ltb _ _ ordered, lt-ltb _ _ behind)
 
-  pub isBadField-good : firstOf fields position ≤ pastOf fields position → pastOf fields position ≤ messageLength → isBadField fields messageLength position ≡ false
+  pub isBadField-good : firstOf fields position ≤ pastOf fields position → pastOf fields position ≤ messageLength
+      → isBadField fields messageLength position ≡ false
   unfolding isBadField
   isBadField-good ordered inside = rw (le-ltb _ _ ordered, le-ltb _ _ inside)
 
-  isBadField-tells : isBadField fields messageLength position ≡ false → (firstOf fields position ≤ pastOf fields position) × (pastOf fields position ≤ messageLength)
+  isBadField-tells : isBadField fields messageLength position ≡ false
+      → (firstOf fields position ≤ pastOf fields position) × (pastOf fields position ≤ messageLength)
   unfolding isBadField
   isBadField-tells good = go (ltb (pastOf fields position) (firstOf fields position)) (ltb messageLength (pastOf fields position)) refl refl good
     where
-      go : (reversed behind : Bool) → ltb (pastOf fields position) (firstOf fields position) ≡ reversed → ltb messageLength (pastOf fields position) ≡ behind → (reversed || behind) ≡ false
+      go : (reversed behind : Bool) → ltb (pastOf fields position) (firstOf fields position) ≡ reversed
+          → ltb messageLength (pastOf fields position) ≡ behind → (reversed || behind) ≡ false
           → (firstOf fields position ≤ pastOf fields position) × (pastOf fields position ≤ messageLength)
       go true behind is-reversed is-behind neither = absurd (true≢false neither)
       go false true is-reversed is-behind neither = absurd (true≢false neither)
@@ -52,7 +54,8 @@ module _ (fields : List ℕ) (messageLength : ℕ) where
   unfolding tableCheckOf
   tableCheckOf-many threes many = rw (eq-eqb (length fields % 3) 0 threes, lt-ltb 4096 (rowCount fields) many)
 
-  pub tableCheckOf-rows : length fields % 3 ≡ 0 → rowCount fields ≤ 4096 → tableCheckOf fields messageLength ≡ badFrom fields messageLength (rowCount fields) 0
+  pub tableCheckOf-rows : length fields % 3 ≡ 0 → rowCount fields ≤ 4096
+      → tableCheckOf fields messageLength ≡ badFrom fields messageLength (rowCount fields) 0
   unfolding tableCheckOf
   tableCheckOf-rows threes few = rw (eq-eqb (length fields % 3) 0 threes, le-ltb 4096 (rowCount fields) few)
 
@@ -101,7 +104,8 @@ badFrom-accepts fields messageLength zero position accepted other from below = a
 badFrom-accepts fields messageLength (suc rows) position accepted other from below =
     go (isBadField fields messageLength position) refl accepted (λ rest. badFrom-accepts fields messageLength rows (suc position) rest other)
   where
-    go : (bad : Bool) → isBadField fields messageLength position ≡ bad → (if bad then Refused (suc position) else badFrom fields messageLength rows (suc position)) ≡ Accepted
+    go : (bad : Bool) → isBadField fields messageLength position ≡ bad
+        → (if bad then Refused (suc position) else badFrom fields messageLength rows (suc position)) ≡ Accepted
         → (badFrom fields messageLength rows (suc position) ≡ Accepted → suc position ≤ other → other < suc position + rows → isBadField fields messageLength other ≡ false)
         → isBadField fields messageLength other ≡ false
     go true bad refused others = let zero-one : _≡_ {A = ℕ} 0 1 = cc in absurd (omega arith)
@@ -111,7 +115,8 @@ badFrom-accepts fields messageLength (suc rows) position accepted other from bel
         here (yes same) = rw same good
         here (no apart) = others rest (omega arith) (omega arith)
 
-accepts-badFrom : (fields : List ℕ) (messageLength rows position : ℕ) → ((other : ℕ) → position ≤ other → other < position + rows → isBadField fields messageLength other ≡ false)
+accepts-badFrom : (fields : List ℕ) (messageLength rows position : ℕ)
+    → ((other : ℕ) → position ≤ other → other < position + rows → isBadField fields messageLength other ≡ false)
     → badFrom fields messageLength rows position ≡ Accepted
 unfolding badFrom
 accepts-badFrom fields messageLength zero position good = refl
@@ -125,7 +130,8 @@ module _ (fields : List ℕ) (messageLength : ℕ) where
   tableCheckOf-accepted = (λ accepted. tells (eqb (length fields % 3) 0) (ltb 4096 (rowCount fields)) refl refl accepted, told)
     where
       tells : (threes many : Bool) → eqb (length fields % 3) 0 ≡ threes → ltb 4096 (rowCount fields) ≡ many
-          → (if not threes || many then Refused 0 else badFrom fields messageLength (rowCount fields) 0) ≡ Accepted → AcceptedTable fields messageLength
+          → (if not threes || many then Refused 0 else badFrom fields messageLength (rowCount fields) 0) ≡ Accepted
+          → AcceptedTable fields messageLength
       tells false many is-threes is-many refused = let zero-one : _≡_ {A = ℕ} 0 1 = cc in absurd (omega arith)
       tells true true is-threes is-many refused = let zero-one : _≡_ {A = ℕ} 0 1 = cc in absurd (omega arith)
       tells true false is-threes is-many accepted =
@@ -139,9 +145,17 @@ module _ (fields : List ℕ) (messageLength : ℕ) where
                 isBadField-tells fields messageLength position (badFrom-accepts fields messageLength (rowCount fields) 0 accepted position (omega arith) (omega arith)) .1;
           }
 
-      told : AcceptedTable fields messageLength → (if not (eqb (length fields % 3) 0) || ltb 4096 (rowCount fields) then Refused 0 else badFrom fields messageLength (rowCount fields) 0) ≡ Accepted
+      told : AcceptedTable fields messageLength
+          → (if not (eqb (length fields % 3) 0) || ltb 4096 (rowCount fields) then Refused 0 else badFrom fields messageLength (rowCount fields) 0) ≡ Accepted
       told table =
           let rest : length fields % 3 ≡ 0 = omega (arith, table .threes) in
           rw (eq-eqb (length fields % 3) 0 rest, le-ltb 4096 (rowCount fields) (table .few))
           (accepts-badFrom fields messageLength (rowCount fields) 0
           (λ position from below. isBadField-good fields messageLength position (table .ordered position (omega arith)) (table .inside position (omega arith))))
+
+-- ---- fieldsOf
+
+-- the part of the message that code lends for the value at a position
+pub valueAt-part : (fields message : List ℕ) (position first past : ℕ) → first ≡ firstOf fields position → past ≡ pastOf fields position
+    → take (past - first) (drop first message) ≡ fieldsOf fields message .valueAt position
+valueAt-part fields message position first past is-first is-past = rw (is-first, is-past)

@@ -1,8 +1,11 @@
 // The field table: three words a field, tag, first byte, byte after the last, in the message (document 01, 'The events of a walk'). The Rust's
 // slice of FieldRef.
+use formats::count::Count;
 ghost use mathlib.Core.Path.{_≡_};
 ghost use Prim.Native.Nat.{_<_};
-ghost use Rattle.walk.specs.FieldTable.{rowCount, tagOf, firstOf, pastOf, tableCheckOf};
+ghost use lib.ListN.{length};
+ghost use Rattle.walk.specs.FieldTable.{rowCount, tagOf, firstOf, pastOf, tableCheckOf, AcceptedTable, fieldsOf};
+ghost use Rattle.walk.specs.WalkInput.{countAt};
 
 // Whether a field table is accepted, or refused with 12 at this place.
 pub enum TableCheck {
@@ -64,4 +67,15 @@ pub fn check_field_table(fields: &[u32], message_len: usize) -> TableCheck
         index += 1;
     }
     TableCheck::Accepted
+}
+
+// The count that the field at `index` declares as a count field.
+pub fn count_at(fields: &[u32], message: &[u8], index: usize) -> Count
+    requires { ⌜ AcceptedTable (now fields) (length (now message)) ⌝ }
+    requires { ⌜ index < rowCount (now fields) ⌝ }
+    ensures { λ count. ⌜ count ≡ countAt (fieldsOf (now (fields .entry)) (now (message .entry))) index ⌝ }
+{
+    let first = first_at(fields, index);
+    let past = past_at(fields, index);
+    formats::count::parse_count(&message[first..past])
 }
