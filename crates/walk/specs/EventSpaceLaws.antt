@@ -36,7 +36,8 @@ module _ (space : List ℕ) (at : ℕ) (event : Event) where
 
   -- the five stores, as code makes them
   pub putIn-stores : (number count-tag depth first second : ℕ) → at + 5 ≤ length space
-      → number ≡ kindNumber (event .kind) → count-tag ≡ event .«count_tag» → depth ≡ event .depth → first ≡ kindFirst (event .kind) → second ≡ kindSecond (event .kind)
+      → number ≡ kindNumber (event .kind) → count-tag ≡ event .«count_tag» → depth ≡ event .depth → first ≡ kindFirst (event .kind)
+      → second ≡ kindSecond (event .kind)
       → set (set (set (set (set space at number) (at + 1) count-tag) (at + 2) depth) (at + 3) first) (at + 4) second ≡ putIn space at event
   unfolding putIn eventWords
   putIn-stores number count-tag depth first second room is-number is-tag is-depth is-first is-second =
@@ -74,7 +75,8 @@ unfolding putAllIn
 putAllIn-length space at [] = refl
 putAllIn-length space at (event ∷ rest) = putAllIn-length (putIn space at event) (at + 5) rest ∙ putIn-length space at event
 
-pub putAllIn-append : (space : List ℕ) (at : ℕ) (events others : List Event) → putAllIn (putAllIn space at events) (at + 5 * length events) others ≡ putAllIn space at (events ++ others)
+pub putAllIn-append : (space : List ℕ) (at : ℕ) (events others : List Event)
+    → putAllIn (putAllIn space at events) (at + 5 * length events) others ≡ putAllIn space at (events ++ others)
 unfolding putAllIn
 putAllIn-append space at [] others = let same : at + 5 * 0 ≡ at = omega arith in rw same
 putAllIn-append space at (event ∷ rest) others =
@@ -90,7 +92,7 @@ putAllIn-room space at (event ∷ rest) room =
     let same : at + 5 * suc (length rest) ≡ at + 5 + 5 * length rest = omega arith in
     let here : at + 5 ≤ length space = omega arith in
     putAllIn-room (putIn space at event) (at + 5) rest (omega (arith, putIn-length space at event))
-    ∙ rw (putIn-take space at event here, putIn-drop space at event here (5 * length rest), same, append-assoc, append-assoc)
+    ∙ rw (putIn-take space at event here, putIn-drop space at event here (5 * length rest), same) (simp append-assoc)
 
 -- in no space nothing is written
 pub putAllIn-empty : (at : ℕ) (events : List Event) → putAllIn [] at events ≡ []
@@ -108,7 +110,8 @@ pub wrote-none : (space : List ℕ) (at : ℕ) → Wrote space space at at []
 unfolding putAllIn
 wrote-none space at = record { next-is = omega arith; after-is = refl }
 
-pub wrote-one : (before after : List ℕ) (at next : ℕ) (event : Event) → next ≡ at + 5 → after ≡ putIn before at event → Wrote before after at next (event ∷ [])
+pub wrote-one : (before after : List ℕ) (at next : ℕ) (event : Event) → next ≡ at + 5 → after ≡ putIn before at event
+    → Wrote before after at next (event ∷ [])
 unfolding putAllIn
 wrote-one before after at next event behind put = record { next-is = omega arith; after-is = put }
 

@@ -12,7 +12,7 @@
 --   ofGroups events     the events of kinds 1 to 8, in their order
 use mathlib.Core.Path.{_≡_}
 use Prim.Native.Nat.{ℕ}
-use mathlib.Core.Bool.{Bool, true, false}
+use mathlib.Core.Bool.{Bool, false}
 use mathlib.Core.List.{List, [], _∷_, _++_}
 use Rattle.ascii.specs.Notation.{_≤ᵇ_, if_then_else_}
 use Rattle.walk.specs.declared.event.Kind.{Kind}

@@ -6,11 +6,10 @@ use mathlib.Core.Path.{_≡_, refl}
 use mathlib.Core.Logic.{_⊎_, inl, inr, _↔_}
 use Prim.Native.Nat.{ℕ, suc, _≤_, _<_}
 use mathlib.Core.Bool.{Bool, true, false, not, _&&_, _||_, false≢true}
-use mathlib.Core.List.{List, [], _∷_, _++_}
+use mathlib.Core.List.{List}
 use native.Mathlib.Omega.{arith}
 use lib.Dec.{ltb, eqb}
 use borrow.Author.Tests.{ltb-false, le-ltb, eqb-true, eq-eqb}
-use Rattle.walk.specs.declared.event.Event.{Event}
 use Rattle.walk.specs.Events.{NoFault, ofGroups}
 use Rattle.walk.specs.EventsLaws.{noFault-append, ofGroups-append}
 use Rattle.walk.specs.WalkInput.{Layout, Fields, Input, event}
@@ -60,7 +59,8 @@ module _ (input : Input) where
     delimiter-around : tagAt position ≡ delimiter group → around (tagAt position) ≡ true → MayFollow group around entries position
     nothing-declared : entries ≡ 0 → around (tagAt position) ≡ true → MayFollow group around entries position
 
-  pub mayFollow-alternatives : (group : Group) (around : ℕ → Bool) (entries position : ℕ) → mayFollow input group around entries position ≡ true ↔ MayFollow group around entries position
+  pub mayFollow-alternatives : (group : Group) (around : ℕ → Bool) (entries position : ℕ)
+      → mayFollow input group around entries position ≡ true ↔ MayFollow group around entries position
   unfolding mayFollow
   mayFollow-alternatives group around entries position = (
     λ follows. one-of (followsBy-cases (ltb position fieldCount) (isMember group (tagAt position)) (eqb (tagAt position) (delimiter group)) (around (tagAt position)) (eqb entries 0) follows),
@@ -76,7 +76,8 @@ module _ (input : Input) where
       one-of (inr (inr (inl both))) = delimiter-around (eqb-true (tagAt position) (delimiter group) (both .0)) (both .1)
       one-of (inr (inr (inr both))) = nothing-declared (eqb-true entries 0 (both .0)) (both .1)
 
-      each : MayFollow group around entries position → followsBy (ltb position fieldCount) (isMember group (tagAt position)) (eqb (tagAt position) (delimiter group)) (around (tagAt position)) (eqb entries 0) ≡ true
+      each : MayFollow group around entries position
+          → followsBy (ltb position fieldCount) (isMember group (tagAt position)) (eqb (tagAt position) (delimiter group)) (around (tagAt position)) (eqb entries 0) ≡ true
       each (table-ends over) = rw (le-ltb position fieldCount over)
       each (no-member other) = rw (other, followsBy-other)
       each (delimiter-around delimits has) = rw (eq-eqb (tagAt position) (delimiter group) delimits, has, followsBy-delimiter)
@@ -85,7 +86,8 @@ module _ (input : Input) where
   -- ---- a reading passes fields
 
   mutual
-    pub reading-advances : {group : Group} {depth : ℕ} {around : ℕ → Bool} {first past : ℕ} → Reading input group depth around first past → first < past
+    pub reading-advances : {group : Group} {depth : ℕ} {around : ℕ → Bool} {first past : ℕ} → Reading input group depth around first past
+        → first < past
     reading-advances (reading entries _ _ _ body _) = let body-on = entries-advance body in omega arith
 
     pub entries-advance : {group : Group} {depth entries first past : ℕ} → Entries input group depth entries first past → first ≤ past
@@ -117,16 +119,19 @@ module _ (input : Input) where
   mutual
     unfolding readingEvents
 
-    pub readingEvents-no-fault : {group : Group} {depth : ℕ} {around : ℕ → Bool} {first past : ℕ} (read : Reading input group depth around first past) → NoFault (readingEvents input read)
+    pub readingEvents-no-fault : {group : Group} {depth : ℕ} {around : ℕ → Bool} {first past : ℕ} (read : Reading input group depth around first past)
+        → NoFault (readingEvents input read)
     readingEvents-no-fault (reading entries _ _ _ body _) = (refl, noFault-append _ (entriesEvents input body 0) (entriesEvents-no-fault body 0) (refl, tt))
 
-    entriesEvents-no-fault : {group : Group} {depth entries first past : ℕ} (body : Entries input group depth entries first past) (number : ℕ) → NoFault (entriesEvents input body number)
+    entriesEvents-no-fault : {group : Group} {depth entries first past : ℕ} (body : Entries input group depth entries first past) (number : ℕ)
+        → NoFault (entriesEvents input body number)
     entriesEvents-no-fault (no-entry _ same) number = tt
     entriesEvents-no-fault (entry others second next _ _ _ lead items rest) number =
         noFault-append _ (itemEvents input lead) (itemEvents-no-fault lead)
         (noFault-append _ (itemsEvents input items) (itemsEvents-no-fault items) (refl, entriesEvents-no-fault rest (suc number)))
 
-    itemsEvents-no-fault : {group : Group} {depth : ℕ} {seen : List ℕ} {first past : ℕ} (items : Items input group depth seen first past) → NoFault (itemsEvents input items)
+    itemsEvents-no-fault : {group : Group} {depth : ℕ} {seen : List ℕ} {first past : ℕ} (items : Items input group depth seen first past)
+        → NoFault (itemsEvents input items)
     itemsEvents-no-fault (no-item same) = tt
     itemsEvents-no-fault (item next _ _ _ _ one rest) = noFault-append _ (itemEvents input one) (itemEvents-no-fault one) (itemsEvents-no-fault rest)
 
@@ -139,18 +144,22 @@ module _ (input : Input) where
   mutual
     unfolding readingEvents
 
-    pub readingEvents-of-groups : {group : Group} {depth : ℕ} {around : ℕ → Bool} {first past : ℕ} (read : Reading input group depth around first past) → ofGroups (readingEvents input read) ≡ readingEvents input read
+    pub readingEvents-of-groups : {group : Group} {depth : ℕ} {around : ℕ → Bool} {first past : ℕ} (read : Reading input group depth around first past)
+        → ofGroups (readingEvents input read) ≡ readingEvents input read
     readingEvents-of-groups (reading entries _ _ _ body _) = rw (ofGroups-append (entriesEvents input body 0), entriesEvents-of-groups body 0)
 
-    entriesEvents-of-groups : {group : Group} {depth entries first past : ℕ} (body : Entries input group depth entries first past) (number : ℕ) → ofGroups (entriesEvents input body number) ≡ entriesEvents input body number
+    entriesEvents-of-groups : {group : Group} {depth entries first past : ℕ} (body : Entries input group depth entries first past) (number : ℕ)
+        → ofGroups (entriesEvents input body number) ≡ entriesEvents input body number
     entriesEvents-of-groups (no-entry _ same) number = refl
     entriesEvents-of-groups (entry others second next _ _ _ lead items rest) number =
         rw (ofGroups-append (itemEvents input lead), ofGroups-append (itemsEvents input items), itemEvents-of-groups lead, itemsEvents-of-groups items, entriesEvents-of-groups rest (suc number))
 
-    itemsEvents-of-groups : {group : Group} {depth : ℕ} {seen : List ℕ} {first past : ℕ} (items : Items input group depth seen first past) → ofGroups (itemsEvents input items) ≡ itemsEvents input items
+    itemsEvents-of-groups : {group : Group} {depth : ℕ} {seen : List ℕ} {first past : ℕ} (items : Items input group depth seen first past)
+        → ofGroups (itemsEvents input items) ≡ itemsEvents input items
     itemsEvents-of-groups (no-item same) = refl
     itemsEvents-of-groups (item next _ _ _ _ one rest) = rw (ofGroups-append (itemEvents input one), itemEvents-of-groups one, itemsEvents-of-groups rest)
 
-    itemEvents-of-groups : {group : Group} {depth first past : ℕ} (one : Item input group depth first past) → ofGroups (itemEvents input one) ≡ itemEvents input one
+    itemEvents-of-groups : {group : Group} {depth first past : ℕ} (one : Item input group depth first past)
+        → ofGroups (itemEvents input one) ≡ itemEvents input one
     itemEvents-of-groups (plain _ same) = refl
     itemEvents-of-groups (nested inner _ inside) = readingEvents-of-groups inside

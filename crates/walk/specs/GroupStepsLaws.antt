@@ -33,7 +33,8 @@ openingBy inside shallow leads =
     else if leads then member-leads
     else entries-follow
 
-stopsBy-open : (inside member atStart delimits : Bool) → stopsBy inside member atStart delimits ≡ false → (inside ≡ true) × (member ≡ true) × ((not atStart && delimits) ≡ false)
+stopsBy-open : (inside member atStart delimits : Bool) → stopsBy inside member atStart delimits ≡ false
+    → (inside ≡ true) × (member ≡ true) × ((not atStart && delimits) ≡ false)
 stopsBy-open false member atStart delimits goes-on = absurd (true≢false goes-on)
 stopsBy-open true false atStart delimits goes-on = absurd (true≢false goes-on)
 stopsBy-open true true atStart delimits goes-on = (refl, refl, goes-on)
@@ -118,12 +119,14 @@ module _ (input : Input) where
         let open-by = stopsBy-open (ltb cursor fieldCount) (isMember group (tagAt cursor)) false (eqb (tagAt cursor) (delimiter group)) goes-on in
         (open-by .1, eqb-false (tagAt cursor) (delimiter group) (open-by .2))
 
-    pub entryStops-goes-on : cursor < fieldCount → isMember group (tagAt cursor) ≡ true → tagAt cursor ≢ delimiter group → entryStops input false group cursor ≡ false
+    pub entryStops-goes-on : cursor < fieldCount → isMember group (tagAt cursor) ≡ true → tagAt cursor ≢ delimiter group
+        → entryStops input false group cursor ≡ false
     unfolding entryStops
     entryStops-goes-on inside member other = rw (lt-ltb cursor fieldCount inside, member, ne-eqb (tagAt cursor) (delimiter group) other)
 
     -- the delimiter is a member, so the first field of an entry is taken
-    pub entryStops-first : isMember group (delimiter group) ≡ true → cursor < fieldCount → tagAt cursor ≡ delimiter group → entryStops input true group cursor ≡ false
+    pub entryStops-first : isMember group (delimiter group) ≡ true → cursor < fieldCount → tagAt cursor ≡ delimiter group
+        → entryStops input true group cursor ≡ false
     unfolding entryStops
     entryStops-first member inside delimits = rw (lt-ltb cursor fieldCount inside, delimits, member)
 
@@ -134,7 +137,8 @@ module _ (input : Input) where
   -- ---- entryBegins, memberLeads
 
   module _ (group : Group) (enclosing : ℕ → Bool) (declared : Count) where
-    pub entryBegins-delimiter : (entries cursor : ℕ) → entryBegins input group enclosing declared entries cursor ≡ true → (cursor < fieldCount) × (tagAt cursor ≡ delimiter group)
+    pub entryBegins-delimiter : (entries cursor : ℕ) → entryBegins input group enclosing declared entries cursor ≡ true
+        → (cursor < fieldCount) × (tagAt cursor ≡ delimiter group)
     unfolding entryBegins
     entryBegins-delimiter entries cursor begins =
         let open-by = beginsBy-open (ltb cursor fieldCount) (eqb (tagAt cursor) (delimiter group)) (endsGroup declared entries enclosing (tagAt cursor)) begins in
@@ -173,11 +177,13 @@ module _ (input : Input) where
     unfolding openingAt
     openingAt-member-leads inside shallow leads = rw (lt-ltb index fieldCount inside, le-leb depth depthLimit shallow, leads)
 
-    pub openingAt-leads : openingAt input group depth enclosing index ≡ member-leads → memberLeads input group enclosing (countAt fields index) (suc index) ≡ true
+    pub openingAt-leads : openingAt input group depth enclosing index ≡ member-leads
+        → memberLeads input group enclosing (countAt fields index) (suc index) ≡ true
     unfolding openingAt
     openingAt-leads opening = leads-only (ltb index fieldCount) (leb depth depthLimit) (memberLeads input group enclosing (countAt fields index) (suc index)) opening
 
-    pub openingAt-entries-follow : index < fieldCount → depth ≤ depthLimit → memberLeads input group enclosing (countAt fields index) (suc index) ≡ false
+    pub openingAt-entries-follow : index < fieldCount → depth ≤ depthLimit
+        → memberLeads input group enclosing (countAt fields index) (suc index) ≡ false
         → openingAt input group depth enclosing index ≡ entries-follow
     unfolding openingAt
     openingAt-entries-follow inside shallow leads = rw (lt-ltb index fieldCount inside, le-leb depth depthLimit shallow, leads)
@@ -200,10 +206,12 @@ module _ (input : Input) where
     unfolding stepAt
     stepAt-stops stopped = rw stopped
 
-    pub stepAt-plain : entryStops input atStart group cursor ≡ false → nestedGroup group (tagAt cursor) ≡ none → stepAt input atStart group cursor ≡ plain-field
+    pub stepAt-plain : entryStops input atStart group cursor ≡ false → nestedGroup group (tagAt cursor) ≡ none
+        → stepAt input atStart group cursor ≡ plain-field
     unfolding stepAt
     stepAt-plain goes-on no-inner = rw (goes-on, no-inner)
 
-    pub stepAt-nested : (inner : Group) → entryStops input atStart group cursor ≡ false → nestedGroup group (tagAt cursor) ≡ some inner → stepAt input atStart group cursor ≡ nested-group inner
+    pub stepAt-nested : (inner : Group) → entryStops input atStart group cursor ≡ false → nestedGroup group (tagAt cursor) ≡ some inner
+        → stepAt input atStart group cursor ≡ nested-group inner
     unfolding stepAt
     stepAt-nested inner goes-on found = rw (goes-on, found)

@@ -5,7 +5,7 @@
 use mathlib.Core.Path.{_≡_, refl}
 use Prim.Native.Nat.{ℕ, zero, suc, _+_, _*_, _-_}
 use Prim.Native.String.{String}
-use mathlib.Core.Bool.{Bool, true, false, _&&_}
+use mathlib.Core.Bool.{_&&_}
 use mathlib.Core.Option.{none, some}
 use mathlib.Core.List.{List, [], _∷_, map}
 use lib.ListN.{length, getD}
@@ -14,11 +14,9 @@ use Rattle.ascii.specs.Bytes.{ascii, nonEmpty, every}
 use Rattle.ascii.specs.Digits.{isDigits, decimalFrom}
 use Rattle.ascii.specs.Notation.{isBetween}
 use Rattle.formats.specs.Count.{countOf}
-use Rattle.walk.specs.declared.event.Kind.the-variants.{Enter, BadCount, Delim, Repeat, Close, Miscount, Deep, Leave}
-use Rattle.walk.specs.declared.event.Event.{Event}
 use Rattle.walk.specs.Membership.{_∈ᵇ_}
 use Rattle.walk.specs.Events.{eventWords}
-use Rattle.walk.specs.WalkInput.{Layout, Fields, Input}
+use Rattle.walk.specs.WalkInput.{Layout, Fields}
 use Rattle.walk.specs.GroupSteps.{openingAt, memberLeads, entryBegins, entryStops, stepAt}
 use Rattle.walk.specs.GroupWalk.{WalkedGroup, walkBy, walkGroup}
 

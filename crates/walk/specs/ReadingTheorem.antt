@@ -7,7 +7,7 @@
 -- it and gives its events), `Unique` (one stretch, one derivation).
 use mathlib.Core.Path.{_≡_, refl, sym, ap, _∙_, subst}
 use mathlib.Core.Logic.{_↔_}
-use Prim.Native.Nat.{ℕ, _+_, _*_, _-_, _≤_, _<_}
+use Prim.Native.Nat.{ℕ, _+_, _*_, _-_, _<_}
 use mathlib.Core.Bool.{Bool}
 use native.Mathlib.Omega.{arith}
 use Rattle.walk.specs.Events.{NoFault, ofGroups}
@@ -41,7 +41,8 @@ module _ (input : Input) where
     -- the position given back is right behind it
     pub position : (past : ℕ) → Reading input group 0 top index past → walkGroup input group 0 top index .next ≡ past
     -- the events are the reading's own, in order
-    pub events : (past : ℕ) (read : Reading input group 0 top index past) → ofGroups (walkGroup input group 0 top index .events) ≡ readingEvents input read
+    pub events : (past : ℕ) (read : Reading input group 0 top index past)
+        → ofGroups (walkGroup input group 0 top index .events) ≡ readingEvents input read
 
   module _ (rules : LayoutRules layout) where
     open LayoutRules rules using (Valid)
@@ -59,7 +60,8 @@ module _ (input : Input) where
         fuel : ℕ
         fuel = 3 * (fieldCount - index) + 1
 
-        walked : (past : ℕ) (read : Reading input group 0 top index past) → walkWith input fuel group 0 top index ≡ record { events = readingEvents input read; next = past }
+        walked : (past : ℕ) (read : Reading input group 0 top index past)
+            → walkWith input fuel group 0 top index ≡ record { events = readingEvents input read; next = past }
         walked past read = reading-walked input rules read valid fuel (omega arith)
 
         there-is : NoFault (ofGroups (walkWith input fuel group 0 top index .events)) → (past : ℕ) × Reading input group 0 top index past

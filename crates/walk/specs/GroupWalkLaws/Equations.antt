@@ -27,19 +27,22 @@ module _ (input : Input) (rules : LayoutRules (input .layout)) where
 
   -- ---- any fuel that is enough
 
-  walkGroup-fuel : (fuel : ℕ) (group : Group) (depth : ℕ) (enclosing : ℕ → Bool) (index : ℕ) → Valid group → index < fieldCount → 3 * (fieldCount - index) + 1 ≤ fuel
+  walkGroup-fuel : (fuel : ℕ) (group : Group) (depth : ℕ) (enclosing : ℕ → Bool) (index : ℕ) → Valid group → index < fieldCount
+      → 3 * (fieldCount - index) + 1 ≤ fuel
       → walkGroup input group depth enclosing index ≡ walkWith input fuel group depth enclosing index
   unfolding walkGroup
   walkGroup-fuel fuel group depth enclosing index valid inside enough =
       walk-fuel input rules (3 * (fieldCount - index) + 1) fuel (openingAt input group depth enclosing index) group depth enclosing index valid refl inside (omega arith) enough
 
-  walkEntries-fuel : (fuel : ℕ) (group : Group) (depth : ℕ) (enclosing : ℕ → Bool) (declared : Count) (entries cursor : ℕ) → Valid group → 3 * (fieldCount - cursor) + 3 ≤ fuel
+  walkEntries-fuel : (fuel : ℕ) (group : Group) (depth : ℕ) (enclosing : ℕ → Bool) (declared : Count) (entries cursor : ℕ) → Valid group
+      → 3 * (fieldCount - cursor) + 3 ≤ fuel
       → walkEntries input group depth enclosing declared entries cursor ≡ entriesWith input fuel group depth enclosing declared entries cursor
   unfolding walkEntries
   walkEntries-fuel fuel group depth enclosing declared entries cursor valid enough =
       entries-fuel input rules (3 * (fieldCount - cursor) + 3) fuel (entryBegins input group enclosing declared entries cursor) group depth enclosing declared entries cursor valid refl (omega arith) enough
 
-  scanEntry-fuel : (fuel : ℕ) (atStart : Bool) (group : Group) (depth : ℕ) (seen : List ℕ) (cursor : ℕ) → Valid group → 3 * (fieldCount - cursor) + 2 ≤ fuel
+  scanEntry-fuel : (fuel : ℕ) (atStart : Bool) (group : Group) (depth : ℕ) (seen : List ℕ) (cursor : ℕ) → Valid group
+      → 3 * (fieldCount - cursor) + 2 ≤ fuel
       → scanEntry input atStart group depth seen cursor ≡ scanWith input fuel atStart group depth seen cursor
   unfolding scanEntry
   scanEntry-fuel fuel atStart group depth seen cursor valid enough =
@@ -53,7 +56,8 @@ module _ (input : Input) (rules : LayoutRules (input .layout)) where
     walkGroup-outside over = rw (add-one, openingAt-outside input group depth enclosing index over)
 
     module _ (valid : Valid group) (inside : index < fieldCount) where
-      pub walkGroup-too-deep : depthLimit < depth → walkGroup input group depth enclosing index ≡ record { events = event layout group depth Deep ∷ []; next = suc index }
+      pub walkGroup-too-deep : depthLimit < depth
+          → walkGroup input group depth enclosing index ≡ record { events = event layout group depth Deep ∷ []; next = suc index }
       unfolding walkBy
       walkGroup-too-deep deep = rw (walkGroup-fuel (suc (3 * (fieldCount - index))) group depth enclosing index valid inside (omega arith), openingAt-too-deep input group depth enclosing index inside deep)
 
@@ -94,7 +98,8 @@ module _ (input : Input) (rules : LayoutRules (input .layout)) where
     unfolding walkBy
     walkEntries-ends no-other = rw (walkEntries-fuel (suc (3 * (fieldCount - cursor) + 2)) group depth enclosing declared entries cursor valid (omega arith), no-other)
 
-    pub walkEntries-goes-on : entryBegins input group enclosing declared entries cursor ≡ true → (entry : ScannedEntry) → entry ≡ scanEntry input true group depth [] cursor
+    pub walkEntries-goes-on : entryBegins input group enclosing declared entries cursor ≡ true → (entry : ScannedEntry)
+        → entry ≡ scanEntry input true group depth [] cursor
         → walkEntries input group depth enclosing declared entries cursor
         ≡ entryThen (event layout group depth (Close entries (entry .seen))) entry (walkEntries input group depth enclosing declared (suc entries) (entry .next))
     unfolding walkBy

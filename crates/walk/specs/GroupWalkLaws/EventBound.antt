@@ -3,7 +3,7 @@
 use mathlib.Core.Path.{_≡_, refl, sym, _∙_}
 use Prim.Native.Nat.{ℕ, zero, suc, _+_, _*_, _-_, _≤_, _<_}
 use mathlib.Core.Bool.{Bool, true, false, _||_, true≢false}
-use mathlib.Core.List.{List, [], _∷_, _++_}
+use mathlib.Core.List.{List, [], _∷_}
 use native.Mathlib.Omega.{arith}
 use lib.Dec.{eqb}
 use lib.ListN.{length, length-append}
@@ -27,7 +27,8 @@ module _ (layout : Layout) where
   repeatedTag-few group depth tag true = omega arith
   repeatedTag-few group depth tag false = omega arith
 
-  endedBy-few : (group : Group) (depth : ℕ) (same unparseable : Bool) (declared entries : ℕ) → length (endedBy layout group depth same unparseable declared entries) ≤ 2
+  endedBy-few : (group : Group) (depth : ℕ) (same unparseable : Bool) (declared entries : ℕ)
+      → length (endedBy layout group depth same unparseable declared entries) ≤ 2
   endedBy-few group depth true unparseable declared entries = omega arith
   endedBy-few group depth false true declared entries = omega arith
   endedBy-few group depth false false declared entries = omega arith
@@ -46,14 +47,16 @@ module _ (layout : Layout) where
       let few = both-few group depth index declared (unparseable || rest .unparseable) (rest .entries) in
       simp length-append (omega arith)
 
-  leadingEntry-length : (group : Group) (depth tag : ℕ) (entry : ScannedEntry) → length (leadingEntry layout group depth tag entry) ≡ 2 + length (entry .events)
+  leadingEntry-length : (group : Group) (depth tag : ℕ) (entry : ScannedEntry)
+      → length (leadingEntry layout group depth tag entry) ≡ 2 + length (entry .events)
   leadingEntry-length group depth tag entry = simp length-append (omega arith)
 
 fieldThen-length : (repeat : List Event) (repeated : Bool) (field : WalkedGroup) (rest : ScannedEntry)
     → length (fieldThen repeat repeated field rest .events) ≡ length repeat + length (field .events) + length (rest .events)
 fieldThen-length repeat repeated field rest = simp length-append (omega arith)
 
-entryThen-length : (close : Event) (entry : ScannedEntry) (rest : WalkedEntries) → length (entryThen close entry rest .events) ≡ length (entry .events) + 1 + length (rest .events)
+entryThen-length : (close : Event) (entry : ScannedEntry) (rest : WalkedEntries)
+    → length (entryThen close entry rest .events) ≡ length (entry .events) + 1 + length (rest .events)
 entryThen-length close entry rest = simp length-append (omega arith)
 
 module _ (input : Input) (rules : LayoutRules (input .layout)) where
@@ -65,7 +68,8 @@ module _ (input : Input) (rules : LayoutRules (input .layout)) where
   mutual
     unfolding walkBy
 
-    walk-few : (fuel : ℕ) (opening : Opening) (group : Group) (depth : ℕ) (enclosing : ℕ → Bool) (index : ℕ) → Valid group → openingAt input group depth enclosing index ≡ opening
+    walk-few : (fuel : ℕ) (opening : Opening) (group : Group) (depth : ℕ) (enclosing : ℕ → Bool) (index : ℕ) → Valid group
+        → openingAt input group depth enclosing index ≡ opening
         → index < fieldCount → 3 * (fieldCount - index) + 1 ≤ fuel
         → length (walkBy input fuel opening group depth enclosing index .events) + 2 + 5 * index ≤ 5 * walkBy input fuel opening group depth enclosing index .next
     walk-few zero opening group depth enclosing index valid opens inside enough = absurd (omega arith)
@@ -116,7 +120,8 @@ module _ (input : Input) (rules : LayoutRules (input .layout)) where
         omega arith
 
     -- an entry, from its first field on: two events fewer, which a delim and a close make up for
-    entry-few : (fuel : ℕ) (step : Step Group) (group : Group) (depth cursor : ℕ) → Valid group → stepAt input true group cursor ≡ step → entryStops input true group cursor ≡ false
+    entry-few : (fuel : ℕ) (step : Step Group) (group : Group) (depth cursor : ℕ) → Valid group → stepAt input true group cursor ≡ step
+        → entryStops input true group cursor ≡ false
         → 3 * (fieldCount - cursor) + 2 ≤ fuel
         → length (scanBy input fuel step group depth [] cursor .events) + 2 + 5 * cursor ≤ 5 * scanBy input fuel step group depth [] cursor .next
     entry-few zero step group depth cursor valid steps goes-on enough = absurd (omega arith)
@@ -143,7 +148,8 @@ module _ (input : Input) (rules : LayoutRules (input .layout)) where
         let whole = fieldThen-length [] false walk rest in
         omega arith
 
-    rest-few : (fuel : ℕ) (step : Step Group) (group : Group) (depth : ℕ) (seen : List ℕ) (cursor : ℕ) → Valid group → stepAt input false group cursor ≡ step
+    rest-few : (fuel : ℕ) (step : Step Group) (group : Group) (depth : ℕ) (seen : List ℕ) (cursor : ℕ) → Valid group
+        → stepAt input false group cursor ≡ step
         → 3 * (fieldCount - cursor) + 2 ≤ fuel
         → length (scanBy input fuel step group depth seen cursor .events) + 5 * cursor ≤ 5 * scanBy input fuel step group depth seen cursor .next
     rest-few zero step group depth seen cursor valid steps enough = absurd (omega arith)

@@ -2,7 +2,7 @@
 use mathlib.Core.Path.{_≡_, refl}
 use Prim.Native.Nat.{ℕ, zero, suc, _+_, _*_, _-_, _≤_, _<_}
 use mathlib.Core.Bool.{Bool, true, false}
-use mathlib.Core.List.{List, [], _∷_}
+use mathlib.Core.List.{List, []}
 use native.Mathlib.Omega.{arith}
 use Rattle.formats.specs.declared.count.Count.{Count}
 use Rattle.walk.specs.Membership.{_∈ᵇ_}
@@ -21,7 +21,8 @@ module _ (input : Input) (rules : LayoutRules (input .layout)) where
   mutual
     unfolding walkBy
 
-    pub walk-fuel : (fuel fuel′ : ℕ) (opening : Opening) (group : Group) (depth : ℕ) (enclosing : ℕ → Bool) (index : ℕ) → Valid group → openingAt input group depth enclosing index ≡ opening
+    pub walk-fuel : (fuel fuel′ : ℕ) (opening : Opening) (group : Group) (depth : ℕ) (enclosing : ℕ → Bool) (index : ℕ) → Valid group
+        → openingAt input group depth enclosing index ≡ opening
         → index < fieldCount → 3 * (fieldCount - index) + 1 ≤ fuel → 3 * (fieldCount - index) + 1 ≤ fuel′
         → walkBy input fuel opening group depth enclosing index ≡ walkBy input fuel′ opening group depth enclosing index
     walk-fuel zero fuel′ opening group depth enclosing index valid opens inside enough enough′ = absurd (omega arith)
@@ -40,8 +41,10 @@ module _ (input : Input) (rules : LayoutRules (input .layout)) where
         rw (entries-fuel fuel fuel′ (entryBegins input group enclosing (countAt fields index) 0 (suc index)) group depth enclosing (countAt fields index) 0 (suc index) valid refl
         (omega arith) (omega arith))
 
-    pub entries-fuel : (fuel fuel′ : ℕ) (begins : Bool) (group : Group) (depth : ℕ) (enclosing : ℕ → Bool) (declared : Count) (entries cursor : ℕ) → Valid group
-        → entryBegins input group enclosing declared entries cursor ≡ begins → 3 * (fieldCount - cursor) + 3 ≤ fuel → 3 * (fieldCount - cursor) + 3 ≤ fuel′
+    pub entries-fuel : (fuel fuel′ : ℕ) (begins : Bool) (group : Group) (depth : ℕ) (enclosing : ℕ → Bool) (declared : Count) (entries cursor : ℕ)
+        → Valid group
+        → entryBegins input group enclosing declared entries cursor ≡ begins → 3 * (fieldCount - cursor) + 3 ≤ fuel
+        → 3 * (fieldCount - cursor) + 3 ≤ fuel′
         → entriesBy input fuel begins group depth enclosing declared entries cursor ≡ entriesBy input fuel′ begins group depth enclosing declared entries cursor
     entries-fuel zero fuel′ begins group depth enclosing declared entries cursor valid begun enough enough′ = absurd (omega arith)
     entries-fuel (suc fuel) zero begins group depth enclosing declared entries cursor valid begun enough enough′ = absurd (omega arith)
@@ -64,7 +67,8 @@ module _ (input : Input) (rules : LayoutRules (input .layout)) where
               (omega arith) (omega arith),
         )
 
-    pub scan-fuel : (fuel fuel′ : ℕ) (step : Step Group) (atStart : Bool) (group : Group) (depth : ℕ) (seen : List ℕ) (cursor : ℕ) → Valid group → stepAt input atStart group cursor ≡ step
+    pub scan-fuel : (fuel fuel′ : ℕ) (step : Step Group) (atStart : Bool) (group : Group) (depth : ℕ) (seen : List ℕ) (cursor : ℕ) → Valid group
+        → stepAt input atStart group cursor ≡ step
         → 3 * (fieldCount - cursor) + 2 ≤ fuel → 3 * (fieldCount - cursor) + 2 ≤ fuel′
         → scanBy input fuel step group depth seen cursor ≡ scanBy input fuel′ step group depth seen cursor
     scan-fuel zero fuel′ step atStart group depth seen cursor valid steps enough enough′ = absurd (omega arith)

@@ -2,13 +2,13 @@
 use mathlib.Core.Path.{_≡_, refl, sym, _∙_}
 use Prim.Native.Nat.{ℕ, zero, suc, _≤_, _<_}
 use mathlib.Core.Bool.{Bool, true, false, true≢false}
-use mathlib.Core.List.{List, [], _∷_}
+use mathlib.Core.List.{List, []}
 use native.Mathlib.Omega.{arith}
 use Rattle.formats.specs.declared.count.Count.{Count}
 use Rattle.walk.specs.Membership.{_∈ᵇ_}
 use Rattle.walk.specs.WalkInput.{Layout, Fields, Input, countAt}
 use Rattle.walk.specs.GroupSteps.{Opening, outside, too-deep, member-leads, entries-follow, Step, stops, plain-field, nested-group, entryBegins, entryStops, openingAt, stepAt}
-use Rattle.walk.specs.GroupStepsLaws.{entryStops-within, openingAt-inside, openingAt-outside, stepAt-tells}
+use Rattle.walk.specs.GroupStepsLaws.{entryStops-within, openingAt-inside, stepAt-tells}
 use Rattle.walk.specs.GroupWalk.{insertIf, walkBy, entriesBy, scanBy}
 
 module _ (input : Input) where
@@ -21,7 +21,8 @@ module _ (input : Input) where
   mutual
     unfolding walkBy
 
-    pub walk-not-back : (fuel : ℕ) (opening : Opening) (group : Group) (depth : ℕ) (enclosing : ℕ → Bool) (index : ℕ) → index ≤ walkBy input fuel opening group depth enclosing index .next
+    pub walk-not-back : (fuel : ℕ) (opening : Opening) (group : Group) (depth : ℕ) (enclosing : ℕ → Bool) (index : ℕ)
+        → index ≤ walkBy input fuel opening group depth enclosing index .next
     walk-not-back zero opening group depth enclosing index = omega arith
     walk-not-back (suc fuel) outside group depth enclosing index = omega arith
     walk-not-back (suc fuel) too-deep group depth enclosing index = omega arith
@@ -44,7 +45,8 @@ module _ (input : Input) where
         let rest-on = entries-not-back fuel (entryBegins input group enclosing declared (suc entries) (scan .next)) group depth enclosing declared (suc entries) (scan .next) in
         omega arith
 
-    pub scan-not-back : (fuel : ℕ) (step : Step Group) (group : Group) (depth : ℕ) (seen : List ℕ) (cursor : ℕ) → cursor ≤ scanBy input fuel step group depth seen cursor .next
+    pub scan-not-back : (fuel : ℕ) (step : Step Group) (group : Group) (depth : ℕ) (seen : List ℕ) (cursor : ℕ)
+        → cursor ≤ scanBy input fuel step group depth seen cursor .next
     scan-not-back zero step group depth seen cursor = omega arith
     scan-not-back (suc fuel) stops group depth seen cursor = omega arith
     scan-not-back (suc fuel) plain-field group depth seen cursor =
@@ -58,7 +60,8 @@ module _ (input : Input) where
 
   -- ---- past a field
 
-  pub walk-passes : (fuel : ℕ) (opening : Opening) (group : Group) (depth : ℕ) (enclosing : ℕ → Bool) (index : ℕ) → index < fieldCount → openingAt input group depth enclosing index ≡ opening
+  pub walk-passes : (fuel : ℕ) (opening : Opening) (group : Group) (depth : ℕ) (enclosing : ℕ → Bool) (index : ℕ) → index < fieldCount
+      → openingAt input group depth enclosing index ≡ opening
       → index < walkBy input (suc fuel) opening group depth enclosing index .next
   unfolding walkBy
   walk-passes fuel outside group depth enclosing index inside opens = openingAt-inside input group depth enclosing index inside opens
@@ -71,7 +74,8 @@ module _ (input : Input) where
   walk-passes fuel entries-follow group depth enclosing index inside opens =
       entries-not-back fuel (entryBegins input group enclosing (countAt fields index) 0 (suc index)) group depth enclosing (countAt fields index) 0 (suc index)
 
-  pub scan-passes : (fuel : ℕ) (step : Step Group) (atStart : Bool) (group : Group) (depth : ℕ) (seen : List ℕ) (cursor : ℕ) → stepAt input atStart group cursor ≡ step
+  pub scan-passes : (fuel : ℕ) (step : Step Group) (atStart : Bool) (group : Group) (depth : ℕ) (seen : List ℕ) (cursor : ℕ)
+      → stepAt input atStart group cursor ≡ step
       → entryStops input atStart group cursor ≡ false → cursor < scanBy input (suc (suc fuel)) step group depth seen cursor .next
   unfolding walkBy
   scan-passes fuel stops atStart group depth seen cursor steps goes-on = absurd (true≢false (sym (stepAt-tells input atStart group cursor .stopping steps) ∙ goes-on))
@@ -90,7 +94,8 @@ module _ (input : Input) where
   mutual
     unfolding walkBy
 
-    pub walk-within : (fuel : ℕ) (opening : Opening) (group : Group) (depth : ℕ) (enclosing : ℕ → Bool) (index : ℕ) → index < fieldCount → walkBy input fuel opening group depth enclosing index .next ≤ fieldCount
+    pub walk-within : (fuel : ℕ) (opening : Opening) (group : Group) (depth : ℕ) (enclosing : ℕ → Bool) (index : ℕ) → index < fieldCount
+        → walkBy input fuel opening group depth enclosing index .next ≤ fieldCount
     walk-within zero opening group depth enclosing index inside = omega arith
     walk-within (suc fuel) outside group depth enclosing index inside = omega arith
     walk-within (suc fuel) too-deep group depth enclosing index inside = inside
@@ -101,7 +106,8 @@ module _ (input : Input) where
     walk-within (suc fuel) entries-follow group depth enclosing index inside =
         entries-within fuel (entryBegins input group enclosing (countAt fields index) 0 (suc index)) group depth enclosing (countAt fields index) 0 (suc index) inside
 
-    entries-within : (fuel : ℕ) (begins : Bool) (group : Group) (depth : ℕ) (enclosing : ℕ → Bool) (declared : Count) (entries cursor : ℕ) → cursor ≤ fieldCount
+    entries-within : (fuel : ℕ) (begins : Bool) (group : Group) (depth : ℕ) (enclosing : ℕ → Bool) (declared : Count) (entries cursor : ℕ)
+        → cursor ≤ fieldCount
         → entriesBy input fuel begins group depth enclosing declared entries cursor .next ≤ fieldCount
     entries-within zero begins group depth enclosing declared entries cursor inside = omega arith
     entries-within (suc fuel) false group depth enclosing declared entries cursor inside = omega arith
@@ -110,7 +116,8 @@ module _ (input : Input) where
         entries-within fuel (entryBegins input group enclosing declared (suc entries) (scan .next)) group depth enclosing declared (suc entries) (scan .next)
         (scan-within fuel (stepAt input true group cursor) true group depth [] cursor refl inside)
 
-    pub scan-within : (fuel : ℕ) (step : Step Group) (atStart : Bool) (group : Group) (depth : ℕ) (seen : List ℕ) (cursor : ℕ) → stepAt input atStart group cursor ≡ step → cursor ≤ fieldCount
+    pub scan-within : (fuel : ℕ) (step : Step Group) (atStart : Bool) (group : Group) (depth : ℕ) (seen : List ℕ) (cursor : ℕ)
+        → stepAt input atStart group cursor ≡ step → cursor ≤ fieldCount
         → scanBy input fuel step group depth seen cursor .next ≤ fieldCount
     scan-within zero step atStart group depth seen cursor steps inside = omega arith
     scan-within (suc fuel) stops atStart group depth seen cursor steps inside = omega arith

@@ -37,7 +37,8 @@ module _ (input : Input) where
 
   -- ---- the clauses of the walk, where its decisions are those along a reading
 
-  group-goes-on : (fuel : ℕ) (group : Group) (depth : ℕ) (around : ℕ → Bool) (index declared : ℕ) → index < fieldCount → depth ≤ depthLimit → countAt fields index ≡ Number declared
+  group-goes-on : (fuel : ℕ) (group : Group) (depth : ℕ) (around : ℕ → Bool) (index declared : ℕ) → index < fieldCount → depth ≤ depthLimit
+      → countAt fields index ≡ Number declared
       → memberLeads input group around (Number declared) (suc index) ≡ false
       → walkWith input (suc fuel) group depth around index
       ≡ wholeGroup layout group depth index (Number declared) false [] (entriesWith input fuel group depth around (Number declared) 0 (suc index))
@@ -46,7 +47,8 @@ module _ (input : Input) where
       let no-lead′ : memberLeads input group around (countAt fields index) (suc index) ≡ false = rw says no-lead in
       rw (openingAt-entries-follow input group depth around index inside shallow no-lead′, says)
 
-  entries-end : (fuel : ℕ) (group : Group) (depth : ℕ) (around : ℕ → Bool) (declared : Count) (before cursor : ℕ) → entryBegins input group around declared before cursor ≡ false
+  entries-end : (fuel : ℕ) (group : Group) (depth : ℕ) (around : ℕ → Bool) (declared : Count) (before cursor : ℕ)
+      → entryBegins input group around declared before cursor ≡ false
       → entriesWith input (suc fuel) group depth around declared before cursor ≡ entriesBehind [] cursor before
   unfolding walkBy
   entries-end fuel group depth around declared before cursor no-other = rw no-other
@@ -85,7 +87,8 @@ module _ (input : Input) where
     mutual
       unfolding readingEvents
 
-      pub reading-walked : {group : Group} {depth : ℕ} {around : ℕ → Bool} {first past : ℕ} (read : Reading input group depth around first past) → Valid group
+      pub reading-walked : {group : Group} {depth : ℕ} {around : ℕ → Bool} {first past : ℕ} (read : Reading input group depth around first past)
+          → Valid group
           → (fuel : ℕ) → 3 * (fieldCount - first) + 1 ≤ fuel
           → walkWith input fuel group depth around first ≡ groupBehind (readingEvents input read) past
       reading-walked (reading entries inside shallow says body follows) valid zero enough = absurd (omega arith)
@@ -132,7 +135,8 @@ module _ (input : Input) where
           item-walked one valid inside fuel (omega arith) false seen (entryStops-goes-on input group first inside member other) fresh ∙ rw (rest-read, counted)
 
       -- one field, then the rest of the entry
-      item-walked : {group : Group} {depth first past : ℕ} (one : Item input group depth first past) → Valid group → first < fieldCount → (fuel : ℕ) → 3 * (fieldCount - first) + 1 ≤ fuel
+      item-walked : {group : Group} {depth first past : ℕ} (one : Item input group depth first past) → Valid group → first < fieldCount → (fuel : ℕ)
+          → 3 * (fieldCount - first) + 1 ≤ fuel
           → (atStart : Bool) (seen : List ℕ) → entryStops input atStart group first ≡ false → tagAt first ∈ᵇ seen ≡ false
           → scanWith input (suc fuel) atStart group depth seen first
           ≡ fieldThen [] false (groupBehind (itemEvents input one) past) (scanWith input fuel false group depth (tagAt first ∷ seen) past)

@@ -1,12 +1,11 @@
 -- What may follow a reading is what ends the walk of its group: `mayFollow` of the grammar against the decisions of the walk. Assumes nothing.
-use mathlib.Core.Path.{_≡_, refl, sym, _∙_}
+use mathlib.Core.Path.{_≡_, refl, _∙_}
 use mathlib.Core.Logic.{_≢_, _⊎_, inl, inr}
 use Prim.Native.Nat.{ℕ, _<_}
 use mathlib.Core.Bool.{Bool, true, false, true≢false, false≢true}
 use native.Mathlib.Omega.{arith}
 use lib.Dec.{ltb, eqb}
 use borrow.Author.Tests.{eqb-true, lt-ltb, eq-eqb, ne-eqb}
-use Rattle.formats.specs.declared.count.Count.{Count}
 use Rattle.formats.specs.declared.count.Count.the-variants.{Number}
 use Rattle.walk.specs.WalkInput.{Layout, Fields, Input}
 use Rattle.walk.specs.GroupReading.{mayFollow, Entries, no-entry, entry}
@@ -17,7 +16,8 @@ use Rattle.walk.specs.GroupStepsLaws.{stopsBy, beginsBy, leadsBy, entryS
 -- ---- over the outcomes of the tests
 
 -- behind an entry: it stopped, and no other begins
-follows-some : (inside member delimits around no-entries : Bool) → stopsBy inside member false delimits ≡ true → beginsBy inside delimits around ≡ false
+follows-some : (inside member delimits around no-entries : Bool) → stopsBy inside member false delimits ≡ true
+    → beginsBy inside delimits around ≡ false
     → followsBy inside member delimits around no-entries ≡ true
 follows-some false member delimits around no-entries stopped no-other = refl
 follows-some true false delimits around no-entries stopped no-other = refl
@@ -36,7 +36,8 @@ follows-none true true false false no-lead no-other = absurd (true≢false no-le
 follows-none true true true false no-lead no-other = absurd (true≢false no-other)
 
 -- the other way round
-begins-not : (inside member delimits around no-entries : Bool) → (delimits ≡ true → member ≡ true) → followsBy inside member delimits around no-entries ≡ true
+begins-not : (inside member delimits around no-entries : Bool) → (delimits ≡ true → member ≡ true)
+    → followsBy inside member delimits around no-entries ≡ true
     → beginsBy inside delimits around ≡ false
 begins-not false member delimits around no-entries rule follows = refl
 begins-not true member false around no-entries rule follows = refl
@@ -45,14 +46,16 @@ begins-not true true true false false rule follows = absurd (false≢true follow
 begins-not true true true false true rule follows = absurd (false≢true follows)
 begins-not true false true false no-entries rule follows = absurd (false≢true (rule refl))
 
-stops-there : (inside member delimits around : Bool) → followsBy inside member delimits around false ≡ true → stopsBy inside member false delimits ≡ true
+stops-there : (inside member delimits around : Bool) → followsBy inside member delimits around false ≡ true
+    → stopsBy inside member false delimits ≡ true
 stops-there false member delimits around follows = refl
 stops-there true false delimits around follows = refl
 stops-there true true true around follows = refl
 stops-there true true false false follows = absurd (false≢true follows)
 stops-there true true false true follows = absurd (false≢true follows)
 
-leads-not : (inside member delimits around : Bool) → followsBy inside member delimits around true ≡ true → leadsBy inside delimits member around ≡ false
+leads-not : (inside member delimits around : Bool) → followsBy inside member delimits around true ≡ true
+    → leadsBy inside delimits member around ≡ false
 leads-not false member delimits around follows = refl
 leads-not true member true around follows = refl
 leads-not true false false around follows = refl
@@ -74,7 +77,8 @@ module _ (input : Input) where
         follows-some (ltb position fieldCount) (isMember group (tagAt position)) (eqb (tagAt position) (delimiter group)) (around (tagAt position)) (eqb entries 0)
         stopped (rw (eq-eqb entries entries refl) at no-other)
 
-    follows-behind-zero : entries ≡ 0 → memberLeads input group around (Number entries) position ≡ false → entryBegins input group around (Number entries) entries position ≡ false
+    follows-behind-zero : entries ≡ 0 → memberLeads input group around (Number entries) position ≡ false
+        → entryBegins input group around (Number entries) entries position ≡ false
         → mayFollow input group around entries position ≡ true
     unfolding mayFollow memberLeads entryBegins
     follows-behind-zero none-there no-lead no-other =
@@ -82,7 +86,8 @@ module _ (input : Input) where
         (follows-none (ltb position fieldCount) (isMember group (tagAt position)) (eqb (tagAt position) (delimiter group)) (around (tagAt position))
         (rw (eq-eqb entries 0 none-there) at no-lead) (rw (eq-eqb entries entries refl) at no-other))
 
-    pub follows-begins-not : (found : ℕ) → isMember group (delimiter group) ≡ true → entries ≡ found → mayFollow input group around entries position ≡ true
+    pub follows-begins-not : (found : ℕ) → isMember group (delimiter group) ≡ true → entries ≡ found
+        → mayFollow input group around entries position ≡ true
         → entryBegins input group around (Number entries) found position ≡ false
     unfolding mayFollow entryBegins
     follows-begins-not found member all-found follows =
@@ -96,7 +101,8 @@ module _ (input : Input) where
         stops-there (ltb position fieldCount) (isMember group (tagAt position)) (eqb (tagAt position) (delimiter group)) (around (tagAt position))
         (rw (ne-eqb entries 0 (omega arith)) at follows)
 
-    follows-leads-not : entries ≡ 0 → mayFollow input group around entries position ≡ true → memberLeads input group around (Number entries) position ≡ false
+    follows-leads-not : entries ≡ 0 → mayFollow input group around entries position ≡ true
+        → memberLeads input group around (Number entries) position ≡ false
     unfolding mayFollow memberLeads
     follows-leads-not none-there follows =
         rw (eq-eqb entries 0 none-there)
@@ -115,14 +121,16 @@ module _ (input : Input) where
       rw all-found at (follows-behind-entry group around entries past stopped no-other)
 
   -- a declared entry that is not yet there begins at its delimiter
-  pub declared-begins : (group : Group) (around : ℕ → Bool) (entries found cursor : ℕ) → entries ≢ found → cursor < fieldCount → tagAt cursor ≡ delimiter group
+  pub declared-begins : (group : Group) (around : ℕ → Bool) (entries found cursor : ℕ) → entries ≢ found → cursor < fieldCount
+      → tagAt cursor ≡ delimiter group
       → entryBegins input group around (Number entries) found cursor ≡ true
   unfolding entryBegins
   declared-begins group around entries found cursor not-all inside delimits =
       rw (lt-ltb cursor fieldCount inside, eq-eqb (tagAt cursor) (delimiter group) delimits, ne-eqb entries found not-all)
 
   -- where the rest of the entries begins, the entry before it stops
-  pub rest-stops : {group : Group} {depth others first past : ℕ} (around : ℕ → Bool) (entries : ℕ) → 0 < entries → Entries input group depth others first past
+  pub rest-stops : {group : Group} {depth others first past : ℕ} (around : ℕ → Bool) (entries : ℕ) → 0 < entries
+      → Entries input group depth others first past
       → mayFollow input group around entries past ≡ true → entryStops input false group first ≡ true
   rest-stops {group = group} around entries some-there (no-entry {past = past} _ same) follows = rw same (follows-stops group around entries past some-there follows)
   rest-stops {group = group} around entries some-there (entry {first = first} _ _ _ _ _ delimits _ _ _) follows = entryStops-delimiter input group first delimits

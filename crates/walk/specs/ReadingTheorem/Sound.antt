@@ -68,14 +68,16 @@ module _ (input : Input) where
   -- ---- one step, from what its parts say
 
   -- a group that ends without a fault has as many entries as declared
-  ended-sound : (group : Group) (depth : ℕ) (same unparseable : Bool) (declared entries : ℕ) → unparseable ≡ false → NoFault (endedBy layout group depth same unparseable declared entries)
+  ended-sound : (group : Group) (depth : ℕ) (same unparseable : Bool) (declared entries : ℕ) → unparseable ≡ false
+      → NoFault (endedBy layout group depth same unparseable declared entries)
       → (same ≡ true) × (endedBy layout group depth same unparseable declared entries ≡ event layout group depth (Leave true entries) ∷ [])
   ended-sound group depth true unparseable declared entries parsed good = (refl, ap (λ wrong. event layout group depth (Leave (not wrong) entries) ∷ []) parsed)
   ended-sound group depth false true declared entries parsed good = absurd (true≢false parsed)
   ended-sound group depth false false declared entries parsed good = absurd (true≢false (good .0))
 
   module _ (group : Group) (depth : ℕ) (around : ℕ → Bool) (index : ℕ) (inside : index < fieldCount) (shallow : depth ≤ depthLimit) where
-    group-ends : (declared : ℕ) (rest : WalkedEntries) → countAt fields index ≡ Number declared → memberLeads input group around (Number declared) (suc index) ≡ false
+    group-ends : (declared : ℕ) (rest : WalkedEntries) → countAt fields index ≡ Number declared
+        → memberLeads input group around (Number declared) (suc index) ≡ false
         → SoundEntries group depth around (Number declared) 0 (suc index) rest → declared ≡ rest .entries
         → ended layout group depth (Number declared) (rest .unparseable) (rest .entries) ≡ event layout group depth (Leave true (rest .entries)) ∷ []
         → SoundGroup group depth around index (wholeGroup layout group depth index (Number declared) false [] rest)
@@ -90,7 +92,8 @@ module _ (input : Input) where
           same = cc (sound .same, left, all-found, found);
         }
 
-    group-step : (declared : Count) (rest : WalkedEntries) → countAt fields index ≡ declared → memberLeads input group around declared (suc index) ≡ false
+    group-step : (declared : Count) (rest : WalkedEntries) → countAt fields index ≡ declared
+        → memberLeads input group around declared (suc index) ≡ false
         → (NoFault (rest .events) → SoundEntries group depth around declared 0 (suc index) rest)
         → NoFault (wholeGroup layout group depth index declared false [] rest .events)
         → SoundGroup group depth around index (wholeGroup layout group depth index declared false [] rest)
@@ -137,7 +140,8 @@ module _ (input : Input) where
     stopped = others .stopped;
   }
 
-  first-step : (group : Group) (depth cursor : ℕ) (field : WalkedGroup) (rest : ScannedEntry) → (NoFault (field .events) → SoundItem group depth cursor field)
+  first-step : (group : Group) (depth cursor : ℕ) (field : WalkedGroup) (rest : ScannedEntry)
+      → (NoFault (field .events) → SoundItem group depth cursor field)
       → (NoFault (rest .events) → SoundRest group depth (tagAt cursor ∷ []) (field .next) rest)
       → NoFault (field .events ++ rest .events) → SoundEntry group depth cursor (fieldThen [] false field rest)
   first-step group depth cursor field rest field-sound rest-sound good =
@@ -146,7 +150,8 @@ module _ (input : Input) where
       (rest-sound (noFault-right (rest .events) (field .events) good))
 
   -- a further field, then the rest of the entry
-  item-joined : (group : Group) (depth : ℕ) (seen : List ℕ) (cursor : ℕ) (field : WalkedGroup) (rest : ScannedEntry) → entryStops input false group cursor ≡ false
+  item-joined : (group : Group) (depth : ℕ) (seen : List ℕ) (cursor : ℕ) (field : WalkedGroup) (rest : ScannedEntry)
+      → entryStops input false group cursor ≡ false
       → tagAt cursor ∈ᵇ seen ≡ false → SoundItem group depth cursor field → SoundRest group depth (tagAt cursor ∷ seen) (field .next) rest
       → SoundRest group depth seen cursor (fieldThen [] false field rest)
   unfolding readingEvents
@@ -174,7 +179,8 @@ module _ (input : Input) where
       (field-sound (noFault-left (field .events) (rest (tagAt cursor ∷ seen) .events) good))
       (rest-sound (noFault-right (rest (tagAt cursor ∷ seen) .events) (field .events) good))
 
-  plain-sound : (group : Group) (depth cursor : ℕ) → nestedGroup group (tagAt cursor) ≡ none → SoundItem group depth cursor (record { events = []; next = suc cursor })
+  plain-sound : (group : Group) (depth cursor : ℕ) → nestedGroup group (tagAt cursor) ≡ none
+      → SoundItem group depth cursor (record { events = []; next = suc cursor })
   unfolding readingEvents
   plain-sound group depth cursor none-nested = record { read = plain none-nested refl; same = refl }
 
@@ -184,7 +190,8 @@ module _ (input : Input) where
   nested-sound group inner depth cursor walk found sound = record { read = nested inner found (sound .read); same = sound .same }
 
   -- where nothing more is taken
-  none-begins : (group : Group) (depth : ℕ) (around : ℕ → Bool) (declared : Count) (before cursor : ℕ) → entryBegins input group around declared before cursor ≡ false
+  none-begins : (group : Group) (depth : ℕ) (around : ℕ → Bool) (declared : Count) (before cursor : ℕ)
+      → entryBegins input group around declared before cursor ≡ false
       → SoundEntries group depth around declared before cursor (record { events = []; next = cursor; unparseable = false; entries = before })
   unfolding readingEvents
   none-begins group depth around declared before cursor no-other =
@@ -235,8 +242,10 @@ module _ (input : Input) where
           (entries-sound fuel (entryBegins input group around declared (suc before) (scan .next)) group depth around declared (suc before) (scan .next) valid refl
           (noFault-right _ (scan .events) good .1))
 
-      entry-sound : (fuel : ℕ) (step : Step Group) (group : Group) (depth cursor : ℕ) → Valid group → stepAt input true group cursor ≡ step → entryStops input true group cursor ≡ false
-          → NoFault (scanBy input fuel step group depth [] cursor .events) → SoundEntry group depth cursor (scanBy input fuel step group depth [] cursor)
+      entry-sound : (fuel : ℕ) (step : Step Group) (group : Group) (depth cursor : ℕ) → Valid group → stepAt input true group cursor ≡ step
+          → entryStops input true group cursor ≡ false
+          → NoFault (scanBy input fuel step group depth [] cursor .events)
+          → SoundEntry group depth cursor (scanBy input fuel step group depth [] cursor)
       entry-sound zero step group depth cursor valid steps goes-on good = absurd (true≢false (good .0))
       entry-sound (suc fuel) stops group depth cursor valid steps goes-on good = absurd (true≢false (sym (stepAt-tells input true group cursor .stopping steps) ∙ goes-on))
       entry-sound (suc fuel) plain-field group depth cursor valid steps goes-on good =
@@ -254,8 +263,10 @@ module _ (input : Input) where
           (λ rest-good. rest-sound fuel (stepAt input false group (walk .next)) group depth (tagAt cursor ∷ []) (walk .next) valid refl rest-good)
           good
 
-      rest-sound : (fuel : ℕ) (step : Step Group) (group : Group) (depth : ℕ) (seen : List ℕ) (cursor : ℕ) → Valid group → stepAt input false group cursor ≡ step
-          → NoFault (scanBy input fuel step group depth seen cursor .events) → SoundRest group depth seen cursor (scanBy input fuel step group depth seen cursor)
+      rest-sound : (fuel : ℕ) (step : Step Group) (group : Group) (depth : ℕ) (seen : List ℕ) (cursor : ℕ) → Valid group
+          → stepAt input false group cursor ≡ step
+          → NoFault (scanBy input fuel step group depth seen cursor .events)
+          → SoundRest group depth seen cursor (scanBy input fuel step group depth seen cursor)
       rest-sound zero step group depth seen cursor valid steps good = absurd (true≢false (good .0))
       rest-sound (suc fuel) stops group depth seen cursor valid steps good = nothing-left group depth seen cursor (stepAt-tells input false group cursor .stopping steps)
       rest-sound (suc fuel) plain-field group depth seen cursor valid steps good =

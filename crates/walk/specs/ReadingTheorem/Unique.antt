@@ -52,13 +52,15 @@ module _ (input : Input) (rules : LayoutRules (input .layout)) where
       ap (λ walk. walk .next)
       (sym (reading-walked input rules read valid (3 * (fieldCount - first) + 1) (omega arith)) ∙ reading-walked input rules read′ valid (3 * (fieldCount - first) + 1) (omega arith))
 
-  items-end : {group : Group} {depth : ℕ} {seen : List ℕ} {first past past′ : ℕ} → Items input group depth seen first past → Items input group depth seen first past′ → Valid group
+  items-end : {group : Group} {depth : ℕ} {seen : List ℕ} {first past past′ : ℕ} → Items input group depth seen first past
+      → Items input group depth seen first past′ → Valid group
       → entryStops input false group past ≡ true → entryStops input false group past′ ≡ true → past ≡ past′
   items-end {first = first} items items′ valid stopped stopped′ =
       ap (λ scan. scan .next)
       (sym (items-walked input rules items valid stopped (3 * (fieldCount - first) + 2) (omega arith)) ∙ items-walked input rules items′ valid stopped′ (3 * (fieldCount - first) + 2) (omega arith))
 
-  item-ends : {group : Group} {depth first past past′ : ℕ} → Item input group depth first past → Item input group depth first past′ → Valid group → past ≡ past′
+  item-ends : {group : Group} {depth first past past′ : ℕ} → Item input group depth first past → Item input group depth first past′ → Valid group
+      → past ≡ past′
   item-ends (plain _ passed) (plain _ passed′) valid = omega arith
   item-ends (plain nothing _) (nested inner found _) valid = absurd (none-or-some nothing found)
   item-ends (nested inner found _) (plain nothing _) valid = absurd (none-or-some nothing found)
@@ -130,7 +132,8 @@ module _ (input : Input) (rules : LayoutRules (input .layout)) where
   -- ---- one derivation
 
   mutual
-    pub reading-unique : {group : Group} {depth : ℕ} {around : ℕ → Bool} {first past : ℕ} (read read′ : Reading input group depth around first past) → Valid group → read ≡ read′
+    pub reading-unique : {group : Group} {depth : ℕ} {around : ℕ → Bool} {first past : ℕ} (read read′ : Reading input group depth around first past)
+        → Valid group → read ≡ read′
     reading-unique {around = around} (reading entries inside shallow says body follows) (reading entries′ inside′ shallow′ says′ body′ follows′) valid =
         reading-path entries inside shallow says body follows (λ other. entries-unique body other valid around entries (omega arith) follows) entries′ inside′ shallow′ says′ body′ follows′
 
@@ -174,5 +177,6 @@ module _ (input : Input) (rules : LayoutRules (input .layout)) where
 
   -- ---- the end and the derivation together
 
-  pub one-reading : {group : Group} {depth : ℕ} {around : ℕ → Bool} {first : ℕ} → Valid group → IsProp ((past : ℕ) × Reading input group depth around first past)
+  pub one-reading : {group : Group} {depth : ℕ} {around : ℕ → Bool} {first : ℕ} → Valid group
+      → IsProp ((past : ℕ) × Reading input group depth around first past)
   one-reading valid this that = Σ-prop-path (λ past read read′. reading-unique read read′ valid) (reading-ends (this .1) (that .1) valid)
