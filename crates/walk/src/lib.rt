@@ -1,4 +1,4 @@
 // The walk over the fields of a message: groups and their entries.
-pub mod entry_tags;
-pub mod event;
-pub mod field_table;
+mod entry_tags;
+mod event;
+mod field_table;
