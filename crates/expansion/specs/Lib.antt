@@ -1,0 +1,3 @@
+-- Definitions and laws of the crate `expansion`: a dictionary as a tree, and the layout that a message type of it has. A definition's laws
+-- stand in the file of its name with `Laws`, its examples in the one with `Cases`.
+pub mod Dictionary

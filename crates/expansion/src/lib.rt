@@ -1,0 +1,1 @@
+// The expansion of a message type: from the definitions of a dictionary to the layout of a message.
