@@ -1,3 +1,5 @@
 -- Definitions and laws of the crate `expansion`: a dictionary as a tree, and the layout that a message type of it has. A definition's laws
 -- stand in the file of its name with `Laws`, its examples in the one with `Cases`.
 pub mod Dictionary
+pub mod Expansion
+pub mod ExpansionCases
