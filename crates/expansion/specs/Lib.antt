@@ -3,3 +3,5 @@
 pub mod Dictionary
 pub mod Expansion
 pub mod ExpansionCases
+pub mod ExpansionInduction
+pub mod ExpansionLaws
