@@ -5,3 +5,4 @@ pub mod Expansion
 pub mod ExpansionCases
 pub mod ExpansionInduction
 pub mod ExpansionLaws
+pub mod ExpansionRules
