@@ -6,3 +6,4 @@ pub mod ExpansionCases
 pub mod ExpansionInduction
 pub mod ExpansionLaws
 pub mod ExpansionRules
+pub mod ExpansionLimits
