@@ -3,9 +3,62 @@
 use crate::group::{GroupSet, GroupSpec, SpecError};
 use crate::schema::{Dictionary, GroupDef, Member, MessageDef};
 use crate::scope::{Level, ScopeBuilder};
-use crate::texts::TextLevel;
 use crate::validator::{MAX_SCOPE_NODES, ValidationError, resolve};
 use std::fmt::Write;
+
+/// A level of a layout: its tags and its groups, and nothing else. Any level
+/// can be written so, whatever rule it breaks.
+#[derive(Debug, Clone, Default, PartialEq, Eq)]
+pub struct PlainLevel {
+    pub members: Vec<u32>,
+    pub required: Vec<u32>,
+    pub groups: Vec<PlainGroup>,
+}
+
+/// A group of such a level.
+#[derive(Debug, Clone, PartialEq, Eq)]
+pub struct PlainGroup {
+    pub count_tag: u32,
+    pub delimiter_tag: u32,
+    pub required: bool,
+    pub entry: PlainLevel,
+}
+
+impl PlainLevel {
+    /// The count tags of the level's groups, in their order.
+    pub fn count_tags(&self) -> Vec<u32> {
+        self.groups.iter().map(|group| group.count_tag).collect()
+    }
+
+    /// How many members this level and all levels below have.
+    pub fn all_members(&self) -> usize {
+        let below = self.groups.iter().map(|group| group.entry.all_members());
+        self.members.len() + below.sum::<usize>()
+    }
+
+    /// How many entries the required lists of this level and of all levels
+    /// below have.
+    pub fn all_required(&self) -> usize {
+        let below = self.groups.iter().map(|group| group.entry.all_required());
+        self.required.len() + below.sum::<usize>()
+    }
+}
+
+impl From<&Level> for PlainLevel {
+    fn from(level: &Level) -> Self {
+        let groups = level.groups.iter().map(|group| PlainGroup {
+            count_tag: group.count_tag,
+            delimiter_tag: group.delimiter_tag,
+            required: group.required,
+            entry: Self::from(&group.entry),
+        });
+        Self {
+            members: level.members.clone(),
+            required: level.required.iter().map(|(tag, _)| *tag).collect(),
+            groups: groups.collect(),
+        }
+    }
+}
 
 /// The expansion of one message type.
 pub struct Expansion<'d> {
@@ -38,6 +91,11 @@ pub fn expand<'d>(dict: &'d Dictionary, msg_type: &str) -> Result<Expansion<'d>,
 }
 
 impl Expansion<'_> {
+    /// The layout.
+    pub fn layout(&self) -> PlainLevel {
+        PlainLevel::from(&self.level)
+    }
+
     /// The nodes spent.
     ///
     /// The Rust does not give them out. They are what is left of its limit
@@ -69,20 +127,19 @@ impl Expansion<'_> {
 /// The lines of an expansion: the nodes spent, then each level.
 pub fn expansion_lines(expansion: &Expansion<'_>) -> String {
     let mut text = format!("nodes={}\n", expansion.nodes());
-    level_lines(&expansion.level, "top", &mut text);
+    level_lines(&expansion.layout(), "top", &mut text);
     text
 }
 
 /// A level's members, required list and groups, then the level of each group,
 /// named by the count tags from the top.
-fn level_lines(level: &Level, name: &str, text: &mut String) {
-    let required: Vec<u32> = level.required.iter().map(|(tag, _)| *tag).collect();
+fn level_lines(level: &PlainLevel, name: &str, text: &mut String) {
     let _ = writeln!(
         text,
         "level={name} members={} required={} groups={}",
         list(&level.members),
-        list(&required),
-        list(&level.group_tags),
+        list(&level.required),
+        list(&level.count_tags()),
     );
     for group in &level.groups {
         let name = match name {
@@ -99,18 +156,18 @@ fn level_lines(level: &Level, name: &str, text: &mut String) {
     }
 }
 
-/// An expansion as a layout text.
-pub fn layout_text(expansion: &Expansion<'_>) -> String {
+/// A layout as a layout text.
+pub fn layout_text(layout: &PlainLevel) -> String {
     let mut text = String::new();
-    level_text(&expansion.level, &mut text);
+    level_text(layout, &mut text);
     text
 }
 
-fn level_text(level: &Level, text: &mut String) {
+fn level_text(level: &PlainLevel, text: &mut String) {
     for tag in &level.members {
         let _ = writeln!(text, "member={tag}");
     }
-    for (tag, _) in &level.required {
+    for tag in &level.required {
         let _ = writeln!(text, "required={tag}");
     }
     for group in &level.groups {
@@ -160,7 +217,7 @@ pub struct HandMade {
 
 /// Builds a hand-made layout with the Rust's constructors, which look at the
 /// rules.
-pub fn hand_made(level: &TextLevel) -> Result<HandMade, SpecError> {
+pub fn hand_made(level: &PlainLevel) -> Result<HandMade, SpecError> {
     let set = GroupSet::with_level_tags(groups_of(level)?, leak(level.members.clone()))?;
     let groups = level.groups.iter();
     Ok(HandMade {
@@ -174,7 +231,7 @@ pub fn hand_made(level: &TextLevel) -> Result<HandMade, SpecError> {
 }
 
 /// The specs of a level's groups, the nested ones first.
-fn groups_of(level: &TextLevel) -> Result<&'static [GroupSpec<'static>], SpecError> {
+fn groups_of(level: &PlainLevel) -> Result<&'static [GroupSpec<'static>], SpecError> {
     let mut specs = Vec::new();
     for group in &level.groups {
         let nested = groups_of(&group.entry)?;
@@ -194,8 +251,8 @@ fn leak<T>(list: Vec<T>) -> &'static [T] {
     Box::leak(list.into_boxed_slice())
 }
 
-/// Document 01's rule and tag of a broken rule: the count tag of the group
-/// whose rule it is, 0 for the top.
+/// Document 01's rule and tag of a rule that the Rust found broken: the count
+/// tag of the group whose rule it is, 0 for the top.
 pub fn broken_rule(error: SpecError) -> (u64, u32) {
     match error {
         SpecError::UnsortedMembers { count_tag } => (1, count_tag),

@@ -3,7 +3,7 @@
 use oracle::events::Event;
 use oracle::layouts::{self, HandMade};
 use oracle::walks::{self, Top};
-use oracle::{cases, hex, texts, values, verdicts};
+use oracle::{cases, hex, reader, texts, values, verdicts};
 use std::io::{self, Read, Write};
 use std::process::ExitCode;
 
@@ -15,9 +15,12 @@ fn main() -> ExitCode {
         ["cases", "counts"] => Ok(count_cases()),
         ["values"] => input().and_then(|lines| value_answers(&lines)),
         ["counts"] => input().and_then(|lines| count_answers(&lines)),
+        ["dictionary-text", text] => file(text).map(|text| dictionary_answer(&text) + "\n"),
+        ["layout-text", text] => {
+            file(text).and_then(|text| layout_answer(&text).map(|answer| answer + "\n"))
+        }
         ["layout", dict, msg_type] => layout(dict, msg_type),
-        ["layout-text", dict, msg_type] => layout_text(dict, msg_type),
-        ["rules", layout] => rules(layout),
+        ["expanded-text", dict, msg_type] => expanded_text(dict, msg_type),
         ["events", "message", dict, msg] => message_events(dict, msg),
         ["events", "group", dict, msg, position, count] => group_events(dict, msg, position, count),
         ["events", "layout-message", layout, dict, msg] => layout_message_events(layout, dict, msg),
@@ -48,9 +51,10 @@ const USAGE: &str = "usage: oracle COMMAND
   cases values | cases counts   the cases of the recorded lists
   values                        lines `TYPE HEX` from standard input
   counts                        lines `HEX` from standard input
+  dictionary-text FILE          `accepted LINES` or `refused N P`
+  layout-text FILE              the same for a layout text
   layout DICT TYPE
-  layout-text DICT TYPE         the same as a layout text
-  rules LAYOUT
+  expanded-text DICT TYPE       the same layout as a layout text
   events message DICT MSG
   events group DICT MSG POSITION COUNT
   events layout-message LAYOUT DICT MSG
@@ -123,21 +127,42 @@ fn file(path: &str) -> Result<Vec<u8>, String> {
     std::fs::read(path).map_err(|error| format!("{path}: {error}"))
 }
 
+/// `accepted LINES` or `refused N P` for a dictionary text.
+fn dictionary_answer(text: &[u8]) -> String {
+    match reader::dictionary(text) {
+        Ok(lines) => format!("accepted {}", lines.len()),
+        Err(refusal) => refusal.recorded(),
+    }
+}
+
+/// The same for a layout text. The rules are asked of the Rust too.
+fn layout_answer(text: &[u8]) -> Result<String, String> {
+    let answer = reader::layout(text);
+    if let Ok((top, _)) = reader::ruleless_layout(text) {
+        let rust = layouts::hand_made(&top).err().map(layouts::broken_rule);
+        let own = reader::broken_rule(&top);
+        if rust != own {
+            return Err(format!("the Rust says {rust:?} is broken, not {own:?}"));
+        }
+    }
+    Ok(match answer {
+        Ok((_, lines)) => format!("accepted {lines}"),
+        Err(refusal) => refusal.recorded(),
+    })
+}
+
 fn dictionary(path: &str) -> Result<oracle::schema::Dictionary, String> {
-    texts::dictionary(&file(path)?).map_err(|error| format!("{path}: {error}"))
+    texts::dictionary(&file(path)?).map_err(|refusal| format!("{path}: {refusal}"))
 }
 
 fn message(path: &str) -> Result<texts::Message, String> {
-    texts::message(&file(path)?).map_err(|error| format!("{path}: {error}"))
+    texts::message(&file(path)?).map_err(|refusal| format!("{path}: {refusal}"))
 }
 
-/// A hand-made layout, or the line that says which rule is broken.
-fn hand_made(path: &str) -> Result<Result<HandMade, String>, String> {
-    let level = texts::layout(&file(path)?).map_err(|error| format!("{path}: {error}"))?;
-    Ok(layouts::hand_made(&level).map_err(|error| {
-        let (rule, tag) = layouts::broken_rule(error);
-        format!("refused=11 place={}\n", (rule << 32) + u64::from(tag))
-    }))
+/// A hand-made layout.
+fn hand_made(path: &str) -> Result<HandMade, String> {
+    let level = texts::layout(&file(path)?).map_err(|refusal| format!("{path}: {refusal}"))?;
+    layouts::hand_made(&level).map_err(|error| format!("{path}: {error}"))
 }
 
 fn layout(dict: &str, msg_type: &str) -> Result<String, String> {
@@ -147,17 +172,10 @@ fn layout(dict: &str, msg_type: &str) -> Result<String, String> {
     })
 }
 
-fn layout_text(dict: &str, msg_type: &str) -> Result<String, String> {
+fn expanded_text(dict: &str, msg_type: &str) -> Result<String, String> {
     Ok(match layouts::expand(&dictionary(dict)?, msg_type) {
-        Ok(expansion) => layouts::layout_text(&expansion),
+        Ok(expansion) => layouts::layout_text(&expansion.layout()),
         Err(refused) => layouts::refusal_lines(&refused),
-    })
-}
-
-fn rules(layout: &str) -> Result<String, String> {
-    Ok(match hand_made(layout)? {
-        Ok(_) => "accepted\n".to_string(),
-        Err(refused) => refused,
     })
 }
 
@@ -186,14 +204,8 @@ fn group_events(dict: &str, msg: &str, position: &str, count: &str) -> Result<St
 
 fn layout_message_events(layout: &str, dict: &str, msg: &str) -> Result<String, String> {
     let (layout, dict, msg) = (hand_made(layout)?, dictionary(dict)?, message(msg)?);
-    Ok(match layout {
-        Ok(layout) => event_lines(&walks::message_walk(
-            &msg.fields(),
-            &dict,
-            Top::HandMade(&layout),
-        )),
-        Err(refused) => refused,
-    })
+    let events = walks::message_walk(&msg.fields(), &dict, Top::HandMade(&layout));
+    Ok(event_lines(&events))
 }
 
 fn layout_group_events(
@@ -203,10 +215,7 @@ fn layout_group_events(
     count: &str,
 ) -> Result<String, String> {
     let (layout, msg) = (hand_made(layout)?, message(msg)?);
-    match layout {
-        Ok(layout) => group_lines(&msg, position, count, Top::HandMade(&layout)),
-        Err(refused) => Ok(refused),
-    }
+    group_lines(&msg, position, count, Top::HandMade(&layout))
 }
 
 /// The events of a group walk, then the position behind the group.

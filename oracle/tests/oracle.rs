@@ -6,7 +6,7 @@ use oracle::schema::{Dictionary, FieldType};
 use oracle::validator::ValidationError;
 use oracle::values::{self, FIELD_TYPES};
 use oracle::walks::{self, Top};
-use oracle::{cases, hex, texts, verdicts};
+use oracle::{cases, hex, reader, texts, verdicts};
 
 /// Lines parted by spaces.
 fn lines(text: &str) -> Vec<u8> {
@@ -346,7 +346,7 @@ fn deep_has_the_depth_the_group_would_have_had() {
 #[test]
 fn seven_rules() {
     let broken = |text: &str| {
-        let level = texts::layout(&lines(text)).expect("an accepted layout text");
+        let (level, _) = reader::ruleless_layout(&lines(text)).expect("an accepted layout text");
         layouts::broken_rule(layouts::hand_made(&level).err().expect("a broken rule"))
     };
     let group = |inner: &str| format!("member=9 group=9,1,0 {inner} end=9");
@@ -447,7 +447,7 @@ fn message_walks_agree_with_the_validator() {
         let walked = walks::checked_message_walk(&msg.fields(), &dict, "D", &expansion)
             .unwrap_or_else(|error| panic!("{text}: {error}"));
         // The same layout by the Rust's other constructors.
-        let layout = hand_made(&layouts::layout_text(&expansion));
+        let layout = hand_made(&layouts::layout_text(&expansion.layout()));
         assert_eq!(
             walks::message_walk(&msg.fields(), &dict, Top::HandMade(&layout)),
             walked
