@@ -1,5 +1,6 @@
 #!/usr/bin/env bash
-# Builds the oracle and writes the recorded lists anew to crates/replay/data/.
+# Builds the oracle and writes anew the recorded lists in crates/replay/data/
+# and what `gatelist` prints of the messages in examples/.
 set -euo pipefail
 cd "$(dirname "$0")"
 
@@ -23,3 +24,15 @@ record() {
 
 record is_valid_value.cases values
 record parse_count.cases counts
+
+# list DICT MSG: what `gatelist` prints, beside the message.
+list() {
+    "$oracle" list "../examples/$1.dict" "../examples/$2.msg" >"../examples/$2.list"
+}
+
+for message in new-order-single allocation-instruction market-data-snapshot; do
+    list "fix44/$message" "fix44/$message"
+done
+for message in whole allocation-lost fields-out-of-entry count-lies nested-count-lies; do
+    list block-order/block-order "block-order/$message"
+done
