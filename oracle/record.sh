@@ -24,6 +24,8 @@ record() {
 
 record is_valid_value.cases values
 record parse_count.cases counts
+record read_dictionary.cases dictionary-texts
+record read_layout.cases layout-texts
 
 # list DICT MSG: what `gatelist` prints, beside the message.
 list() {

@@ -25,13 +25,17 @@ mod walk;
 mod composition;
 
 // The oracle's own.
+pub mod answers;
+pub mod case_text;
 pub mod cases;
 pub mod events;
 pub mod hex;
 pub mod layouts;
 pub mod lines;
+pub mod numbers;
 pub mod reader;
 pub mod refusal;
+pub mod text_cases;
 pub mod texts;
 pub mod values;
 pub mod verdicts;

@@ -6,7 +6,7 @@ use crate::values::FIELD_TYPES;
 
 /// The names of the field types, spelled as the Rust's variants, in their
 /// order.
-const TYPE_NAMES: [&str; 34] = [
+pub const TYPE_NAMES: [&str; 34] = [
     "Int",
     "Length",
     "SeqNum",

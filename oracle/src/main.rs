@@ -1,9 +1,10 @@
 //! The commands of the oracle; see README.md.
 
+use oracle::answers::{self, Kind};
 use oracle::events::Event;
 use oracle::layouts::{self, HandMade};
 use oracle::walks::{self, Top};
-use oracle::{cases, hex, reader, texts, values, verdicts};
+use oracle::{texts, verdicts};
 use std::io::{self, Read, Write};
 use std::process::ExitCode;
 
@@ -11,13 +12,15 @@ fn main() -> ExitCode {
     let arguments: Vec<String> = std::env::args().skip(1).collect();
     let words: Vec<&str> = arguments.iter().map(String::as_str).collect();
     let answer = match words.as_slice() {
-        ["cases", "values"] => Ok(value_cases()),
-        ["cases", "counts"] => Ok(count_cases()),
-        ["values"] => input().and_then(|lines| value_answers(&lines)),
-        ["counts"] => input().and_then(|lines| count_answers(&lines)),
-        ["dictionary-text", text] => file(text).map(|text| dictionary_answer(&text) + "\n"),
+        ["cases", kind] if let Some(kind) = Kind::named(kind) => Ok(kind.cases()),
+        [kind] if let Some(kind) = Kind::named(kind) => {
+            input().and_then(|cases| kind.answers(&cases))
+        }
+        ["dictionary-text", text] => {
+            file(text).map(|text| answers::dictionary_answer(&text) + "\n")
+        }
         ["layout-text", text] => {
-            file(text).and_then(|text| layout_answer(&text).map(|answer| answer + "\n"))
+            file(text).and_then(|text| answers::layout_answer(&text).map(|answer| answer + "\n"))
         }
         ["layout", dict, msg_type] => layout(dict, msg_type),
         ["expanded-text", dict, msg_type] => expanded_text(dict, msg_type),
@@ -48,9 +51,9 @@ fn main() -> ExitCode {
 }
 
 const USAGE: &str = "usage: oracle COMMAND
-  cases values | cases counts   the cases of the recorded lists
-  values                        lines `TYPE HEX` from standard input
-  counts                        lines `HEX` from standard input
+  cases KIND | KIND             the cases of a recorded list; the answers to
+                                the cases on standard input. KIND is one of
+    values counts dictionary-texts layout-texts
   dictionary-text FILE          `accepted LINES` or `refused N P`
   layout-text FILE              the same for a layout text
   layout DICT TYPE
@@ -71,84 +74,8 @@ fn input() -> Result<String, String> {
     Ok(text)
 }
 
-fn value_cases() -> String {
-    cases::value_cases()
-        .into_iter()
-        .map(|(field_type, value)| {
-            format!("{} {}\n", values::name_of(field_type), hex::encode(&value))
-        })
-        .collect()
-}
-
-fn count_cases() -> String {
-    cases::count_cases()
-        .into_iter()
-        .map(|value| format!("{}\n", hex::encode(&value)))
-        .collect()
-}
-
-/// `TYPE HEX` gives `T HEX P S`: the type's number, the value, the Rust's
-/// answer and the strict answer.
-fn value_answers(lines: &str) -> Result<String, String> {
-    let mut answers = String::new();
-    for line in lines.lines() {
-        let (name, value) = line
-            .split_once(' ')
-            .ok_or_else(|| format!("`{line}` is not `TYPE HEX`"))?;
-        let field_type = values::field_type_named(name)
-            .ok_or_else(|| format!("`{name}` is not a field type"))?;
-        let bytes = hex::decode(value)?;
-        answers.push_str(&format!(
-            "{:02} {} {} {}\n",
-            values::number_of(field_type),
-            hex::encode(&bytes),
-            u8::from(values::is_valid_value(field_type, &bytes)),
-            u8::from(values::is_strictly_valid_value(field_type, &bytes)),
-        ));
-    }
-    Ok(answers)
-}
-
-/// `HEX` gives `HEX ANSWER`: the count, or `none`.
-fn count_answers(lines: &str) -> Result<String, String> {
-    let mut answers = String::new();
-    for line in lines.lines() {
-        let bytes = hex::decode(line)?;
-        let answer = match values::parse_count(&bytes) {
-            Some(count) => count.to_string(),
-            None => "none".to_string(),
-        };
-        answers.push_str(&format!("{} {answer}\n", hex::encode(&bytes)));
-    }
-    Ok(answers)
-}
-
 fn file(path: &str) -> Result<Vec<u8>, String> {
     std::fs::read(path).map_err(|error| format!("{path}: {error}"))
-}
-
-/// `accepted LINES` or `refused N P` for a dictionary text.
-fn dictionary_answer(text: &[u8]) -> String {
-    match reader::dictionary(text) {
-        Ok(lines) => format!("accepted {}", lines.len()),
-        Err(refusal) => refusal.recorded(),
-    }
-}
-
-/// The same for a layout text. The rules are asked of the Rust too.
-fn layout_answer(text: &[u8]) -> Result<String, String> {
-    let answer = reader::layout(text);
-    if let Ok((top, _)) = reader::ruleless_layout(text) {
-        let rust = layouts::hand_made(&top).err().map(layouts::broken_rule);
-        let own = reader::broken_rule(&top);
-        if rust != own {
-            return Err(format!("the Rust says {rust:?} is broken, not {own:?}"));
-        }
-    }
-    Ok(match answer {
-        Ok((_, lines)) => format!("accepted {lines}"),
-        Err(refusal) => refusal.recorded(),
-    })
 }
 
 fn dictionary(path: &str) -> Result<oracle::schema::Dictionary, String> {

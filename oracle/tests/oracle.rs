@@ -1,12 +1,14 @@
 //! The oracle on document 01's own examples, and on itself.
 
+use oracle::answers::Kind;
 use oracle::events::{DEEP, Event};
 use oracle::layouts::{self, Expansion, HandMade, Refused};
+use oracle::numbers::Numbers;
 use oracle::schema::{Dictionary, FieldType};
 use oracle::validator::ValidationError;
 use oracle::values::{self, FIELD_TYPES};
 use oracle::walks::{self, Top};
-use oracle::{cases, hex, reader, texts, verdicts};
+use oracle::{reader, texts, verdicts};
 
 /// Lines parted by spaces.
 fn lines(text: &str) -> Vec<u8> {
@@ -392,38 +394,25 @@ fn errors_are_worded_as_in_the_rust() {
     assert_eq!(error.to_string(), "missing required field MsgType(35)");
 }
 
-/// A small generator of numbers, the same on every run.
-struct Numbers(u64);
-
-impl Numbers {
-    fn below(&mut self, limit: u64) -> u64 {
-        self.0 = self
-            .0
-            .wrapping_mul(6_364_136_223_846_793_005)
-            .wrapping_add(1_442_695_040_888_963_407);
-        (self.0 >> 33) % limit
+/// A body over tags 1 to 9, groups nested to that depth.
+fn body(numbers: &mut Numbers, depth: u64) -> String {
+    let mut text = String::new();
+    for _ in 0..numbers.below(4) {
+        text += &format!("field={},{} ", 1 + numbers.below(9), numbers.below(2));
     }
-
-    /// A body over tags 1 to 9, groups nested to that depth.
-    fn body(&mut self, depth: u64) -> String {
-        let mut text = String::new();
-        for _ in 0..self.below(4) {
-            text += &format!("field={},{} ", 1 + self.below(9), self.below(2));
-        }
-        for _ in 0..if depth == 0 { 0 } else { self.below(3) } {
-            let tag = 1 + self.below(9);
-            let head = format!("group={tag},{},{} ", 1 + self.below(9), self.below(2));
-            text += &format!("{head}{}end={tag} ", self.body(depth - 1));
-        }
-        text
+    for _ in 0..if depth == 0 { 0 } else { numbers.below(3) } {
+        let tag = 1 + numbers.below(9);
+        let head = format!("group={tag},{},{} ", 1 + numbers.below(9), numbers.below(2));
+        text += &format!("{head}{}end={tag} ", body(numbers, depth - 1));
     }
+    text
 }
 
 /// The loop of `Validator::validate` was written again for the recorder; it
 /// and the Rust's own say the same of many messages.
 #[test]
 fn message_walks_agree_with_the_validator() {
-    let mut numbers = Numbers(1);
+    let mut numbers = Numbers::new(1);
     let mut events = 0;
     for _ in 0..20_000 {
         let mut text = String::new();
@@ -432,9 +421,9 @@ fn message_walks_agree_with_the_validator() {
                 text += &format!("def={tag},String ");
             }
         }
-        text += &format!("begin=header {}end=header ", numbers.body(1));
+        text += &format!("begin=header {}end=header ", body(&mut numbers, 1));
         text += "begin=trailer field=10,1 end=trailer ";
-        text += &format!("message=D,app {}end=D", numbers.body(3));
+        text += &format!("message=D,app {}end=D", body(&mut numbers, 3));
         let dict = dictionary(&text);
         let expansion = expansion(&dict, "D");
         let msg: String = (0..numbers.below(12))
@@ -459,37 +448,20 @@ fn message_walks_agree_with_the_validator() {
 
 #[test]
 fn the_recorded_lists_are_the_oracles_answers() {
-    let read = |name: &str| {
-        let path = format!("{}/../crates/replay/data/{name}", env!("CARGO_MANIFEST_DIR"));
-        std::fs::read_to_string(path).expect("a recorded list")
-    };
-    let values: Vec<String> = cases::value_cases()
-        .into_iter()
-        .map(|(field_type, value)| {
-            format!(
-                "{:02} {} {} {}",
-                values::number_of(field_type),
-                hex::encode(&value),
-                u8::from(values::is_valid_value(field_type, &value)),
-                u8::from(values::is_strictly_valid_value(field_type, &value)),
-            )
-        })
-        .collect();
-    let counts: Vec<String> = cases::count_cases()
-        .into_iter()
-        .map(|value| {
-            let count = values::parse_count(&value);
-            let answer = count.map_or("none".to_string(), |count| count.to_string());
-            format!("{} {answer}", hex::encode(&value))
-        })
-        .collect();
-    for (name, answers) in [
-        ("is_valid_value.cases", values),
-        ("parse_count.cases", counts),
-    ] {
-        let list = read(name);
+    for (kind, _, file) in Kind::ALL {
+        let path = format!(
+            "{}/../crates/replay/data/{file}",
+            env!("CARGO_MANIFEST_DIR")
+        );
+        let list = std::fs::read_to_string(path).expect("a recorded list");
         let recorded: Vec<&str> = list.lines().filter(|line| !line.starts_with('#')).collect();
-        assert!(recorded == answers, "{name} is not what the oracle says");
-        assert!(list.contains(&format!("# cases {}\n", answers.len())));
+        let answers = kind.answers(&kind.cases()).expect("answers");
+        let answers: Vec<&str> = answers.lines().collect();
+        assert!(recorded == answers, "{file} is not what the oracle says");
+        let longest = recorded.iter().map(|line| line.len()).max();
+        assert!(
+            longest <= Some(60_000),
+            "{file} has a line of {longest:?} bytes"
+        );
     }
 }
