@@ -5,6 +5,7 @@ use std::num::wrapping_add_u64;
 pub enum CaseList {
     Values,
     Counts,
+    DictionaryTexts,
 }
 
 // How one case went.

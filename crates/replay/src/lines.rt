@@ -5,6 +5,7 @@ use crate::cases::CaseList;
 use crate::cases::Replayed;
 use crate::cases::Tally;
 use crate::count_cases;
+use crate::text_cases;
 use crate::value_cases;
 use ascii::split::find;
 use libc::STDOUT_FILENO;
@@ -115,6 +116,7 @@ fn replay_case(line: &[u8], list: CaseList) -> Replayed {
     match list {
         CaseList::Values => value_cases::replay(line),
         CaseList::Counts => count_cases::replay(line),
+        CaseList::DictionaryTexts => text_cases::replay(line),
     }
 }
 

@@ -3,6 +3,7 @@ mod cases;
 mod count_cases;
 mod hex;
 mod lines;
+mod text_cases;
 mod value_cases;
 
 use crate::cases::CaseList;
@@ -14,6 +15,8 @@ fn main() {
     print_tally(b"is_valid_value, plain and strict: ", values);
     let counts = lines::replay_file(b"parse_count.cases", CaseList::Counts);
     print_tally(b"parse_count: ", counts);
+    let dictionaries = lines::replay_file(b"read_dictionary.cases", CaseList::DictionaryTexts);
+    print_tally(b"check_dictionary_text: ", dictionaries);
 }
 
 // One line: the name of the call, the cases, those that differ and those whose line is of no known form.
