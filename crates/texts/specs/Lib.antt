@@ -12,3 +12,6 @@ pub mod LineFormsCases
 pub mod DictionaryText
 pub mod DictionaryTextLaws
 pub mod DictionaryTextCases
+pub mod LayoutText
+pub mod LayoutTextLaws
+pub mod LayoutTextCases

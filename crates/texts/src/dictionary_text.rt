@@ -129,7 +129,7 @@ fn used(state: State) -> State
     }
 }
 
-fn is_number(name: u32, number: Number32) -> bool
+pub fn is_number(name: u32, number: Number32) -> bool
     ensures { λ answer. ⌜ answer ≡ isNumber name number ⌝ }
 {
     match number {

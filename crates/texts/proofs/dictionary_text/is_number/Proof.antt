@@ -12,7 +12,7 @@ enum-known-number c = search needs
 enum-told : tie.Need-enum-told
 enum-told c = search needs
 
--- fn is_number(name: u32, number: Number32) -> bool
+-- pub fn is_number(name: u32, number: Number32) -> bool
 returns : tie.Need-returns
 returns c = rw (c .before .number .given .1)
 
