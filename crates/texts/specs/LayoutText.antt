@@ -16,15 +16,15 @@ use Rattle.texts.specs.declared.line.Line.{Line}
 use Rattle.texts.specs.declared.line.Line.the-variants.{Def, Value, BeginHeader, BeginTrailer, EndHeader, EndTrailer, Component, Message, Field, Group, Use, End, Member, RequiredTag, Unknown}
 use Rattle.texts.specs.declared.line_parts.Number32.{Number32}
 use Rattle.texts.specs.declared.line_parts.Number32.the-variants.{Number, NoNumber}
-use Rattle.texts.specs.declared.dictionary_text.Fault.{Fault}
-use Rattle.texts.specs.declared.dictionary_text.Fault.the-variants.{NoFault, Faulty}
+use Rattle.texts.specs.declared.dictionary_order.Fault.{Fault}
+use Rattle.texts.specs.declared.dictionary_order.Fault.the-variants.{NoFault, Faulty}
 use Rattle.texts.specs.declared.layout_text.LevelState.{LevelState}
 use Rattle.texts.specs.declared.layout_text.LevelStep.{LevelStep}
 use Rattle.texts.specs.declared.layout_text.LayoutTextOutcome.{LayoutTextOutcome}
 use Rattle.texts.specs.declared.layout_text.LayoutTextOutcome.the-variants.{Ordered, Unordered}
 use Rattle.texts.specs.Lines.{Pieces, last, piece, linesOf}
 use Rattle.texts.specs.LineForms.{lineOf}
-use Rattle.texts.specs.DictionaryText.{isNumber}
+use Rattle.texts.specs.DictionaryOrder.{isNumber}
 
 -- ---- what was read last of the innermost open level; where a group block has closed, that is a group block
 

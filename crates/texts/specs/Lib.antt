@@ -9,6 +9,8 @@ pub mod LinePartsCases
 pub mod LineForms
 pub mod LineFormsLaws
 pub mod LineFormsCases
+pub mod DictionaryOrder
+pub mod DictionaryOrderLaws
 pub mod DictionaryText
 pub mod DictionaryTextLaws
 pub mod DictionaryTextCases

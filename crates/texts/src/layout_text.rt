@@ -1,6 +1,6 @@
 // The layout text: the order of its lines.
-use crate::dictionary_text::Fault;
-use crate::dictionary_text::is_number;
+use crate::dictionary_order::Fault;
+use crate::dictionary_order::is_number;
 use crate::line::Line;
 use crate::line::line_of;
 use crate::line_parts::Number32;
