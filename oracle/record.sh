@@ -9,23 +9,36 @@ oracle=target/release/oracle
 recorded=../crates/replay/data
 mkdir -p "$recorded"
 
-# record FILE KIND: the answers to `oracle cases KIND`, behind the head.
+# record FILE KIND CASE: the answers to `oracle cases KIND`, behind the head. A
+# line that begins with CASE is a case; by default any line is.
 record() {
-    local file=$recorded/$1 kind=$2 answers
+    local file=$recorded/$1 kind=$2 case=${3-} answers
     answers=$("$oracle" cases "$kind" | "$oracle" "$kind")
     {
         echo "# IronFix c1e4a6b327"
         echo "# recorded by oracle/record.sh: oracle cases $kind | oracle $kind"
-        echo "# cases $(wc -l <<<"$answers")"
+        echo "# cases $(grep -c "^$case" <<<"$answers")"
+        if [ "$kind" = walks ]; then kinds <<<"$answers"; fi
         echo "$answers"
     } >"$file"
     sed -n 3p "$file" | sed "s|^#|$1:|"
+}
+
+# How often each kind of event stands in walks.
+kinds() {
+    awk '
+        /^walk/ { for (word = 5; word <= NF; word += 5) count[$word]++ }
+        END {
+            split("enter badcount delim repeat close miscount deep leave", name, " ")
+            for (kind = 1; kind <= 8; kind++) print "# kind " kind " " name[kind] " " count[kind] + 0
+        }'
 }
 
 record is_valid_value.cases values
 record parse_count.cases counts
 record read_dictionary.cases dictionary-texts
 record read_layout.cases layout-texts
+record walk_group.cases walks walk
 
 # list DICT MSG: what `gatelist` prints, beside the message.
 list() {

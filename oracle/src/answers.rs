@@ -3,8 +3,11 @@
 //! with its answer behind it.
 
 use crate::case_text::CaseText;
-use crate::reader;
-use crate::{cases, hex, layouts, text_cases, values};
+use crate::layouts::HandMade;
+use crate::walks::Top;
+use crate::{arrangement, cases, hex, layouts, reader, text_cases, values, walk_cases, walks};
+use ironfix_core::field::FieldRef;
+use std::str::FromStr;
 
 /// The kinds of recorded lists.
 #[derive(Debug, Clone, Copy, PartialEq, Eq)]
@@ -17,11 +20,13 @@ pub enum Kind {
     DictionaryTexts,
     /// Reading layout texts.
     LayoutTexts,
+    /// `walk_group`.
+    Walks,
 }
 
 impl Kind {
     /// Each kind, with its name and the file of its list.
-    pub const ALL: [(Self, &'static str, &'static str); 4] = [
+    pub const ALL: [(Self, &'static str, &'static str); 5] = [
         (Self::Values, "values", "is_valid_value.cases"),
         (Self::Counts, "counts", "parse_count.cases"),
         (
@@ -30,6 +35,7 @@ impl Kind {
             "read_dictionary.cases",
         ),
         (Self::LayoutTexts, "layout-texts", "read_layout.cases"),
+        (Self::Walks, "walks", "walk_group.cases"),
     ];
 
     pub fn named(name: &str) -> Option<Self> {
@@ -44,6 +50,7 @@ impl Kind {
             Self::Counts => count_cases(),
             Self::DictionaryTexts => text_lines(&text_cases::dictionary_cases()),
             Self::LayoutTexts => text_lines(&text_cases::layout_cases()),
+            Self::Walks => walk_cases::walk_cases(),
         }
     }
 
@@ -58,6 +65,7 @@ impl Kind {
             Self::Counts => count_answers(cases),
             Self::DictionaryTexts => text_answers(cases, |text| Ok(dictionary_answer(text))),
             Self::LayoutTexts => text_answers(cases, layout_answer),
+            Self::Walks => walk_answers(cases),
         }
     }
 }
@@ -155,4 +163,90 @@ pub fn layout_answer(text: &[u8]) -> Result<String, String> {
         Ok((_, lines)) => format!("accepted {lines}"),
         Err(refusal) => refusal.recorded(),
     })
+}
+
+/// A `walk` line gives itself, the position behind the walk and the words of
+/// its events. It is asked of the `layout`, `message` and `fields` above it.
+fn walk_answers(lines: &str) -> Result<String, String> {
+    let mut answers = String::new();
+    let mut layout: Option<HandMade> = None;
+    let mut message = Vec::new();
+    let mut table = Table::default();
+    for line in lines.lines() {
+        let (key, rest) = line.split_once(' ').unwrap_or((line, ""));
+        answers.push_str(line);
+        match key {
+            "layout" => {
+                let words: Vec<u32> = numbers(rest)?;
+                let plain = arrangement::layout(&words).ok_or("not the words of a layout")?;
+                layout = Some(layouts::hand_made(&plain).map_err(|error| error.to_string())?);
+            }
+            "message" => message = hex::decode(rest)?,
+            "fields" => table = Table::new(&numbers(rest)?, &message)?,
+            "walk" => {
+                let words: Vec<u64> = numbers(rest)?;
+                let (&[position, count_tag], Some(layout)) = (words.as_slice(), &layout) else {
+                    return Err(format!(
+                        "`{line}` is not `walk POSITION COUNT` behind a layout"
+                    ));
+                };
+                let count_tag = u32::try_from(count_tag).map_err(|error| error.to_string())?;
+                let top = Top::HandMade(layout);
+                let walk = walks::group_walk(&table.fields(), position as usize, count_tag, top);
+                let (events, behind) = walk.ok_or_else(|| format!("no group {count_tag}"))?;
+                answers.push_str(&format!(" {behind}"));
+                for word in events.iter().flat_map(|event| event.0) {
+                    answers.push_str(&format!(" {word}"));
+                }
+            }
+            _ if line.starts_with('#') => {}
+            _ => return Err(format!("`{line}` is of no known form")),
+        }
+        answers.push('\n');
+    }
+    Ok(answers)
+}
+
+/// A field table whose values are copied, each with a byte behind it: the
+/// recording visitor knows a field by the address of its value, and rows may
+/// share their bytes.
+#[derive(Default)]
+struct Table {
+    bytes: Vec<u8>,
+    rows: Vec<(u32, usize, usize)>,
+}
+
+impl Table {
+    fn new(words: &[u32], message: &[u8]) -> Result<Self, String> {
+        let (rows, rest) = words.as_chunks::<3>();
+        if !rest.is_empty() {
+            return Err("fields are not in threes".to_string());
+        }
+        let mut table = Self::default();
+        for &[tag, first, end] in rows {
+            let value = message.get(first as usize..end as usize);
+            let value = value.ok_or_else(|| format!("no bytes {first} to {end}"))?;
+            let start = table.bytes.len();
+            table.bytes.extend_from_slice(value);
+            table.rows.push((tag, start, table.bytes.len()));
+            table.bytes.push(0);
+        }
+        Ok(table)
+    }
+
+    fn fields(&self) -> Vec<FieldRef<'_>> {
+        let rows = self.rows.iter();
+        rows.map(|&(tag, first, end)| FieldRef {
+            tag,
+            value: &self.bytes[first..end],
+        })
+        .collect()
+    }
+}
+
+/// Decimal numbers with a space between them, or nothing.
+fn numbers<N: FromStr>(text: &str) -> Result<Vec<N>, String> {
+    let words = text.split(' ').filter(|_| !text.is_empty());
+    let numbers = words.map(|word| word.parse().map_err(|_| format!("`{word}` is no number")));
+    numbers.collect()
 }

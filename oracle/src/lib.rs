@@ -26,6 +26,7 @@ mod composition;
 
 // The oracle's own.
 pub mod answers;
+pub mod arrangement;
 pub mod case_text;
 pub mod cases;
 pub mod events;
@@ -39,4 +40,5 @@ pub mod text_cases;
 pub mod texts;
 pub mod values;
 pub mod verdicts;
+pub mod walk_cases;
 pub mod walks;
