@@ -6,6 +6,7 @@ pub enum CaseList {
     Values,
     Counts,
     DictionaryTexts,
+    LayoutTexts,
 }
 
 // How one case went.

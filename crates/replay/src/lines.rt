@@ -116,7 +116,8 @@ fn replay_case(line: &[u8], list: CaseList) -> Replayed {
     match list {
         CaseList::Values => value_cases::replay(line),
         CaseList::Counts => count_cases::replay(line),
-        CaseList::DictionaryTexts => text_cases::replay(line),
+        CaseList::DictionaryTexts => text_cases::replay_dictionary(line),
+        CaseList::LayoutTexts => text_cases::replay_layout(line),
     }
 }
 

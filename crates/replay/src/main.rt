@@ -17,6 +17,8 @@ fn main() {
     print_tally(b"parse_count: ", counts);
     let dictionaries = lines::replay_file(b"read_dictionary.cases", CaseList::DictionaryTexts);
     print_tally(b"check_dictionary_text: ", dictionaries);
+    let layouts = lines::replay_file(b"read_layout.cases", CaseList::LayoutTexts);
+    print_tally(b"check_layout_text: ", layouts);
 }
 
 // One line: the name of the call, the cases, those that differ and those whose line is of no known form.

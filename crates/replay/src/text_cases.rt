@@ -1,5 +1,5 @@
-// Cases of `check_dictionary_text`: a text, then `accepted` and its number of lines, or `refused` with the number and the place. A text is
-// its bytes in hexadecimal, or pieces `@N HEX`: the bytes N times, one behind the other.
+// Cases of `check_dictionary_text` and `check_layout_text`: a text, then `accepted` and its number of lines, or `refused` with the number
+// and the place. A text is its bytes in hexadecimal, or pieces `@N HEX`: the bytes N times, one behind the other.
 ghost use Prim.Native.Nat.{_+_, _≤_, _<_};
 ghost use lib.ListN.{length};
 use crate::cases::Replayed;
@@ -9,6 +9,8 @@ use formats::count::Count;
 use formats::count::parse_count;
 use texts::dictionary_text::TextOutcome;
 use texts::dictionary_text::check_dictionary_text;
+use texts::layout_text::LayoutTextOutcome;
+use texts::layout_text::check_layout_text;
 use texts::refusal::Refusal;
 use texts::refusal::number_of;
 use texts::refusal::place_of;
@@ -21,7 +23,7 @@ pub struct Filled {
 
 const NO_FORM: usize = 0xffff_ffff;
 
-pub fn replay(line: &[u8]) -> Replayed {
+pub fn replay_dictionary(line: &[u8]) -> Replayed {
     let mut text = [0u8; 140000];
     let filled = fill_text(line, &mut text);
     let size = filled.size;
@@ -33,6 +35,21 @@ pub fn replay(line: &[u8]) -> Replayed {
         return Replayed::Unread;
     }
     same_outcome(check_dictionary_text(&text[0..size]), &line[next..])
+}
+
+// The order of a layout text's lines; a text that is refused with 10 or 11 has its lines in order.
+pub fn replay_layout(line: &[u8]) -> Replayed {
+    let mut text = [0u8; 140000];
+    let filled = fill_text(line, &mut text);
+    let size = filled.size;
+    let next = filled.next;
+    if 140000 < size {
+        return Replayed::Unread;
+    }
+    if line.len() < next {
+        return Replayed::Unread;
+    }
+    same_order(check_layout_text(&text[0..size]), &line[next..])
 }
 
 // Puts the text at the front of the buffer.
@@ -153,6 +170,33 @@ fn same_outcome(outcome: TextOutcome, recorded: &[u8]) -> Replayed {
             same_refusal(refusal, &recorded[rest..]),
         ),
     }
+}
+
+// Whether the order of the lines is the one recorded.
+fn same_order(outcome: LayoutTextOutcome, recorded: &[u8]) -> Replayed {
+    let first = find(recorded, 0, b' ');
+    if recorded.len() <= first {
+        return Replayed::Unread;
+    }
+    let rest = first + 1;
+    match outcome {
+        LayoutTextOutcome::Ordered(lines) => same_when(
+            true,
+            is_ordered(lines, recorded[0], &recorded[rest..]),
+        ),
+        LayoutTextOutcome::Unordered(refusal) => same_when(
+            recorded[0] == b'r',
+            same_refusal(refusal, &recorded[rest..]),
+        ),
+    }
+}
+
+// Recorded as accepted with so many lines, or refused with a number of two digits: 10 or 11.
+fn is_ordered(lines: u64, kind: u8, recorded: &[u8]) -> bool {
+    if kind == b'a' {
+        return same_number(lines, recorded);
+    }
+    find(recorded, 0, b' ') == 2
 }
 
 fn same_when(kind: bool, number: bool) -> Replayed {
