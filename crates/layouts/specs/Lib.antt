@@ -14,6 +14,3 @@ pub mod LayoutCheckRules
 pub mod LayoutCheckSound
 pub mod LayoutCheckComplete
 pub mod LayoutCases
-pub mod Members
-pub mod MembersLaws
-pub mod MembersLayout
