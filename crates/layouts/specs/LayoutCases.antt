@@ -6,9 +6,11 @@ use mathlib.Core.Bool.{true, false, _&&_}
 use mathlib.Core.List.{List, [], _∷_, _++_}
 use lib.ListN.{set}
 use Rattle.ascii.specs.Bytes.{nonEmpty, every}
+use Rattle.sorting.specs.Sort.{isIn}
+use Rattle.sorting.specs.Search.{isStrictlyAbove, isStrictlyAscending}
 use Rattle.layouts.specs.Limits.{gateLimits}
 use Rattle.layouts.specs.Layout.{Layout, level-of, no-groups, group-and, group-of, groupsBelow, levelOrder, allGroups, joined}
-use Rattle.layouts.specs.LayoutRules.{isAscendingFrom, _∈ᵇ_, everyGroup, meetsRules, meetsLimits}
+use Rattle.layouts.specs.LayoutRules.{everyGroup, meetsRules, meetsLimits}
 use Rattle.layouts.specs.LayoutWords.{placesFrom, arrangedParts, arranged, stretch, stretches}
 use Rattle.layouts.specs.LayoutCheck.{neverFalls, isRun, isAhead, memberPlacesHold, requiredPlacesHold, groupPlacesHold, isLevel, levelsHold, delimitersHold, allLevelsHold, allDelimitersHold, isLayoutOf, isLayout}
 
@@ -46,7 +48,7 @@ pub record Cases : Type 0 where
   pub word-missing-fails : isLayout gateLimits (set partiesWords 6 20) ≡ false
 
 pub cases : Cases
-unfolding groupsBelow levelOrder allGroups joined isAscendingFrom _∈ᵇ_ everyGroup meetsRules placesFrom arrangedParts arranged stretch stretches neverFalls isRun isAhead memberPlacesHold requiredPlacesHold groupPlacesHold isLevel levelsHold delimitersHold allLevelsHold allDelimitersHold isLayoutOf isLayout nonEmpty every
+unfolding groupsBelow levelOrder allGroups joined isStrictlyAbove isStrictlyAscending isIn everyGroup meetsRules placesFrom arrangedParts arranged stretch stretches neverFalls isRun isAhead memberPlacesHold requiredPlacesHold groupPlacesHold isLevel levelsHold delimitersHold allLevelsHold allDelimitersHold isLayoutOf isLayout nonEmpty every
 cases = record {
   parties-arranged = refl;
   parties-meet = refl;

@@ -13,6 +13,7 @@ use Rattle.ascii.specs.Notation.{if_then_else_}
 use Rattle.ascii.specs.NotationLaws.{and-left, and-right}
 use Rattle.ascii.specs.Bytes.{every}
 use Rattle.ascii.specs.BytesLaws.{drop-step, nonEmpty-none, nonEmpty-some}
+use Rattle.sorting.specs.Sort.{isIn}
 use Rattle.layouts.specs.Limits.{Limits}
 use Rattle.layouts.specs.LayoutRules.{_∈ᵇ_}
 use Rattle.layouts.specs.LayoutRulesLaws.{metAmong, metAmong-level, member-first, member-later}
@@ -181,7 +182,7 @@ member-begins tag members = record { within = omega arith; passed = refl }
 
 module _ (tag : ℕ) (members : List ℕ) (index : ℕ) (so-far : MemberSoFar tag members index) where
   pub member-ends : length members ≤ index → tag ∈ᵇ members ≡ false
-  unfolding _∈ᵇ_
+  unfolding isIn
   member-ends over = so-far .passed ∙ rw (drop-of-length-le members over)
 
   module _ (inside : index < length members) where

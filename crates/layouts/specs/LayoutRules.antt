@@ -3,8 +3,8 @@
 -- 7 each group's count tag a member." Rules 1 to 4 are those of `GroupSpec::with_level_tags` (group.rs), 5 to 7 those of
 -- `MessageLayout::new`. Assumes nothing.
 --
---   isAscending tags           each tag is greater than the one before
---   tag ∈ᵇ tags                the tag is one of the tags
+--   isAscending tags           each tag is greater than the one before (`isStrictlyAscending` of the crate sorting)
+--   tag ∈ᵇ tags                the tag is one of the tags (`isIn` of the crate sorting)
 --   areAmong members tags      each of the tags is one of the members
 --   rule1 group .. rule7 top   the rules
 --   meetsRules layout          the top meets rules 5 to 7 and every group of every level rules 1 to 4
@@ -17,21 +17,17 @@ use mathlib.Core.List.{List, [], _∷_, List·Memᴰ}
 use lib.ListN.{length}
 use Rattle.ascii.specs.Notation.{_≤ᵇ_, _≡ᵇ_}
 use Rattle.ascii.specs.Bytes.{every}
+use Rattle.sorting.specs.Sort.{isIn}
+use Rattle.sorting.specs.Search.{isStrictlyAscending}
 use Rattle.layouts.specs.Limits.{Limits}
 use Rattle.layouts.specs.Layout.{Level, Groups, Group, Layout, level-of, no-groups, group-and, group-of, membersOf, countTagsOf, countTag, delimiter, entry, allGroups, allMembers, allRequired}
 
--- from `least` on: the first tag is at least that, each further one greater than the one before
-unfoldable pub isAscendingFrom : ℕ → List ℕ → Bool
-isAscendingFrom least [] = true
-isAscendingFrom least (tag ∷ rest) = least ≤ᵇ tag && isAscendingFrom (suc tag) rest
-
 abbrev pub isAscending : List ℕ → Bool
-isAscending tags = isAscendingFrom 0 tags
+isAscending tags = isStrictlyAscending tags
 
 infix 50 _∈ᵇ_
-unfoldable pub _∈ᵇ_ : ℕ → List ℕ → Bool
-tag ∈ᵇ [] = false
-tag ∈ᵇ (first ∷ rest) = first ≡ᵇ tag || tag ∈ᵇ rest
+abbrev pub _∈ᵇ_ : ℕ → List ℕ → Bool
+tag ∈ᵇ tags = isIn tag tags
 
 abbrev pub areAmong : List ℕ → List ℕ → Bool
 areAmong members tags = every (λ tag. tag ∈ᵇ members) tags

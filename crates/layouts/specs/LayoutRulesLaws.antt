@@ -2,19 +2,21 @@
 -- Assumes nothing.
 --
 --   metAmong least members tags   whether tags are met, in their order, among members that ascend from `least` on
-use mathlib.Core.Path.{_≡_, refl, sym, _∙_}
+use mathlib.Core.Path.{_≡_, refl, sym, ap, ap₂, _∙_}
 use Prim.Native.Nat.{ℕ, zero, suc, _≤_, _<_}
 use mathlib.Core.Bool.{Bool, true, false, _&&_, false≢true}
 use mathlib.Core.List.{List, [], _∷_}
 use native.Mathlib.Omega.{arith}
 use native.Mathlib.Decide.{ℕ-discrete}
 use lib.ListN.{length, getD}
-use lib.Dec.{leb}
-use borrow.Author.Tests.{le-leb, leb-true, eq-eqb, ne-eqb}
+use lib.Dec.{leb, ltb}
+use borrow.Author.Tests.{le-leb, leb-true, lt-ltb, ltb-true, eq-eqb, ne-eqb}
 use Rattle.ascii.specs.Notation.{_≤ᵇ_, _≡ᵇ_, if_then_else_}
 use Rattle.ascii.specs.NotationLaws.{and-left, and-right, and-both}
 use Rattle.ascii.specs.Bytes.{every}
-use Rattle.layouts.specs.LayoutRules.{isAscendingFrom, isAscending, _∈ᵇ_, areAmong}
+use Rattle.sorting.specs.Sort.{isIn}
+use Rattle.sorting.specs.Search.{isStrictlyAbove, isStrictlyAscending}
+use Rattle.layouts.specs.LayoutRules.{isAscending, _∈ᵇ_, areAmong}
 
 -- two tests that hold in the same cases are equal
 pub same-test : (a b : Bool) → (a ≡ true → b ≡ true) → (b ≡ true → a ≡ true) → a ≡ b
@@ -22,7 +24,25 @@ same-test true b to back = sym (to refl)
 same-test false true to back = back refl
 same-test false false to back = refl
 
--- ---- isAscendingFrom
+-- ---- isAscending
+
+-- from `least` on: the first tag is at least that, each further one greater than the one before
+unfoldable pub isAscendingFrom : ℕ → List ℕ → Bool
+isAscendingFrom least [] = true
+isAscendingFrom least (tag ∷ rest) = least ≤ᵇ tag && isAscendingFrom (suc tag) rest
+
+ascending-above : (low : ℕ) (tags : List ℕ) → isAscendingFrom (suc low) tags ≡ isStrictlyAbove low tags
+unfolding isAscendingFrom isStrictlyAbove
+ascending-above low [] = refl
+ascending-above low (tag ∷ rest) =
+    ap₂ (λ (a b : Bool). a && b)
+    (same-test (leb (suc low) tag) (ltb low tag) (λ holds. lt-ltb low tag (leb-true (suc low) tag holds)) (λ holds. le-leb (suc low) tag (ltb-true low tag holds)))
+    (ascending-above tag rest)
+
+pub ascending-all : (tags : List ℕ) → isAscendingFrom 0 tags ≡ isAscending tags
+unfolding isAscendingFrom isStrictlyAscending
+ascending-all [] = refl
+ascending-all (tag ∷ rest) = rw (le-leb 0 tag (omega arith)) (ascending-above tag rest)
 
 pub ascending-lower : (lower least : ℕ) (tags : List ℕ) → lower ≤ least → isAscendingFrom least tags ≡ true → isAscendingFrom lower tags ≡ true
 unfolding isAscendingFrom
@@ -49,12 +69,12 @@ ascending-pair least (tag ∷ rest) holds (suc i) (suc j) before inside =
 -- ---- _∈ᵇ_
 
 pub member-first : (tag first : ℕ) (rest : List ℕ) → first ≡ tag → tag ∈ᵇ (first ∷ rest) ≡ true
-unfolding _∈ᵇ_
-member-first tag first rest same = rw (_∈ᵇ_, eq-eqb first tag same)
+unfolding isIn
+member-first tag first rest same = rw (isIn, eq-eqb first tag same)
 
 pub member-later : (tag first : ℕ) (rest : List ℕ) → (first ≡ tag → ⊥) → tag ∈ᵇ (first ∷ rest) ≡ tag ∈ᵇ rest
-unfolding _∈ᵇ_
-member-later tag first rest other = rw (_∈ᵇ_, ne-eqb first tag other)
+unfolding isIn
+member-later tag first rest other = rw (isIn, ne-eqb first tag other)
 
 pub member-more : (tag first : ℕ) (rest : List ℕ) → tag ∈ᵇ rest ≡ true → tag ∈ᵇ (first ∷ rest) ≡ true
 member-more tag first rest holds = go (ℕ-discrete first tag)
@@ -65,7 +85,7 @@ member-more tag first rest holds = go (ℕ-discrete first tag)
 
 -- no tag below `least` is among members that ascend from there
 pub member-least : (tag least : ℕ) (members : List ℕ) → isAscendingFrom least members ≡ true → tag ∈ᵇ members ≡ true → least ≤ tag
-unfolding isAscendingFrom _∈ᵇ_
+unfolding isAscendingFrom isIn
 member-least tag least [] ascend holds = absurd (false≢true holds)
 member-least tag least (first ∷ rest) ascend holds = go (member-least tag (suc first) rest (and-right (leb least first) _ ascend)) (ℕ-discrete first tag)
   where
@@ -83,7 +103,7 @@ pub record MemberAt (tag : ℕ) (members : List ℕ) : Type 0 where
   pub found : getD members index 0 ≡ tag
 
 pub member-at : (tag : ℕ) (members : List ℕ) → tag ∈ᵇ members ≡ true → MemberAt tag members
-unfolding _∈ᵇ_
+unfolding isIn
 member-at tag [] holds = absurd (false≢true holds)
 member-at tag (first ∷ rest) holds = go (member-at tag rest) (ℕ-discrete first tag)
   where
@@ -204,7 +224,7 @@ met-holds least (member ∷ rest) (tag ∷ tags) holds =
     go above found with-tag without (no other) = from-first least member rest (tag ∷ tags) above (without (rw (ne-eqb tag member other) at found))
 
 pub holds-met : (least : ℕ) (members tags : List ℕ) → Met least members tags → metAmong least members tags ≡ true
-unfolding metAmong isAscendingFrom every _∈ᵇ_
+unfolding metAmong isAscendingFrom every isIn
 holds-met least [] [] met = refl
 holds-met least [] (tag ∷ tags) met = met .among
 holds-met least (member ∷ rest) [] met =
@@ -262,10 +282,11 @@ pub metAmong-level : (members tags : List ℕ) → metAmong 0 members tags ≡ i
 metAmong-level members tags =
     same-test
     (metAmong 0 members tags)
-    (isAscending members && isAscending tags && areAmong members tags)
+    (isAscendingFrom 0 members && isAscendingFrom 0 tags && areAmong members tags)
     (λ holds. let met = met-holds 0 members tags holds in rw (met .members-ascend, met .tags-ascend, met .among))
     (λ hold. holds-met 0 members tags (record {
-      members-ascend = and-left (isAscending members) _ (and-left (isAscending members && isAscending tags) _ hold);
-      tags-ascend = and-right (isAscending members) (isAscending tags) (and-left (isAscending members && isAscending tags) _ hold);
-      among = and-right (isAscending members && isAscending tags) _ hold;
+      members-ascend = and-left (isAscendingFrom 0 members) _ (and-left (isAscendingFrom 0 members && isAscendingFrom 0 tags) _ hold);
+      tags-ascend = and-right (isAscendingFrom 0 members) (isAscendingFrom 0 tags) (and-left (isAscendingFrom 0 members && isAscendingFrom 0 tags) _ hold);
+      among = and-right (isAscendingFrom 0 members && isAscendingFrom 0 tags) _ hold;
     }))
+    ∙ rw (ascending-all members, ascending-all tags)
