@@ -10,12 +10,12 @@
 --   meetsRules layout          the top meets rules 5 to 7 and every group of every level rules 1 to 4
 --   BrokenAt layout rule tag   "the rule given is broken at the tag given": by a group of that count tag, or by the top, whose tag is 0
 --   meetsLimits limits layout  no more members and no more required tags in all than the limits allow
-use Prim.Native.Nat.{ℕ, suc}
+use Prim.Native.Nat.{ℕ}
 use mathlib.Core.Path.{_≡_}
-use mathlib.Core.Bool.{Bool, true, false, _&&_, _||_}
-use mathlib.Core.List.{List, [], _∷_, List·Memᴰ}
+use mathlib.Core.Bool.{Bool, true, false, _&&_}
+use mathlib.Core.List.{List, List·Memᴰ}
 use lib.ListN.{length}
-use Rattle.ascii.specs.Notation.{_≤ᵇ_, _≡ᵇ_}
+use Rattle.ascii.specs.Notation.{_≤ᵇ_}
 use Rattle.ascii.specs.Bytes.{every}
 use Rattle.sorting.specs.Sort.{isIn}
 use Rattle.sorting.specs.Search.{isStrictlyAscending}

@@ -14,3 +14,5 @@ pub mod LayoutCheckRules
 pub mod LayoutCheckSound
 pub mod LayoutCheckComplete
 pub mod LayoutCases
+pub mod Members
+pub mod MembersLaws

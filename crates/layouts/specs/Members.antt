@@ -1,0 +1,42 @@
+-- A level of a layout and its members (document 01, 'The layout of a message type'): "A level's members are handed out as a part of the
+-- layout's own words, not copied; a level is named by its count tags from the top, and 14 with an empty part is given if there is none, its
+-- place the first count tag not found; 11 comes with an empty part too." The empty name is the top. Assumes nothing.
+--
+--   nestedLevel words number tag       the number of the entry level of the group with that count tag in the level of that number, if any
+--   levelAlong words number path       where the count tags of the path lead from the level of that number
+--   levelOutcome limits words path     where they lead from the top of lent words; 11, place 0, where the words are no layout's
+--   levelPart limits words path        the members that are handed out, none where the path leads nowhere
+use Prim.Native.Nat.{ℕ, _+_}
+use mathlib.Core.List.{List, [], _∷_}
+use Rattle.ascii.specs.Notation.{if_then_else_}
+use Rattle.sorting.specs.declared.search.Found.{Found}
+use Rattle.sorting.specs.declared.search.Found.the-variants.{At, Nothing}
+use Rattle.sorting.specs.Search.{rankIn}
+use Rattle.texts.specs.declared.refusal.Refusal.the-variants.{RuleBroken, NoSuchGroup}
+use Rattle.layouts.specs.declared.members.LevelOutcome.{LevelOutcome}
+use Rattle.layouts.specs.declared.members.LevelOutcome.the-variants.{Reached, Refused}
+use Rattle.layouts.specs.Limits.{Limits}
+use Rattle.layouts.specs.LayoutWords.{levelMembers, levelCountTags, firstGroup}
+use Rattle.layouts.specs.LayoutCheck.{isLayout}
+
+-- the entry level of group `number` is level `number + 1`
+abbrev pub entryFrom : ℕ → Found → Found
+entryFrom first (At rank) = At (first + rank + 1)
+entryFrom first Nothing = Nothing
+
+unfoldable pub nestedLevel : List ℕ → ℕ → ℕ → Found
+nestedLevel words number tag = entryFrom (firstGroup words number) (rankIn (levelCountTags words number) tag)
+
+unfoldable pub levelAlong : List ℕ → ℕ → List ℕ → LevelOutcome
+levelAlong words number [] = Reached number
+levelAlong words number (tag ∷ path) = elim (nestedLevel words number tag) [ At next ↦ levelAlong words next path | Nothing ↦ Refused (NoSuchGroup tag) ]
+
+unfoldable pub levelOutcome : Limits → List ℕ → List ℕ → LevelOutcome
+levelOutcome limits words path = if isLayout limits words then levelAlong words 0 path else Refused (RuleBroken 0 0)
+
+abbrev pub membersReached : List ℕ → LevelOutcome → List ℕ
+membersReached words (Reached number) = levelMembers words number
+membersReached words (Refused refusal) = []
+
+unfoldable pub levelPart : Limits → List ℕ → List ℕ → List ℕ
+levelPart limits words path = membersReached words (levelOutcome limits words path)
