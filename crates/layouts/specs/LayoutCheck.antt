@@ -1,6 +1,7 @@
 -- The check of lent layout words: "A call that is lent dictionary or layout words first checks that they are the arrangement .. of a layout
 -- that meets the seven rules below and these limits" (document 01). What the words say is in LayoutWords.antt; words may stand behind the
--- arrangement. That the check passes exactly the arrangements is proved in LayoutCheckLaws.antt. Assumes nothing.
+-- arrangement. That exactly the words that begin with the arrangement of such a layout pass is `isLayout-exact` (LayoutCheckComplete.antt).
+-- Assumes nothing.
 --
 --   isRun first places            the places begin at `first` and never fall
 --   isAhead number places         the first place is greater than `number`, the second greater than `number + 1`, and so on

@@ -190,7 +190,7 @@ module _ (limits : Limits) (words : List ℕ) (passed : Passed limits words) whe
       small (suc (suc word)) below = absurd (omega arith)
 
   -- the count tags of a level's groups, taken from the groups from `from` on
-  tags-in : (number from count : ℕ) → number ≤ groupCount words → from + count ≡ groupCount words → from ≤ firstGroup words number
+  pub tags-in : (number from count : ℕ) → number ≤ groupCount words → from + count ≡ groupCount words → from ≤ firstGroup words number
       → map countTag (take (firstGroup words (number + 1) - firstGroup words number) (drop (firstGroup words number - from) (groupsFrom words from count))) ≡ stretch words (groupPlaces (groupCount words) + number)
   unfolding stretch
   tags-in number from count level all below =

@@ -16,3 +16,4 @@ pub mod LayoutCheckComplete
 pub mod LayoutCases
 pub mod Members
 pub mod MembersLaws
+pub mod MembersLayout

@@ -6,9 +6,13 @@
 --   levelAlong words number path       where the count tags of the path lead from the level of that number
 --   levelOutcome limits words path     where they lead from the top of lent words; 11, place 0, where the words are no layout's
 --   levelPart limits words path        the members that are handed out, none where the path leads nowhere
+--   groupNamed tag groups, levelBelow level path   the same on a layout: the group of that count tag, the level that the path leads to
+--   membersBelow found                 its members, none where there is no such level
+-- That the members handed out are those of the layout is `levelPart-layout` (MembersLayout.antt).
 use Prim.Native.Nat.{ℕ, _+_}
+use mathlib.Core.Option.{Option, none, some}
 use mathlib.Core.List.{List, [], _∷_}
-use Rattle.ascii.specs.Notation.{if_then_else_}
+use Rattle.ascii.specs.Notation.{_≡ᵇ_, if_then_else_}
 use Rattle.sorting.specs.declared.search.Found.{Found}
 use Rattle.sorting.specs.declared.search.Found.the-variants.{At, Nothing}
 use Rattle.sorting.specs.Search.{rankIn}
@@ -16,6 +20,7 @@ use Rattle.texts.specs.declared.refusal.Refusal.the-variants.{RuleBroken, NoSuc
 use Rattle.layouts.specs.declared.members.LevelOutcome.{LevelOutcome}
 use Rattle.layouts.specs.declared.members.LevelOutcome.the-variants.{Reached, Refused}
 use Rattle.layouts.specs.Limits.{Limits}
+use Rattle.layouts.specs.Layout.{Level, Group, membersOf, groupsOf, countTag, entry}
 use Rattle.layouts.specs.LayoutWords.{levelMembers, levelCountTags, firstGroup}
 use Rattle.layouts.specs.LayoutCheck.{isLayout}
 
@@ -40,3 +45,17 @@ membersReached words (Refused refusal) = []
 
 unfoldable pub levelPart : Limits → List ℕ → List ℕ → List ℕ
 levelPart limits words path = membersReached words (levelOutcome limits words path)
+
+-- ---- on a layout
+
+unfoldable pub groupNamed : ℕ → List Group → Option Group
+groupNamed tag [] = none
+groupNamed tag (first ∷ others) = if countTag first ≡ᵇ tag then some first else groupNamed tag others
+
+unfoldable pub levelBelow : Level → List ℕ → Option Level
+levelBelow level [] = some level
+levelBelow level (tag ∷ path) = elim (groupNamed tag (groupsOf level)) [ some group ↦ levelBelow (entry group) path | none ↦ none ]
+
+abbrev pub membersBelow : Option Level → List ℕ
+membersBelow (some level) = membersOf level
+membersBelow none = []

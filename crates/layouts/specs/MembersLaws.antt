@@ -40,15 +40,19 @@ rankIn-inside words tag rank found = omega (arith, rankFrom-inside 0 words tag r
 -- ---- nestedLevel
 
 module _ (limits : Limits) (words : List ℕ) (passed : Passed limits words) (number : ℕ) (level : number ≤ groupCount words) where
-  -- the rank of a group among the count tags of its level is below their number, which is that of the level's groups
-  rank-within : (tag rank : ℕ) → rankIn (levelCountTags words number) tag ≡ At rank → firstGroup words number + rank + 1 ≤ groupCount words
-  rank-within tag rank found =
+  pub length-levelCountTags : length (levelCountTags words number) ≡ firstGroup words (number + 1) - firstGroup words number
+  length-levelCountTags =
       let size = length-stretch words (groupPlaces (groupCount words) + number) (countTags-inside limits words passed number level) in
       let place = groups-place limits words passed number (omega arith) in
       let next = groups-place limits words passed (number + 1) (omega arith) in
       let same : getD words (groupPlaces (groupCount words) + number + 1) 0 ≡ getD words (groupPlaces (groupCount words) + (number + 1)) 0 = ap (λ (at : ℕ). getD words at 0) (omega arith) in
-      let rises = countTags-inside limits words passed number level .rises in
-      omega (arith, size, place, next, same, rises, rankIn-inside (levelCountTags words number) tag rank found, firstGroup-within limits words passed (number + 1) (omega arith))
+      omega (arith, size, place, next, same)
+
+  -- the rank of a group among the count tags of its level is below their number, which is that of the level's groups
+  rank-within : (tag rank : ℕ) → rankIn (levelCountTags words number) tag ≡ At rank → firstGroup words number + rank + 1 ≤ groupCount words
+  rank-within tag rank found =
+      omega
+      (arith, length-levelCountTags, rankIn-inside (levelCountTags words number) tag rank found, firstGroup-within limits words passed (number + 1) (omega arith))
 
   pub nestedLevel-within : (tag next : ℕ) → nestedLevel words number tag ≡ At next → next ≤ groupCount words
   unfolding nestedLevel
