@@ -111,6 +111,15 @@ passed-from limits words groups count heads members required places flags levels
   delimiters-hold = rw count delimiters;
 }
 
+-- what words say, row by row
+pub record Columns (words : List ℕ) (groups : ℕ) (members required countTags : List (List ℕ)) (delimiters flags : List ℕ) : Type 0 where
+  pub count : groupCount words ≡ groups
+  pub members-are : stretches words 1 (groups + 1) ≡ members
+  pub required-are : stretches words (3 + groups) (groups + 1) ≡ required
+  pub countTags-are : stretches words (5 + 2 * groups) (groups + 1) ≡ countTags
+  pub delimiters-are : take groups (drop (firstDelimiter groups) words) ≡ delimiters
+  pub flags-are : take groups (drop (firstFlag groups) words) ≡ flags
+
 -- ---- the words of an arrangement pass, test by test
 
 module _
@@ -278,6 +287,27 @@ module _
         ap (stretches words (5 + 2 * groups)) (sym countTags-size)
         ∙ stretches-there words countTags (5 + 2 * groups) (firstCountTag groups) from-countTags (delimiters ++ (flags ++ from-members)) at-groups at-countTags
 
+    count-pass : groupCount words ≡ groups
+    count-pass = ap (λ (list : List ℕ). getD list 0 0) whole
+
+    required-there : stretches words (3 + groups) (groups + 1) ≡ required
+    unfolding end members
+    required-there =
+        let end-there : drop end words ≡ joined required ++ rest = behind words (joined members) (joined required ++ rest) (firstMember groups) (length (joined members)) end at-all-members refl refl in
+        ap (stretches words (3 + groups)) (sym required-size)
+        ∙ stretches-there words required (3 + groups) end (placesFrom (firstCountTag groups) countTags ++ from-countTags) rest at-required end-there
+
+    columns-there : Columns words groups (top ∷ others) required countTags delimiters flags
+    unfolding members
+    columns-there = record {
+      count = count-pass;
+      members-are = members-there;
+      required-are = required-there;
+      countTags-are = countTags-there;
+      delimiters-are = ap (take groups) at-delimiters ∙ take-at delimiters (flags ++ from-members) groups delimiters-size;
+      flags-are = ap (take groups) at-flags ∙ take-at flags from-members groups flags-size;
+    }
+
     levels-pass : levelsHold (top ∷ others) countTags ≡ true → allLevelsHold groups words ≡ true
     unfolding allLevelsHold members
     levels-pass hold = ap₂ levelsHold members-there countTags-there ∙ hold
@@ -291,9 +321,6 @@ module _
     heads-pass : firstMember groups ≤ length words
     unfolding end
     heads-pass = omega (arith, length-words)
-
-    count-pass : groupCount words ≡ groups
-    count-pass = ap (λ (list : List ℕ). getD list 0 0) whole
 
     passes : length (joined (top ∷ others)) ≤ limits .members
         → length (joined required) ≤ limits .required
@@ -389,6 +416,34 @@ module _ (layout : Layout) where
     unfolding end members
     all-words =
         length-words
+        gateLimits
+        (length (allGroups layout))
+        (membersOf layout)
+        (map membersOf (map entry (allGroups layout)))
+        (map requiredOf (allLevels layout))
+        (map countTagsOf (allLevels layout))
+        (map delimiter (allGroups layout))
+        (map flag (allGroups layout))
+        rest
+        (arranged layout ++ rest)
+        whole
+        (entries-size membersOf)
+        (levels-size requiredOf)
+        (levels-size countTagsOf)
+        countTags-size
+        (length-map (allGroups layout) delimiter)
+        (length-map (allGroups layout) flag)
+
+    pub arranged-columns : Columns
+        (arranged layout ++ rest)
+        (length (allGroups layout))
+        (map membersOf (allLevels layout))
+        (map requiredOf (allLevels layout))
+        (map countTagsOf (allLevels layout))
+        (map delimiter (allGroups layout))
+        (map flag (allGroups layout))
+    arranged-columns =
+        columns-there
         gateLimits
         (length (allGroups layout))
         (membersOf layout)

@@ -480,6 +480,12 @@ module _ (limits : Limits) (words : List ℕ) (passed : Passed limits words) whe
       (le-leb (length (joined (map membersOf (allLevels (layoutIn words))))) (limits .members) (omega (arith, members, members-few limits (groupCount words) words (passed .heads) (passed .members-hold))))
       (le-leb (length (joined (map requiredOf (allLevels (layoutIn words))))) (limits .required) (omega (arith, required, required-few limits (groupCount words) words (passed .heads) (passed .required-hold))))
 
+-- words that pass begin with the arrangement of the layout that they tell of
+pub layoutIn-begins : (limits : Limits) (words : List ℕ) → isLayout limits words ≡ true → (behind : List ℕ) × (arranged (layoutIn words) ++ behind ≡ words)
+layoutIn-begins limits words holds =
+    let passed = isLayout-passed limits words holds in
+    (drop (requiredEnd limits words passed) words, arranged-in limits words passed)
+
 -- words that pass begin with the arrangement of a layout that meets the rules and the limits
 pub isLayout-arranged : (limits : Limits) (words : List ℕ) → isLayout limits words ≡ true → ArrangedIn limits words
 isLayout-arranged limits words holds =

@@ -13,6 +13,7 @@ pub mod LayoutCheckFacts
 pub mod LayoutCheckRules
 pub mod LayoutCheckSound
 pub mod LayoutCheckComplete
+pub mod LayoutCheckUnique
 pub mod LayoutCases
 pub mod Members
 pub mod MembersLaws
