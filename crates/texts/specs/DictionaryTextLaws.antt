@@ -29,7 +29,7 @@ use Rattle.texts.specs.Lines.{positionOf, linesOf, lineFeed}
 use Rattle.texts.specs.LinesLaws.{found-within, cut-at-piece, cut-at-last, cut-nothing}
 use Rattle.texts.specs.LineForms.{lineOf}
 use Rattle.texts.specs.LineFormsLaws.{lineOf-short}
-use Rattle.texts.specs.DictionaryOrder.{start, stepOf, taken}
+use Rattle.texts.specs.DictionaryOrder.{start, stepOf}
 use Rattle.texts.specs.DictionaryText.{counts, orderOf, againOf, definedBy, counted, atEnd, orderFrom, keyOf, isIn, againFrom}
 use Rattle.texts.specs.DictionaryOrderLaws.{step-depth}
 

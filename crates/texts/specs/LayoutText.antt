@@ -5,7 +5,6 @@
 --   levelStepOf state number line   what the line of this number does in this state: its fault, or the state behind it
 --   layoutTextOf text               rows 1 to 4: how many lines the text has, or the refusal
 use Prim.Native.Nat.{ℕ, _+_, _-_}
-use mathlib.Core.Bool.{Bool, _&&_}
 use mathlib.Core.List.{List}
 use lib.ListN.{length, getD, set, replicate}
 use Rattle.ascii.specs.Notation.{_≤ᵇ_, _<ᵇ_, _≡ᵇ_, if_then_else_}

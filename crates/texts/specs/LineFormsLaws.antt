@@ -6,7 +6,6 @@ use mathlib.Core.List.{List}
 use native.Mathlib.Omega.{arith}
 use lib.ListN.{length}
 use Rattle.ascii.specs.Bytes.{ascii}
-use Rattle.texts.specs.declared.line.Line.{Line}
 use Rattle.texts.specs.declared.line.Line.the-variants.{Unknown}
 use Rattle.texts.specs.Lines.{startsWith}
 use Rattle.texts.specs.LinesLaws.{startsWith-length}

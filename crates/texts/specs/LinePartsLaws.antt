@@ -1,13 +1,13 @@
 -- Laws of `LineParts.antt`, in its order. Assumes nothing.
 use mathlib.Core.Path.{_≡_, refl, sym, ap, _∙_}
 use Prim.Native.Nat.{ℕ, _+_, _-_, _^_, _≤_, _<_}
-use mathlib.Core.Bool.{Bool, true, false, _&&_, _||_, not, cond}
+use mathlib.Core.Bool.{Bool, true, false, _&&_, not, cond}
 use mathlib.Core.List.{List, [], _∷_}
 use native.Mathlib.Omega.{arith}
 use lib.Dec.{leb, ltb, eqb}
 use lib.ListN.{length, getD, take, drop, length-drop}
 use lib.Seq.{take-all}
-use borrow.Author.Tests.{lt-ltb, le-ltb, ltb-false, eqb-true, eqb-false, le-leb, lt-leb}
+use borrow.Author.Tests.{le-ltb, ltb-false, eqb-true, eqb-false, le-leb, lt-leb}
 use Rattle.formats.specs.declared.count.Count.{Count}
 use Rattle.formats.specs.declared.count.Count.the-variants as counted
 use Rattle.ascii.specs.Notation.{isBetween}
@@ -17,13 +17,9 @@ use Rattle.ascii.specs.Digits.{isDigits, decimal}
 use Rattle.formats.specs.Count.{countOf}
 use Rattle.texts.specs.declared.line_parts.Number32.{Number32}
 use Rattle.texts.specs.declared.line_parts.Number32.the-variants.{Number, NoNumber}
-use Rattle.texts.specs.declared.line_parts.Flag.{Flag}
 use Rattle.texts.specs.declared.line_parts.Flag.the-variants.{Required, Optional, NoFlag}
-use Rattle.texts.specs.declared.line_parts.TypeName.{TypeName}
 use Rattle.texts.specs.declared.line_parts.TypeName.the-variants.{TypeAt, NoType}
-use Rattle.texts.specs.declared.line_parts.MessageType.{MessageType}
 use Rattle.texts.specs.declared.line_parts.MessageType.the-variants.{Letters, NoLetters}
-use Rattle.texts.specs.declared.line_parts.ValueText.{ValueText}
 use Rattle.texts.specs.declared.line_parts.ValueText.the-variants.{Bytes, NoBytes}
 use Rattle.texts.specs.Lines.{positionOf, isSame, cut, comma}
 use Rattle.texts.specs.LinesLaws.{cut-at-piece, cut-at-last}

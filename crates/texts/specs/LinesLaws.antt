@@ -1,7 +1,7 @@
 -- Laws of `Lines.antt`, in its order. Where a search from `first` finds a byte at `past`, the part between is a piece. Assumes nothing.
 use mathlib.Core.Path.{_≡_, refl, sym, ap, _∙_}
 use Prim.Native.Nat.{ℕ, suc, _+_, _-_, _≤_, _<_}
-use mathlib.Core.Bool.{Bool, true, false, _&&_, cond, false≢true}
+use mathlib.Core.Bool.{Bool, true, false, cond, false≢true}
 use mathlib.Core.List.{List, [], _∷_}
 use native.Mathlib.Omega.{arith}
 use lib.Dec.{eqb}
@@ -10,7 +10,7 @@ use lib.Seq.{drop-drop}
 use borrow.Author.Tests.{eq-eqb, ne-eqb}
 use Rattle.ascii.specs.NotationLaws.{and-right}
 use Rattle.ascii.specs.BytesLaws.{drop-step}
-use Rattle.texts.specs.Lines.{positionOf, before, behind, startsWith, isSame, Pieces, last, piece, longer, cut}
+use Rattle.texts.specs.Lines.{positionOf, before, behind, startsWith, isSame, last, piece, longer, cut}
 
 -- ---- positionOf
 
