@@ -3,6 +3,8 @@
 pub mod Dictionary
 pub mod Expansion
 pub mod ExpansionCases
+pub mod Trace
+pub mod TraceLaws
 pub mod ExpansionInduction
 pub mod ExpansionLaws
 pub mod ExpansionRules

@@ -1,1 +1,2 @@
 // The expansion of a message type: from the definitions of a dictionary to the layout of a message.
+pub mod builder;

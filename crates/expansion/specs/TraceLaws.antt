@@ -1,0 +1,213 @@
+-- Laws of `Trace.antt`, in its order, and the steps of the functions that write a trace. Assumes nothing.
+use mathlib.Core.Path.{_≡_, refl, sym, ap, _∙_}
+use Prim.Native.Nat.{ℕ, zero, suc, _+_, _*_, _/_, _%_, _≤_, _<_}
+use mathlib.Core.Bool.{Bool, true, false, cond}
+use mathlib.Core.List.{List, [], _∷_, _++_}
+use native.Mathlib.Omega.{arith}
+use native.Mathlib.Numerals.{add-one}
+use lib.ListN.{length, take, set}
+use lib.Seq.{take-suc-set}
+use borrow.Author.Tests.{eq-eqb, ne-eqb, lt-ltb, le-ltb}
+use Rattle.texts.specs.declared.refusal.Refusal.{Refusal}
+use Rattle.texts.specs.declared.refusal.Refusal.the-variants.{TooDeep, OutOfNodes, MembersOver}
+use Rattle.layouts.specs.Limits.{Limits, gateLimits}
+use Rattle.expansion.specs.declared.builder.Builder as Code
+use Rattle.expansion.specs.declared.builder.Added.{Added}
+use Rattle.expansion.specs.declared.builder.Added.the-variants.{Done, Refused}
+use Rattle.expansion.specs.Expansion.{Builder, OpenLevel, Work, Granted, Denied, noted, ranOut, pushMember, pushRequired, addMember, addRequired, addField, spend}
+use Rattle.expansion.specs.ExpansionLaws.{keeps-addMember, keeps-addRequired}
+use Rattle.expansion.specs.Trace.{Frame, withLevel, withMember, withRequired, after, run, atStart, builderOf, workOf, First, InWork, Adds, SpendsNode, Fits, Grown, Grows}
+
+-- ---- run, after
+
+run-last : (frames : List Frame) (words : List ℕ) (word : ℕ) → run frames (words ++ (word ∷ [])) ≡ after (run frames words) word
+unfolding run
+run-last frames [] word = refl
+run-last frames (first ∷ words) word = run-last (after frames first) words word
+
+after-member : (tag : ℕ) (frame : Frame) (outer : List Frame) → after (frame ∷ outer) (tag * 4) ≡ withLevel (withMember tag (frame .level)) frame ∷ outer
+unfolding after
+after-member tag frame outer =
+    let rest : tag * 4 % 4 ≡ 0 = omega arith in
+    let whole : tag * 4 / 4 ≡ tag = omega arith in
+    rw (eq-eqb (tag * 4 % 4) 0 rest, whole)
+
+after-required : (tag : ℕ) (frame : Frame) (outer : List Frame) → after (frame ∷ outer) (tag * 4 + 1) ≡ withLevel (withRequired tag (frame .level)) frame ∷ outer
+unfolding after
+after-required tag frame outer =
+    let rest : (tag * 4 + 1) % 4 ≡ 1 = omega arith in
+    let whole : (tag * 4 + 1) / 4 ≡ tag = omega arith in
+    rw (rest, whole)
+
+-- ---- a word more
+
+module _ (len : ℕ) (trace : List ℕ) (word : ℕ) (frame : Frame) (outer : List Frame) where
+  pub one-more : len < length trace
+      → run atStart (take len trace) ≡ frame ∷ outer
+      → run atStart (take (len + 1) (set trace len word)) ≡ after (frame ∷ outer) word
+  one-more inside stands =
+      let taken : take (len + 1) (set trace len word) ≡ take len trace ++ (word ∷ []) = rw add-one (take-suc-set trace len word inside) in
+      ap (run atStart) taken ∙ run-last atStart (take len trace) word ∙ ap (λ (frames : List Frame). after frames word) stands
+
+-- ---- First
+
+first-noted : (refusal other : Refusal) (work : Work) → First refusal (work .builder) → First refusal (noted other work .builder)
+first-noted refusal other work first = (first .0 ++ (other ∷ []), ap (λ (errors : List Refusal). errors ++ (other ∷ [])) (first .1))
+
+pub first-member : (limits : Limits) (refusal : Refusal) (tag : ℕ) (work : Work) → First refusal (work .builder) → First refusal (addMember limits tag work .builder)
+first-member limits refusal tag work first =
+    keeps-addMember limits (λ later. First refusal (later .builder)) tag work (λ within. first) (first-noted refusal MembersOver (pushMember tag work) first)
+
+pub first-required : (limits : Limits) (refusal : Refusal) (tag : ℕ) (work : Work) → First refusal (work .builder) → First refusal (addRequired limits tag work .builder)
+first-required limits refusal tag work first =
+    keeps-addRequired limits (λ later. First refusal (later .builder)) tag work (λ within. first) (first-noted refusal MembersOver (pushRequired tag work) first)
+
+-- ---- Adds: one change and then another
+
+-- where a change met no error, it is known from its level
+same-work : (next : Code.Builder) (work : Work) → work .builder ≡ builderOf next → work ≡ workOf next (work .level)
+same-work next work same = ap {B = Work} (λ (shared : Builder). record { builder = shared; level = work .level }) same
+
+module _ (earlier later : Work → Work) (builder : Code.Builder) (before middle : List ℕ) where
+  pub adds-then : (next : Code.Builder) (added : Added) (trace : List ℕ)
+      → Adds earlier builder before (Done next) middle
+      → Adds later next middle added trace
+      → Adds (λ work. later (earlier work)) builder before added trace
+  unfolding Adds
+  adds-then next (Done last) trace first second = λ frame outer stands.
+      let begun = workOf builder (frame .level) in
+      let one = first frame outer stands in
+      let two = second (withLevel (earlier begun .level) frame) outer (one .0) in (
+        two .0 ∙ ap (λ (work : Work). withLevel (later work .level) frame ∷ outer) (sym (same-work next (earlier begun) (one .1))),
+        ap (λ (work : Work). later work .builder) (same-work next (earlier begun) (one .1)) ∙ two .1,
+      )
+  adds-then next (Refused refusal) trace first second = λ frame outer stands.
+      let begun = workOf builder (frame .level) in
+      let one = first frame outer stands in
+      let two = second (withLevel (earlier begun .level) frame) outer (one .0) in
+      (two .0, ap (λ (work : Work). later work .builder .errors) (same-work next (earlier begun) (one .1)) ∙ two .1)
+
+  pub adds-stops : (refusal : Refusal) (trace : List ℕ)
+      → Adds earlier builder before (Refused refusal) middle
+      → ((work : Work) → First refusal (work .builder) → First refusal (later work .builder))
+      → Adds (λ work. later (earlier work)) builder before (Refused refusal) trace
+  unfolding Adds
+  adds-stops refusal trace first keeps frame outer stands = keeps (earlier (workOf builder (frame .level))) (first frame outer stands)
+
+pub grown-then : (builder next last : Code.Builder) → Grown builder next → Grown next last → Grown builder last
+grown-then builder next last first second = record { fits = second .fits; slack = omega (arith, first .slack, second .slack) }
+
+-- ---- add_member, add_required
+
+module _ (builder : Code.Builder) (trace : List ℕ) (tag : ℕ) (size : 14336 ≤ length trace) (fits : Fits builder) where
+  abbrev pub memberMore : Code.Builder
+  memberMore = record { nodes = builder .nodes; members = builder .members + 1; required = builder .required; len = builder .len + 1 }
+
+  abbrev pub requiredMore : Code.Builder
+  requiredMore = record { nodes = builder .nodes; members = builder .members; required = builder .required + 1; len = builder .len + 1 }
+
+  pub adds-member : builder .members < 8192 → Adds (addMember gateLimits tag) builder trace (Done memberMore) (set trace (builder .len) (tag * 4))
+  unfolding addMember Adds
+  adds-member room frame outer stands =
+      let within : builder .len < length trace = omega (arith, fits .nodes, fits .required, fits .len) in
+      rw (lt-ltb (builder .members) 8192 room) (
+        one-more (builder .len) trace (tag * 4) frame outer within stands ∙ after-member tag frame outer,
+        rw add-one refl,
+      )
+
+  pub adds-member-over : 8192 ≤ builder .members → Adds (addMember gateLimits tag) builder trace (Refused MembersOver) trace
+  unfolding addMember Adds
+  adds-member-over over frame outer stands = rw (le-ltb (builder .members) 8192 over) ([], refl)
+
+  pub member-grows : builder .members < 8192 → Grown builder memberMore
+  member-grows room = record {
+    fits = record { nodes = fits .nodes; members = omega arith; required = fits .required; len = omega (arith, fits .len) };
+    slack = omega arith;
+  }
+
+  pub adds-required : builder .required < 2048 → Adds (addRequired gateLimits tag) builder trace (Done requiredMore) (set trace (builder .len) (tag * 4 + 1))
+  unfolding addRequired Adds
+  adds-required room frame outer stands =
+      let within : builder .len < length trace = omega (arith, fits .nodes, fits .members, fits .len) in
+      rw (lt-ltb (builder .required) 2048 room) (
+        one-more (builder .len) trace (tag * 4 + 1) frame outer within stands ∙ after-required tag frame outer,
+        rw add-one refl,
+      )
+
+  pub adds-required-over : 2048 ≤ builder .required → Adds (addRequired gateLimits tag) builder trace (Refused MembersOver) trace
+  unfolding addRequired Adds
+  adds-required-over over frame outer stands = rw (le-ltb (builder .required) 2048 over) ([], refl)
+
+  pub required-grows : builder .required < 2048 → Grown builder requiredMore
+  required-grows room = record {
+    fits = record { nodes = fits .nodes; members = fits .members; required = omega arith; len = omega (arith, fits .len) };
+    slack = omega arith;
+  }
+
+-- ---- add_field
+
+module _ (builder next : Code.Builder) (before middle : List ℕ) (tag : ℕ) where
+  pub field-required : (added : Added) (trace : List ℕ)
+      → Adds (addMember gateLimits tag) builder before (Done next) middle
+      → Adds (addRequired gateLimits tag) next middle added trace
+      → Adds (addField gateLimits tag true) builder before added trace
+  unfolding addField Adds
+  field-required added trace first second = adds-then (addMember gateLimits tag) (addRequired gateLimits tag) builder before middle next added trace first second
+
+pub field-over : (builder : Code.Builder) (before middle : List ℕ) (tag : ℕ) (refusal : Refusal) (trace : List ℕ)
+    → Adds (addMember gateLimits tag) builder before (Refused refusal) middle
+    → Adds (addField gateLimits tag true) builder before (Refused refusal) trace
+unfolding addField Adds
+field-over builder before middle tag refusal trace first =
+    adds-stops (addMember gateLimits tag) (addRequired gateLimits tag) builder before middle refusal trace first
+    (λ work met. first-required gateLimits refusal tag work met)
+
+pub field-optional : (builder : Code.Builder) (before : List ℕ) (tag : ℕ) (added : Added) (trace : List ℕ)
+    → Adds (addMember gateLimits tag) builder before added trace
+    → Adds (addField gateLimits tag false) builder before added trace
+unfolding addField Adds
+field-optional builder before tag (Done next) trace first = first
+field-optional builder before tag (Refused refusal) trace first = first
+
+pub grows-then : (builder next : Code.Builder) (added : Added) → Grown builder next → Grows next added → Grows builder added
+unfolding Grows
+grows-then builder next (Done last) first second = grown-then builder next last first second
+grows-then builder next (Refused refusal) first second = tt
+
+pub grown-grows : (builder next : Code.Builder) → Grown builder next → Grows builder (Done next)
+unfolding Grows
+grown-grows builder next grown = grown
+
+pub done-grown : (builder next : Code.Builder) → Grows builder (Done next) → Grown builder next
+unfolding Grows
+done-grown builder next grows = grows
+
+pub refused-grows : (builder : Code.Builder) (refusal : Refusal) → Grows builder (Refused refusal)
+unfolding Grows
+refused-grows builder refusal = tt
+
+-- ---- spend
+
+module _ (builder : Code.Builder) (name : ℕ) where
+  pub spends-deep : (depthLeft : ℕ) → depthLeft ≡ 0 → SpendsNode builder name depthLeft (Refused (TooDeep name))
+  unfolding spend SpendsNode
+  spends-deep zero none level = refl
+  spends-deep (suc depth) none level = absurd (omega arith)
+
+  pub spends-node : (depthLeft : ℕ) → (depthLeft ≡ 0 → ⊥) → builder .nodes < 4096
+      → SpendsNode builder name depthLeft (Done (record { nodes = builder .nodes + 1; members = builder .members; required = builder .required; len = builder .len }))
+  unfolding spend SpendsNode
+  spends-node zero some room level = absurd (some refl)
+  spends-node (suc depth) some room level = rw (lt-ltb (builder .nodes) 4096 room, add-one)
+
+  pub spends-over : (depthLeft : ℕ) → (depthLeft ≡ 0 → ⊥) → 4096 ≤ builder .nodes → SpendsNode builder name depthLeft (Refused (OutOfNodes name))
+  unfolding spend ranOut SpendsNode
+  spends-over zero some over level = absurd (some refl)
+  spends-over (suc depth) some over level = rw (le-ltb (builder .nodes) 4096 over)
+
+  pub node-grows : Fits builder → builder .nodes < 4096
+      → Grown builder (record { nodes = builder .nodes + 1; members = builder .members; required = builder .required; len = builder .len })
+  node-grows fits room = record {
+    fits = record { nodes = omega arith; members = fits .members; required = fits .required; len = omega (arith, fits .len) };
+    slack = omega arith;
+  }

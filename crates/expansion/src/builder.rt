@@ -1,0 +1,107 @@
+// Adding to the level in work. The Rust's `ScopeBuilder` and `Level`: what is added is written down in a trace, a word for each step, and
+// read from there when the levels are put in order. So a refusal leaves nothing behind, and a level needs no memory of its own.
+use texts::refusal::Refusal;
+ghost use mathlib.Core.Path.{_≡_};
+ghost use Prim.Native.Nat.{_+_, _≤_, _<_};
+ghost use lib.ListN.{length};
+ghost use Rattle.layouts.specs.Limits.{gateLimits};
+ghost use Rattle.expansion.specs.Expansion.{addMember, addRequired, addField};
+ghost use Rattle.expansion.specs.Trace.{Fits, Adds, SpendsNode, Grows};
+
+// Document 01: "one of 4,096 nodes", "members of all levels may number 8,192 and the entries of all required lists 2,048".
+pub const NODES: usize = 4096;
+
+pub const MEMBERS: usize = 8192;
+
+pub const REQUIRED: usize = 2048;
+
+// A word for each member, for each required entry and for each node.
+pub const TRACE: usize = 14336;
+
+// What was spent and added so far, and how many words of the trace it takes.
+pub struct Builder {
+    pub nodes: usize,
+    pub members: usize,
+    pub required: usize,
+    pub len: usize,
+}
+
+// The Rust's builder goes on past an error; the gate stops at the first.
+pub enum Added {
+    Done(Builder),
+    Refused(Refusal),
+}
+
+// Charges one node against the budget and checks the depth ceiling.
+pub fn spend(builder: Builder, name: u32, depth_left: usize) -> Added
+    requires { ⌜ Fits builder ⌝ }
+    ensures change { λ added. ⌜ SpendsNode builder name «depth_left» added ⌝ }
+    ensures grows { λ added. ⌜ Grows builder added ⌝ }
+{
+    if depth_left == 0 {
+        return Added::Refused(Refusal::TooDeep(name));
+    }
+    if builder.nodes < NODES {
+        return Added::Done(Builder {
+            nodes: builder.nodes + 1,
+            members: builder.members,
+            required: builder.required,
+            len: builder.len,
+        });
+    }
+    Added::Refused(Refusal::OutOfNodes(name))
+}
+
+// Adds a tag to the members of the level in work.
+pub fn add_member(trace: &mut [u64], builder: Builder, tag: u32) -> Added
+    requires { ⌜ Fits builder × (14336 ≤ length (now trace)) ⌝ }
+    ensures change { λ added. ⌜ Adds (addMember gateLimits tag) builder (now (trace .entry)) added (now (trace .exit)) ⌝ }
+    ensures grows { λ added. ⌜ Grows builder added ⌝ }
+{
+    if builder.members < MEMBERS {
+        let len = builder.len;
+        trace[len] = tag as u64 * 4;
+        return Added::Done(Builder {
+            nodes: builder.nodes,
+            members: builder.members + 1,
+            required: builder.required,
+            len: len + 1,
+        });
+    }
+    Added::Refused(Refusal::MembersOver)
+}
+
+// Adds a tag to the required list of the level in work.
+pub fn add_required(trace: &mut [u64], builder: Builder, tag: u32) -> Added
+    requires { ⌜ Fits builder × (14336 ≤ length (now trace)) ⌝ }
+    ensures change { λ added. ⌜ Adds (addRequired gateLimits tag) builder (now (trace .entry)) added (now (trace .exit)) ⌝ }
+    ensures grows { λ added. ⌜ Grows builder added ⌝ }
+{
+    if builder.required < REQUIRED {
+        let len = builder.len;
+        trace[len] = tag as u64 * 4 + 1;
+        return Added::Done(Builder {
+            nodes: builder.nodes,
+            members: builder.members,
+            required: builder.required + 1,
+            len: len + 1,
+        });
+    }
+    Added::Refused(Refusal::MembersOver)
+}
+
+// The Rust's `Level::add_field`.
+pub fn add_field(trace: &mut [u64], builder: Builder, tag: u32, required: bool) -> Added
+    requires { ⌜ Fits builder × (14336 ≤ length (now trace)) ⌝ }
+    ensures change { λ added. ⌜ Adds (addField gateLimits tag required) builder (now (trace .entry)) added (now (trace .exit)) ⌝ }
+    ensures grows { λ added. ⌜ Grows builder added ⌝ }
+{
+    let member = add_member(trace, builder, tag);
+    if required {
+        return match member {
+            Added::Done(next) => add_required(trace, next, tag),
+            Added::Refused(refusal) => Added::Refused(refusal),
+        };
+    }
+    member
+}
