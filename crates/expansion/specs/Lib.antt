@@ -5,6 +5,7 @@ pub mod Expansion
 pub mod ExpansionCases
 pub mod Trace
 pub mod TraceLaws
+pub mod PathLaws
 pub mod ExpansionInduction
 pub mod ExpansionLaws
 pub mod ExpansionRules

@@ -14,10 +14,14 @@
 --   First refusal builder     the first error met is this one
 --   Adds change builder before added after   what was added to the trace is this change of the level in work, or the refusal is its first error
 --   SpendsNode builder name depthLeft added   the same for a node, which is nothing in the trace
+--   Entering count required word   the word is that of a group that is entered
+--   Enters count required delimiter builder before added after   the same for entering a group: an entry level, which its delimiter begins, is
+--                             in work above the level around, which has the count tag
+--   Leaves delimiter builder before next after   the same for leaving a group
 --   Fits builder              what was added and spent is within the limits, and the trace has a word for each step so far
 --   Grows builder added       the builder that is given fits as well
 use mathlib.Core.Path.{_≡_}
-use Prim.Native.Nat.{ℕ, _+_, _≤_, _/_, _%_}
+use Prim.Native.Nat.{ℕ, _+_, _≤_, _<_, _/_, _%_}
 use mathlib.Core.Bool.{Bool, false}
 use mathlib.Core.List.{List, [], _∷_, _++_}
 use lib.ListN.{take}
@@ -28,7 +32,7 @@ use Rattle.layouts.specs.Layout.{group-of}
 use Rattle.expansion.specs.declared.builder.Builder as Code
 use Rattle.expansion.specs.declared.builder.Added.{Added}
 use Rattle.expansion.specs.declared.builder.Added.the-variants.{Done, Refused}
-use Rattle.expansion.specs.Expansion.{Builder, OpenLevel, Work, Granted, Denied, emptyLevel, noted, finishEntry, spend}
+use Rattle.expansion.specs.Expansion.{Builder, OpenLevel, Work, Granted, Denied, emptyLevel, noted, finishEntry, spend, addMember, openEntry}
 
 pub record Frame : Type 0 where
   pub countTag : ℕ
@@ -117,3 +121,31 @@ pub record Grown (builder next : Code.Builder) : Type 0 where
 unfoldable pub Grows : Code.Builder → Added → Type 0
 Grows builder (Done next) = Grown builder next
 Grows builder (Refused refusal) = Unit
+
+pub record Entering (count : ℕ) (required : Bool) (word : ℕ) : Type 0 where
+  pub step : word % 4 ≡ 2
+  pub tag : word / 8 ≡ count
+  pub flag : (word / 4 % 2 ≡ᵇ 1) ≡ required
+
+-- the entry level of a group that is entered, seen from the level around
+abbrev pub entered : ℕ → ℕ → Work → Work
+entered count delimiter work = openEntry gateLimits delimiter (addMember gateLimits count work)
+
+unfoldable pub Enters : ℕ → Bool → ℕ → Code.Builder → List ℕ → Added → List ℕ → Type 0
+Enters count required delimiter builder before (Done next) trace =
+    (frame : Frame) (outer : List Frame)
+    → InWork builder before frame outer
+    → InWork next trace
+    (record { countTag = count; needed = required; level = entered count delimiter (workOf builder (frame .level)) .level })
+    (withLevel (addMember gateLimits count (workOf builder (frame .level)) .level) frame ∷ outer)
+    × (entered count delimiter (workOf builder (frame .level)) .builder ≡ builderOf next)
+Enters count required delimiter builder before (Refused refusal) trace =
+    (frame : Frame) (outer : List Frame)
+    → InWork builder before frame outer
+    → First refusal (entered count delimiter (workOf builder (frame .level)) .builder)
+
+unfoldable pub Leaves : ℕ → Code.Builder → List ℕ → Code.Builder → List ℕ → Type 0
+Leaves delimiter builder before next trace =
+    (entry around : Frame) (outer : List Frame)
+    → InWork builder before entry (around ∷ outer)
+    → (run atStart (take (next .len) trace) ≡ left delimiter entry (around ∷ outer)) × (builderOf next ≡ builderOf builder)

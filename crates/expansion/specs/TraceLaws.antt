@@ -5,7 +5,7 @@ use mathlib.Core.Bool.{Bool, true, false, cond}
 use mathlib.Core.List.{List, [], _∷_, _++_}
 use native.Mathlib.Omega.{arith}
 use native.Mathlib.Numerals.{add-one}
-use lib.ListN.{length, take, set}
+use lib.ListN.{length, take, set, length-set}
 use lib.Seq.{take-suc-set}
 use borrow.Author.Tests.{eq-eqb, ne-eqb, lt-ltb, le-ltb}
 use Rattle.texts.specs.declared.refusal.Refusal.{Refusal}
@@ -14,9 +14,9 @@ use Rattle.layouts.specs.Limits.{Limits, gateLimits}
 use Rattle.expansion.specs.declared.builder.Builder as Code
 use Rattle.expansion.specs.declared.builder.Added.{Added}
 use Rattle.expansion.specs.declared.builder.Added.the-variants.{Done, Refused}
-use Rattle.expansion.specs.Expansion.{Builder, OpenLevel, Work, Granted, Denied, noted, ranOut, pushMember, pushRequired, addMember, addRequired, addField, spend}
+use Rattle.expansion.specs.Expansion.{Builder, OpenLevel, Work, Granted, Denied, noted, ranOut, pushMember, pushRequired, addMember, addRequired, addField, spend, openEntry, emptyLevel}
 use Rattle.expansion.specs.ExpansionLaws.{keeps-addMember, keeps-addRequired}
-use Rattle.expansion.specs.Trace.{Frame, withLevel, withMember, withRequired, after, run, atStart, builderOf, workOf, First, InWork, Adds, SpendsNode, Fits, Grown, Grows}
+use Rattle.expansion.specs.Trace.{Frame, withLevel, withMember, withRequired, after, run, atStart, builderOf, workOf, First, InWork, Adds, SpendsNode, Fits, Grown, Grows, Entering, Enters, Leaves, entered, left}
 
 -- ---- run, after
 
@@ -211,3 +211,84 @@ module _ (builder : Code.Builder) (name : ℕ) where
     fits = record { nodes = omega arith; members = fits .members; required = fits .required; len = omega (arith, fits .len) };
     slack = omega arith;
   }
+
+-- ---- enter_group
+
+pub entering-required : (count : ℕ) → Entering count true (count * 8 + 6)
+entering-required count =
+    let bit : (count * 8 + 6) / 4 % 2 ≡ 1 = omega arith in
+    record { step = omega arith; tag = omega arith; flag = eq-eqb ((count * 8 + 6) / 4 % 2) 1 bit }
+
+pub entering-optional : (count : ℕ) → Entering count false (count * 8 + 2)
+entering-optional count =
+    let bit : (count * 8 + 2) / 4 % 2 ≡ 0 = omega arith in
+    record { step = omega arith; tag = omega arith; flag = ne-eqb ((count * 8 + 2) / 4 % 2) 1 (λ one. omega arith) }
+
+after-entering : (count : ℕ) (required : Bool) (word : ℕ) (frame : Frame) (outer : List Frame)
+    → Entering count required word
+    → after (frame ∷ outer) word
+    ≡ record { countTag = count; needed = required; level = emptyLevel } ∷ withLevel (withMember count (frame .level)) frame ∷ outer
+unfolding after
+after-entering count required word frame outer entering = rw (entering .step, entering .tag, entering .flag)
+
+after-leaving : (delimiter : ℕ) (entry : Frame) (outer : List Frame) → after (entry ∷ outer) (delimiter * 4 + 3) ≡ left delimiter entry outer
+unfolding after
+after-leaving delimiter entry outer =
+    let rest : (delimiter * 4 + 3) % 4 ≡ 3 = omega arith in
+    let whole : (delimiter * 4 + 3) / 4 ≡ delimiter = omega arith in
+    rw (rest, whole)
+
+module _ (builder : Code.Builder) (trace : List ℕ) (count : ℕ) (required : Bool) (delimiter word : ℕ) (size : 14336 ≤ length trace) (fits : Fits builder) where
+  abbrev pub groupMore : Code.Builder
+  groupMore = record { nodes = builder .nodes; members = builder .members + 2; required = builder .required; len = builder .len + 2 }
+
+  pub enters : Entering count required word
+      → builder .members + 1 < 8192
+      → Enters count required delimiter builder trace (Done groupMore) (set (set trace (builder .len) word) (builder .len + 1) (delimiter * 4))
+  unfolding Enters addMember
+  enters entering room = λ frame outer stands.
+      let within : builder .len < length trace = omega (arith, fits .nodes, fits .required, fits .len) in
+      let also : builder .len + 1 < length (set trace (builder .len) word) =
+      omega (arith, fits .nodes, fits .required, fits .len, length-set trace (builder .len) word) in
+      let one = one-more (builder .len) trace word frame outer within stands ∙ after-entering count required word frame outer entering in
+      let two =
+      one-more (builder .len + 1) (set trace (builder .len) word) (delimiter * 4)
+      (record { countTag = count; needed = required; level = emptyLevel })
+      (withLevel (withMember count (frame .level)) frame ∷ outer)
+      also
+      one
+      ∙ after-member delimiter (record { countTag = count; needed = required; level = emptyLevel }) (withLevel (withMember count (frame .level)) frame ∷ outer) in
+      let len : builder .len + 2 ≡ builder .len + 1 + 1 = omega arith in
+      let more : builder .members + 2 ≡ suc (suc (builder .members)) = omega arith in
+      let second : suc (builder .members) < 8192 = omega arith in
+      rw (len, more, lt-ltb (builder .members) 8192 (omega arith), lt-ltb (suc (builder .members)) 8192 second) (two, refl)
+
+  pub enters-over : 8192 ≤ builder .members + 1 → Enters count required delimiter builder trace (Refused MembersOver) trace
+  unfolding Enters addMember
+  enters-over over = λ frame outer stands.
+      keeps-addMember gateLimits (λ around. First MembersOver (openEntry gateLimits delimiter around .builder)) count (workOf builder (frame .level))
+      (λ within. let full : 8192 ≤ suc (builder .members) = omega arith in rw (le-ltb (suc (builder .members)) 8192 full) ([], refl))
+      (first-member gateLimits MembersOver delimiter (record { builder = noted MembersOver (pushMember count (workOf builder (frame .level))) .builder; level = emptyLevel }) ([], refl))
+
+  pub enter-grows : builder .members + 1 < 8192 → Grown builder groupMore
+  enter-grows room = record {
+    fits = record { nodes = fits .nodes; members = omega arith; required = fits .required; len = omega (arith, fits .len) };
+    slack = omega arith;
+  }
+
+-- ---- leave_group
+
+module _ (builder : Code.Builder) (trace : List ℕ) (delimiter : ℕ) (size : 14336 ≤ length trace) (fits : Fits builder) (room : builder .len < builder .members + builder .required + builder .nodes) where
+  abbrev pub wordMore : Code.Builder
+  wordMore = record { nodes = builder .nodes; members = builder .members; required = builder .required; len = builder .len + 1 }
+
+  pub leaves : Leaves delimiter builder trace wordMore (set trace (builder .len) (delimiter * 4 + 3))
+  unfolding Leaves
+  leaves = λ entry around outer stands.
+      let within : builder .len < length trace = omega (arith, fits .nodes, fits .members, fits .required) in (
+        one-more (builder .len) trace (delimiter * 4 + 3) entry (around ∷ outer) within stands ∙ after-leaving delimiter entry (around ∷ outer),
+        refl,
+      )
+
+  pub leave-fits : Fits wordMore
+  leave-fits = record { nodes = fits .nodes; members = fits .members; required = fits .required; len = omega arith }

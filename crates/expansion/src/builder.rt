@@ -6,7 +6,7 @@ ghost use Prim.Native.Nat.{_+_, _≤_, _<_};
 ghost use lib.ListN.{length};
 ghost use Rattle.layouts.specs.Limits.{gateLimits};
 ghost use Rattle.expansion.specs.Expansion.{addMember, addRequired, addField};
-ghost use Rattle.expansion.specs.Trace.{Fits, Adds, SpendsNode, Grows};
+ghost use Rattle.expansion.specs.Trace.{Fits, Adds, SpendsNode, Grows, Entering, Enters, Leaves};
 
 // Document 01: "one of 4,096 nodes", "members of all levels may number 8,192 and the entries of all required lists 2,048".
 pub const NODES: usize = 4096;
@@ -104,4 +104,57 @@ pub fn add_field(trace: &mut [u64], builder: Builder, tag: u32, required: bool) 
         };
     }
     member
+}
+
+// The word of a group that is entered.
+fn entering(count: u32, required: bool) -> u64
+    ensures { λ word. ⌜ Entering count required word ⌝ }
+{
+    if required {
+        return count as u64 * 8 + 6;
+    }
+    count as u64 * 8 + 2
+}
+
+// Enters a group whose node is spent: its count tag is a member of the level in work, and its delimiter the first of its entry level.
+pub fn enter_group(
+    trace: &mut [u64],
+    builder: Builder,
+    count: u32,
+    required: bool,
+    delimiter: u32,
+) -> Added
+    requires { ⌜ Fits builder × (14336 ≤ length (now trace)) ⌝ }
+    ensures change { λ added. ⌜ Enters count required delimiter builder (now (trace .entry)) added (now (trace .exit)) ⌝ }
+    ensures grows { λ added. ⌜ Grows builder added ⌝ }
+{
+    let word = entering(count, required);
+    if builder.members + 1 < MEMBERS {
+        let len = builder.len;
+        trace[len] = word;
+        trace[len + 1] = delimiter as u64 * 4;
+        return Added::Done(Builder {
+            nodes: builder.nodes,
+            members: builder.members + 2,
+            required: builder.required,
+            len: len + 2,
+        });
+    }
+    Added::Refused(Refusal::MembersOver)
+}
+
+// Leaves a group: its entry level is filled, and stands in the level around.
+pub fn leave_group(trace: &mut [u64], builder: Builder, delimiter: u32) -> Builder
+    requires { ⌜ Fits builder × (builder .len < builder .members + builder .required + builder .nodes) × (14336 ≤ length (now trace)) ⌝ }
+    ensures change { λ next. ⌜ Leaves delimiter builder (now (trace .entry)) next (now (trace .exit)) ⌝ }
+    ensures fits { λ next. ⌜ Fits next ⌝ }
+{
+    let len = builder.len;
+    trace[len] = delimiter as u64 * 4 + 3;
+    Builder {
+        nodes: builder.nodes,
+        members: builder.members,
+        required: builder.required,
+        len: len + 1,
+    }
 }

@@ -1,2 +1,3 @@
 // The expansion of a message type: from the definitions of a dictionary to the layout of a message.
 pub mod builder;
+pub mod path;
