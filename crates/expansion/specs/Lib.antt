@@ -1,11 +1,13 @@
 -- Definitions and laws of the crate `expansion`: a dictionary as a tree, and the layout that a message type of it has. A definition's laws
 -- stand in the file of its name with `Laws`, its examples in the one with `Cases`.
 pub mod Dictionary
+pub mod DictionaryPlaces
 pub mod Expansion
 pub mod ExpansionCases
 pub mod Trace
 pub mod TraceLaws
 pub mod PathLaws
+pub mod FillLaws
 pub mod ExpansionInduction
 pub mod ExpansionLaws
 pub mod ExpansionRules
