@@ -1,0 +1,5 @@
+-- Definitions and laws of the crate `dictionary`: the words of a dictionary. A definition's laws stand in the file of its name with `Laws`, its
+-- examples in the one with `Cases`.
+pub mod Records
+pub mod RecordsLaws
+pub mod RecordsCases

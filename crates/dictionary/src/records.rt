@@ -1,0 +1,427 @@
+// A line of a dictionary text as a record of ten words.
+use texts::line::Line;
+use texts::line_parts::Admitted;
+use texts::line_parts::MessageType;
+use texts::line_parts::Number32;
+use texts::line_parts::parse_number;
+ghost use mathlib.Core.Path.{_≡_};
+ghost use Prim.Native.Nat.{_+_, _-_, _≤_, _<_};
+ghost use lib.ListN.{length, getD, take, drop};
+ghost use lib.Seq.{sets};
+ghost use Rattle.ascii.specs.Notation.{isBetween};
+ghost use Rattle.texts.specs.LineParts.{numberOf, isAlphanumeric, isVisible};
+ghost use Rattle.dictionary.specs.Records.{holdsByte, holdsPart, lettersLength, lettersText, holdsLetters, holdsValue, flagWord, record4, valueRecord, endRecord, recordOf, isUnused, if-unused, defFrom, admittedFrom, valueFrom, messageFrom, fieldFrom, groupFrom, useFrom, endOfLetters, endOfNumber, outerFrom, bodyFrom, lineFrom};
+
+// How many words a record has.
+pub const RECORD: usize = 10;
+
+fn is_between(low: u32, high: u32, n: u32) -> bool
+    ensures { λ answer. ⌜ answer ≡ isBetween low high n ⌝ }
+{
+    low <= n && n <= high
+}
+
+// The Rust's u8::is_ascii_alphanumeric, of a byte in a word.
+fn is_ascii_alphanumeric(byte: u32) -> bool
+    ensures { λ answer. ⌜ answer ≡ isAlphanumeric byte ⌝ }
+{
+    if is_between(48, 57, byte) {
+        return true;
+    }
+    if is_between(65, 90, byte) {
+        return true;
+    }
+    is_between(97, 122, byte)
+}
+
+fn holds_letter(left: u32, index: u32, byte: u32) -> bool
+    ensures { λ answer. ⌜ answer ≡ holdsByte isAlphanumeric left index byte ⌝ }
+{
+    if index < left {
+        return is_ascii_alphanumeric(byte);
+    }
+    byte == 0
+}
+
+fn holds_visible(left: u32, index: u32, byte: u32) -> bool
+    ensures { λ answer. ⌜ answer ≡ holdsByte isVisible left index byte ⌝ }
+{
+    if index < left {
+        return is_between(0x21, 0x7E, byte);
+    }
+    byte == 0
+}
+
+// How many letters or digits the T of this word has.
+pub fn letters_length(word: u32) -> u32
+    ensures length { λ count. ⌜ count ≡ lettersLength word ⌝ }
+    ensures range { λ count. ⌜ (1 ≤ count) × (count ≤ 4) ⌝ }
+{
+    if word / 0x1_0000 % 0x100 == 0 {
+        return 1;
+    }
+    if word / 0x100 % 0x100 == 0 {
+        return 2;
+    }
+    if word % 0x100 == 0 {
+        return 3;
+    }
+    4
+}
+
+// The word is some T's: 1 to 4 letters or digits.
+fn holds_letters(word: u32) -> bool
+    ensures { λ answer. ⌜ answer ≡ holdsLetters word ⌝ }
+{
+    let left = letters_length(word);
+    if !holds_letter(left, 0, word / 0x100_0000) {
+        return false;
+    }
+    if !holds_letter(left, 1, word / 0x1_0000 % 0x100) {
+        return false;
+    }
+    if !holds_letter(left, 2, word / 0x100 % 0x100) {
+        return false;
+    }
+    holds_letter(left, 3, word % 0x100)
+}
+
+fn holds_visible_part(left: u32, word: u32) -> bool
+    ensures { λ answer. ⌜ answer ≡ holdsPart isVisible left word ⌝ }
+{
+    if !holds_visible(left, 0, word / 0x100_0000) {
+        return false;
+    }
+    if !holds_visible(left, 1, word / 0x1_0000 % 0x100) {
+        return false;
+    }
+    if !holds_visible(left, 2, word / 0x100 % 0x100) {
+        return false;
+    }
+    holds_visible(left, 3, word % 0x100)
+}
+
+fn less_four(left: u32) -> u32
+    ensures { λ less. ⌜ less ≡ left - 4 ⌝ }
+{
+    if left < 4 { 0 } else { left - 4 }
+}
+
+// The words hold so many bytes 21 to 7E, and 0 behind them.
+fn holds_value(len: u32, words: &[u32]) -> bool
+    ensures { λ answer. ⌜ answer ≡ holdsValue len (now (words .entry)) ⌝ }
+{
+    let mut left = len;
+    let mut index = 0;
+    while index < words.len() {
+        let word = words[index];
+        if !holds_visible_part(left, word) {
+            return false;
+        }
+        left = less_four(left);
+        index += 1;
+    }
+    left == 0
+}
+
+// Every word behind the first `used` is 0.
+fn is_unused(used: usize, words: &[u32]) -> bool
+    requires { ⌜ used ≤ length (now words) ⌝ }
+    ensures { λ answer. ⌜ answer ≡ isUnused used (now (words .entry)) ⌝ }
+{
+    let mut index = used;
+    while index < words.len() {
+        if words[index] != 0 {
+            return false;
+        }
+        index += 1;
+    }
+    true
+}
+
+fn line_if_unused(used: usize, words: &[u32], line: Line) -> Line
+    requires { ⌜ used ≤ length (now words) ⌝ }
+    ensures { λ answer. ⌜ answer ≡ if-unused used (now (words .entry)) line ⌝ }
+{
+    if is_unused(used, words) {
+        return line;
+    }
+    Line::Unknown
+}
+
+fn def_from(words: &[u32]) -> Line
+    requires { ⌜ length (now words) ≡ 10 ⌝ }
+    ensures { λ line. ⌜ line ≡ defFrom (now (words .entry)) ⌝ }
+{
+    if words[2] < 34 {
+        return line_if_unused(3, words, Line::Def(words[1], words[2]));
+    }
+    Line::Unknown
+}
+
+fn admitted_from(words: &[u32]) -> Admitted
+    requires { ⌜ length (now words) ≡ 10 ⌝ }
+    ensures { λ value. ⌜ value ≡ admittedFrom (now (words .entry)) ⌝ }
+{
+    Admitted {
+        len: words[1],
+        word0: words[2],
+        word1: words[3],
+        word2: words[4],
+        word3: words[5],
+        word4: words[6],
+        word5: words[7],
+        word6: words[8],
+        word7: words[9],
+    }
+}
+
+fn value_from(words: &[u32]) -> Line
+    requires { ⌜ length (now words) ≡ 10 ⌝ }
+    ensures { λ line. ⌜ line ≡ valueFrom (now (words .entry)) ⌝ }
+{
+    if words[1] < 1 {
+        return Line::Unknown;
+    }
+    if holds_value(words[1], &words[2..]) {
+        return Line::Value(admitted_from(words));
+    }
+    Line::Unknown
+}
+
+fn message_from(words: &[u32]) -> Line
+    requires { ⌜ length (now words) ≡ 10 ⌝ }
+    ensures { λ line. ⌜ line ≡ messageFrom (now (words .entry)) ⌝ }
+{
+    if !holds_letters(words[1]) {
+        return Line::Unknown;
+    }
+    if words[2] <= 1 {
+        return line_if_unused(3, words, Line::Message(words[1], words[2] == 1));
+    }
+    Line::Unknown
+}
+
+fn field_from(words: &[u32]) -> Line
+    requires { ⌜ length (now words) ≡ 10 ⌝ }
+    ensures { λ line. ⌜ line ≡ fieldFrom (now (words .entry)) ⌝ }
+{
+    if words[2] <= 1 {
+        return line_if_unused(3, words, Line::Field(words[1], words[2] == 1));
+    }
+    Line::Unknown
+}
+
+fn group_from(words: &[u32]) -> Line
+    requires { ⌜ length (now words) ≡ 10 ⌝ }
+    ensures { λ line. ⌜ line ≡ groupFrom (now (words .entry)) ⌝ }
+{
+    if words[3] <= 1 {
+        return line_if_unused(4, words, Line::Group(words[1], words[2], words[3] == 1));
+    }
+    Line::Unknown
+}
+
+fn use_from(words: &[u32]) -> Line
+    requires { ⌜ length (now words) ≡ 10 ⌝ }
+    ensures { λ line. ⌜ line ≡ useFrom (now (words .entry)) ⌝ }
+{
+    if words[2] <= 1 {
+        return line_if_unused(3, words, Line::Use(words[1], words[2] == 1));
+    }
+    Line::Unknown
+}
+
+// The number that the letters of a T make, where they are one.
+fn letters_number(word: u32) -> Number32
+    ensures { λ number. ⌜ number ≡ numberOf (lettersText word) ⌝ }
+{
+    let bytes = [
+        (word / 0x100_0000) as u8,
+        (word / 0x1_0000 % 0x100) as u8,
+        (word / 0x100 % 0x100) as u8,
+        (word % 0x100) as u8,
+    ];
+    let len = letters_length(word) as usize;
+    parse_number(&bytes[..len])
+}
+
+fn end_of_letters(words: &[u32]) -> Line
+    requires { ⌜ length (now words) ≡ 10 ⌝ }
+    ensures { λ line. ⌜ line ≡ endOfLetters (now (words .entry)) ⌝ }
+{
+    if !holds_letters(words[1]) {
+        return Line::Unknown;
+    }
+    let number = letters_number(words[1]);
+    line_if_unused(2, words, Line::End(number, MessageType::Letters(words[1])))
+}
+
+fn end_of_number(words: &[u32]) -> Line
+    requires { ⌜ length (now words) ≡ 10 ⌝ }
+    ensures { λ line. ⌜ line ≡ endOfNumber (now (words .entry)) ⌝ }
+{
+    if words[1] < 10000 {
+        return Line::Unknown;
+    }
+    line_if_unused(
+        2,
+        words,
+        Line::End(Number32::Number(words[1]), MessageType::NoLetters),
+    )
+}
+
+// Kinds 1 to 6.
+fn outer_from(words: &[u32]) -> Line
+    requires { ⌜ length (now words) ≡ 10 ⌝ }
+    ensures { λ line. ⌜ line ≡ outerFrom (now (words .entry)) ⌝ }
+{
+    let kind = words[0];
+    if kind == 1 {
+        return def_from(words);
+    }
+    if kind == 2 {
+        return value_from(words);
+    }
+    if kind == 3 {
+        return line_if_unused(1, words, Line::BeginHeader);
+    }
+    if kind == 4 {
+        return line_if_unused(1, words, Line::BeginTrailer);
+    }
+    if kind == 5 {
+        return line_if_unused(2, words, Line::Component(words[1]));
+    }
+    if kind == 6 {
+        return message_from(words);
+    }
+    Line::Unknown
+}
+
+// Kinds 7 to 13.
+fn body_from(words: &[u32]) -> Line
+    requires { ⌜ length (now words) ≡ 10 ⌝ }
+    ensures { λ line. ⌜ line ≡ bodyFrom (now (words .entry)) ⌝ }
+{
+    let kind = words[0];
+    if kind == 7 {
+        return field_from(words);
+    }
+    if kind == 8 {
+        return group_from(words);
+    }
+    if kind == 9 {
+        return use_from(words);
+    }
+    if kind == 10 {
+        return line_if_unused(1, words, Line::EndHeader);
+    }
+    if kind == 11 {
+        return line_if_unused(1, words, Line::EndTrailer);
+    }
+    if kind == 12 {
+        return end_of_letters(words);
+    }
+    if kind == 13 {
+        return end_of_number(words);
+    }
+    Line::Unknown
+}
+
+// The line of ten words, Unknown where they are the record of none.
+pub fn line_from(words: &[u32]) -> Line
+    requires { ⌜ length (now words) ≡ 10 ⌝ }
+    ensures { λ line. ⌜ line ≡ lineFrom (now (words .entry)) ⌝ }
+{
+    if words[0] <= 6 {
+        return outer_from(words);
+    }
+    body_from(words)
+}
+
+// The line of the record at this place.
+pub fn line_at(words: &[u32], at: usize) -> Line
+    requires { ⌜ at + 10 ≤ length (now words) ⌝ }
+    ensures { λ line. ⌜ line ≡ lineFrom (take 10 (drop at (now (words .entry)))) ⌝ }
+{
+    let past = at + RECORD;
+    line_from(&words[at..past])
+}
+
+// A kind and three words, and 0 in the six words behind them.
+fn put_words(words: &mut [u32], at: usize, kind: u32, first: u32, second: u32, third: u32)
+    requires { ⌜ at + 10 ≤ length (now words) ⌝ }
+    ensures { λ _. ⌜ now (words .exit) ≡ sets (now (words .entry)) at (record4 kind first second third) ⌝ }
+{
+    words[at] = kind;
+    words[at + 1] = first;
+    words[at + 2] = second;
+    words[at + 3] = third;
+    words[at + 4] = 0;
+    words[at + 5] = 0;
+    words[at + 6] = 0;
+    words[at + 7] = 0;
+    words[at + 8] = 0;
+    words[at + 9] = 0;
+}
+
+fn put_value(words: &mut [u32], at: usize, value: Admitted)
+    requires { ⌜ at + 10 ≤ length (now words) ⌝ }
+    ensures { λ _. ⌜ now (words .exit) ≡ sets (now (words .entry)) at (valueRecord value) ⌝ }
+{
+    words[at] = 2;
+    words[at + 1] = value.len;
+    words[at + 2] = value.word0;
+    words[at + 3] = value.word1;
+    words[at + 4] = value.word2;
+    words[at + 5] = value.word3;
+    words[at + 6] = value.word4;
+    words[at + 7] = value.word5;
+    words[at + 8] = value.word6;
+    words[at + 9] = value.word7;
+}
+
+fn put_end(words: &mut [u32], at: usize, number: Number32, letters: MessageType)
+    requires { ⌜ at + 10 ≤ length (now words) ⌝ }
+    ensures { λ _. ⌜ now (words .exit) ≡ sets (now (words .entry)) at (endRecord number letters) ⌝ }
+{
+    match letters {
+        MessageType::Letters(name) => put_words(words, at, 12, name, 0, 0),
+        MessageType::NoLetters => match number {
+            Number32::Number(name) => put_words(words, at, 13, name, 0, 0),
+            Number32::NoNumber => put_words(words, at, 0, 0, 0, 0),
+        },
+    }
+}
+
+fn flag_word(flag: bool) -> u32
+    ensures { λ word. ⌜ word ≡ flagWord flag ⌝ }
+{
+    if flag { 1 } else { 0 }
+}
+
+// Writes the record of the line at this place.
+pub fn put_record(words: &mut [u32], at: usize, line: Line)
+    requires { ⌜ at + 10 ≤ length (now words) ⌝ }
+    ensures { λ _. ⌜ now (words .exit) ≡ sets (now (words .entry)) at (recordOf line) ⌝ }
+{
+    match line {
+        Line::Def(tag, place) => put_words(words, at, 1, tag, place, 0),
+        Line::Value(value) => put_value(words, at, value),
+        Line::BeginHeader => put_words(words, at, 3, 0, 0, 0),
+        Line::BeginTrailer => put_words(words, at, 4, 0, 0, 0),
+        Line::EndHeader => put_words(words, at, 10, 0, 0, 0),
+        Line::EndTrailer => put_words(words, at, 11, 0, 0, 0),
+        Line::Component(name) => put_words(words, at, 5, name, 0, 0),
+        Line::Message(letters, app) => put_words(words, at, 6, letters, flag_word(app), 0),
+        Line::Field(tag, required) => put_words(words, at, 7, tag, flag_word(required), 0),
+        Line::Group(count, delimiter, required) => {
+            put_words(words, at, 8, count, delimiter, flag_word(required))
+        }
+        Line::Use(name, required) => put_words(words, at, 9, name, flag_word(required), 0),
+        Line::End(number, letters) => put_end(words, at, number, letters),
+        Line::Member(_) => put_words(words, at, 0, 0, 0, 0),
+        Line::RequiredTag(_) => put_words(words, at, 0, 0, 0, 0),
+        Line::Unknown => put_words(words, at, 0, 0, 0, 0),
+    }
+}
