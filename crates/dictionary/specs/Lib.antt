@@ -3,3 +3,8 @@
 pub mod Records
 pub mod RecordsLaws
 pub mod RecordsCases
+pub mod LineTexts
+pub mod NumeralLaws
+pub mod TypeTextLaws
+pub mod WordTextLaws
+pub mod LineTextsLaws

@@ -25,10 +25,10 @@
 --   holdsValue left words        the words hold `left` bytes 21 to 7E, then 0
 --   recordOf line                the ten words of a line
 --   lineFrom record              the line of ten words
-use Prim.Native.Nat.{ℕ, _*_, _+_, _-_, _/_, _%_}
+use Prim.Native.Nat.{ℕ, _-_, _/_, _%_}
 use mathlib.Core.Bool.{Bool, true, false, _&&_}
 use mathlib.Core.List.{List, [], _∷_}
-use lib.ListN.{length, getD, take, drop, replicate}
+use lib.ListN.{getD, take, drop, replicate}
 use Rattle.ascii.specs.Notation.{_≤ᵇ_, _<ᵇ_, _≡ᵇ_, if_then_else_}
 use Rattle.ascii.specs.Bytes.{every}
 use Rattle.texts.specs.declared.line.Line.{Line}
@@ -90,6 +90,10 @@ unfoldable pub holdsValue : ℕ → List ℕ → Bool
 holdsValue left [] = left ≡ᵇ 0
 holdsValue left (word ∷ rest) = holdsPart isVisible left word && holdsValue (left - 4) rest
 
+abbrev pub valueWords : Admitted → List ℕ
+valueWords value =
+    value .word0 ∷ value .word1 ∷ value .word2 ∷ value .word3 ∷ value .word4 ∷ value .word5 ∷ value .word6 ∷ value .word7 ∷ []
+
 -- ---- the record of a line
 
 abbrev pub flagWord : Bool → ℕ
@@ -101,18 +105,7 @@ abbrev pub record4 : ℕ → ℕ → ℕ → ℕ → List ℕ
 record4 kind first second third = kind ∷ first ∷ second ∷ third ∷ replicate 6 0
 
 abbrev pub valueRecord : Admitted → List ℕ
-valueRecord value =
-    2
-    ∷ value .len
-    ∷ value .word0
-    ∷ value .word1
-    ∷ value .word2
-    ∷ value .word3
-    ∷ value .word4
-    ∷ value .word5
-    ∷ value .word6
-    ∷ value .word7
-    ∷ []
+valueRecord value = 2 ∷ value .len ∷ valueWords value
 
 abbrev pub endRecord : Number32 → MessageType → List ℕ
 endRecord number (Letters letters) = record4 12 letters 0 0

@@ -5,7 +5,7 @@
 --   Words32 words     every word has 32 bits
 use mathlib.Core.Path.{_≡_, refl, sym, ap, _∙_}
 use Prim.Native.Nat.{ℕ, suc, _+_, _-_, _^_, _≤_, _<_}
-use mathlib.Core.Bool.{Bool, true, false, _&&_, cond}
+use mathlib.Core.Bool.{Bool, true, false, cond}
 use mathlib.Core.List.{List, [], _∷_}
 use native.Mathlib.Omega.{arith}
 use lib.Dec.{leb, ltb, eqb}
@@ -20,9 +20,8 @@ use Rattle.texts.specs.declared.line_parts.Number32.{Number32}
 use Rattle.texts.specs.declared.line_parts.Number32.the-variants.{Number, NoNumber}
 use Rattle.texts.specs.declared.line_parts.MessageType.{MessageType}
 use Rattle.texts.specs.declared.line_parts.MessageType.the-variants.{Letters, NoLetters}
-use Rattle.texts.specs.declared.line_parts.Admitted.{Admitted}
 use Rattle.texts.specs.LineParts.{numberOf, isVisible}
-use Rattle.dictionary.specs.Records.{holdsByte, holdsPart, lettersText, holdsLetters, holdsValue, isZero, isUnused, flagWord, record4, recordOf, if-unused, defFrom, admittedFrom, valueFrom, messageFrom, fieldFrom, groupFrom, useFrom, endOfLetters, endOfNumber, outerFrom, bodyFrom, lineFrom}
+use Rattle.dictionary.specs.Records.{holdsByte, holdsPart, lettersText, holdsLetters, holdsValue, isZero, valueWords, isUnused, flagWord, record4, recordOf, if-unused, defFrom, valueFrom, messageFrom, fieldFrom, groupFrom, useFrom, endOfLetters, endOfNumber, outerFrom, bodyFrom, lineFrom}
 
 -- ---- holdsByte
 
@@ -86,10 +85,6 @@ pub add-nine : (at : ℕ) → at + 9 ≡ suc (suc (suc (suc (suc (suc (suc (suc 
 add-nine at = omega arith
 
 -- ---- what a record can hold
-
-abbrev pub valueWords : Admitted → List ℕ
-valueWords value =
-    value .word0 ∷ value .word1 ∷ value .word2 ∷ value .word3 ∷ value .word4 ∷ value .word5 ∷ value .word6 ∷ value .word7 ∷ []
 
 abbrev pub HeldEnd : Number32 → MessageType → Type 0
 HeldEnd number (Letters letters) = (holdsLetters letters ≡ true) × (number ≡ numberOf (lettersText letters))
