@@ -39,6 +39,7 @@ record parse_count.cases counts
 record read_dictionary.cases dictionary-texts
 record read_layout.cases layout-texts
 record walk_group.cases walks walk
+record expand.cases expansions expand
 
 # list DICT MSG: what `gatelist` prints, beside the message.
 list() {

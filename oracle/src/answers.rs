@@ -5,7 +5,10 @@
 use crate::case_text::CaseText;
 use crate::layouts::HandMade;
 use crate::walks::Top;
-use crate::{arrangement, cases, hex, layouts, reader, text_cases, values, walk_cases, walks};
+use crate::{
+    arrangement, cases, expansion, expansion_cases, hex, layouts, reader, text_cases, texts,
+    values, walk_cases, walks,
+};
 use ironfix_core::field::FieldRef;
 use std::str::FromStr;
 
@@ -22,11 +25,13 @@ pub enum Kind {
     LayoutTexts,
     /// `walk_group`.
     Walks,
+    /// `ScopeBuilder::expand`.
+    Expansions,
 }
 
 impl Kind {
     /// Each kind, with its name and the file of its list.
-    pub const ALL: [(Self, &'static str, &'static str); 5] = [
+    pub const ALL: [(Self, &'static str, &'static str); 6] = [
         (Self::Values, "values", "is_valid_value.cases"),
         (Self::Counts, "counts", "parse_count.cases"),
         (
@@ -36,6 +41,7 @@ impl Kind {
         ),
         (Self::LayoutTexts, "layout-texts", "read_layout.cases"),
         (Self::Walks, "walks", "walk_group.cases"),
+        (Self::Expansions, "expansions", "expand.cases"),
     ];
 
     pub fn named(name: &str) -> Option<Self> {
@@ -51,6 +57,7 @@ impl Kind {
             Self::DictionaryTexts => text_lines(&text_cases::dictionary_cases()),
             Self::LayoutTexts => text_lines(&text_cases::layout_cases()),
             Self::Walks => walk_cases::walk_cases(),
+            Self::Expansions => expansion_cases::expansion_cases(),
         }
     }
 
@@ -66,6 +73,7 @@ impl Kind {
             Self::DictionaryTexts => text_answers(cases, |text| Ok(dictionary_answer(text))),
             Self::LayoutTexts => text_answers(cases, layout_answer),
             Self::Walks => walk_answers(cases),
+            Self::Expansions => expansion_answers(cases),
         }
     }
 }
@@ -200,7 +208,41 @@ fn walk_answers(lines: &str) -> Result<String, String> {
                 }
             }
             _ if line.starts_with('#') => {}
-            _ => return Err(format!("`{line}` is of no known form")),
+            _ => return Err(format!("`{line:.60}` is of no known form")),
+        }
+        answers.push('\n');
+    }
+    Ok(answers)
+}
+
+/// An `expand` line gives itself, the nodes spent and the words of the layout,
+/// or the refusal. It is asked of the `dictionary` above it.
+fn expansion_answers(lines: &str) -> Result<String, String> {
+    let mut answers = String::new();
+    let mut dict = None;
+    for line in lines.lines() {
+        let (key, rest) = line.split_once(' ').unwrap_or((line, ""));
+        answers.push_str(line);
+        match key {
+            "dictionary" => {
+                let read = texts::dictionary(&hex::decode(rest)?);
+                dict = Some(read.map_err(|refusal| format!("`{line:.60}..` is {refusal}"))?);
+            }
+            "expand" => {
+                let dict = dict.as_ref().ok_or("no dictionary")?;
+                let msg_type = hex::decode(rest)?;
+                let msg_type = String::from_utf8_lossy(&msg_type);
+                let answer = match expansion::expand(dict, &msg_type)? {
+                    Ok((expansion, nodes)) => {
+                        let words = arrangement::words(&expansion.layout());
+                        format!("{nodes} {}", walk_cases::decimals(&words))
+                    }
+                    Err(refusal) => refusal.recorded(),
+                };
+                answers.push_str(&format!(" {answer}"));
+            }
+            _ if line.starts_with('#') => {}
+            _ => return Err(format!("`{line:.60}` is of no known form")),
         }
         answers.push('\n');
     }

@@ -96,12 +96,12 @@ impl Expansion<'_> {
         PlainLevel::from(&self.level)
     }
 
-    /// The nodes spent.
+    /// Whether the expansion spends that many nodes.
     ///
     /// The Rust does not give them out. They are what is left of its limit
     /// when as many groups more as go are added to the message: each takes
     /// one node.
-    pub fn nodes(&self) -> usize {
+    pub fn spends(&self, nodes: usize) -> bool {
         let fits = |more: usize| {
             let mut wider = self.msg_def.clone();
             for _ in 0..more {
@@ -110,23 +110,14 @@ impl Expansion<'_> {
             let (_, errors) = ScopeBuilder::expand(self.dict, self.dict, &wider);
             errors.is_empty()
         };
-        let mut most = 0;
-        let mut over = MAX_SCOPE_NODES + 1;
-        while over - most > 1 {
-            let middle = most + (over - most) / 2;
-            if fits(middle) {
-                most = middle;
-            } else {
-                over = middle;
-            }
-        }
-        MAX_SCOPE_NODES - most
+        let left = MAX_SCOPE_NODES - nodes;
+        fits(left) && !fits(left + 1)
     }
 }
 
 /// The lines of an expansion: the nodes spent, then each level.
-pub fn expansion_lines(expansion: &Expansion<'_>) -> String {
-    let mut text = format!("nodes={}\n", expansion.nodes());
+pub fn expansion_lines(expansion: &Expansion<'_>, nodes: usize) -> String {
+    let mut text = format!("nodes={nodes}\n");
     level_lines(&expansion.layout(), "top", &mut text);
     text
 }
@@ -191,9 +182,9 @@ fn list(tags: &[u32]) -> String {
     tags.join(",")
 }
 
-/// The lines of a refusal: document 01's number, with the name where the Rust
-/// gives one.
-pub fn refusal_lines(refused: &Refused) -> String {
+/// The lines of all errors of the Rust's expansion: document 01's number, with
+/// the name where the Rust gives one.
+pub fn error_lines(refused: &Refused) -> String {
     match refused {
         Refused::UnknownMsgType => "error=6\n".to_string(),
         Refused::Schema(errors) => errors

@@ -30,6 +30,8 @@ pub mod arrangement;
 pub mod case_text;
 pub mod cases;
 pub mod events;
+pub mod expansion;
+pub mod expansion_cases;
 pub mod hex;
 pub mod layouts;
 pub mod lines;

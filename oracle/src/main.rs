@@ -2,9 +2,11 @@
 
 use oracle::answers::{self, Kind};
 use oracle::events::Event;
-use oracle::layouts::{self, HandMade};
+use oracle::layouts::{self, Expansion, HandMade};
+use oracle::refusal::Refusal;
+use oracle::schema::Dictionary;
 use oracle::walks::{self, Top};
-use oracle::{texts, verdicts};
+use oracle::{expansion, texts, verdicts};
 use std::io::{self, Read, Write};
 use std::process::ExitCode;
 
@@ -50,10 +52,13 @@ fn main() -> ExitCode {
     }
 }
 
+/// The most fields of a field table.
+const MOST_FIELDS: usize = 4_096;
+
 const USAGE: &str = "usage: oracle COMMAND
   cases KIND | KIND             the cases of a recorded list; the answers to
                                 the cases on standard input. KIND is one of
-    values counts dictionary-texts layout-texts
+    values counts dictionary-texts layout-texts walks expansions
   dictionary-text FILE          `accepted LINES` or `refused N P`
   layout-text FILE              the same for a layout text
   layout DICT TYPE
@@ -78,7 +83,7 @@ fn file(path: &str) -> Result<Vec<u8>, String> {
     std::fs::read(path).map_err(|error| format!("{path}: {error}"))
 }
 
-fn dictionary(path: &str) -> Result<oracle::schema::Dictionary, String> {
+fn dictionary(path: &str) -> Result<Dictionary, String> {
     texts::dictionary(&file(path)?).map_err(|refusal| format!("{path}: {refusal}"))
 }
 
@@ -92,17 +97,30 @@ fn hand_made(path: &str) -> Result<HandMade, String> {
     layouts::hand_made(&level).map_err(|error| format!("{path}: {error}"))
 }
 
+/// The expansion of a type and the nodes spent, or the line of the refusal.
+fn expanded<'d>(
+    dict: &'d Dictionary,
+    msg_type: &str,
+) -> Result<Result<(Expansion<'d>, usize), String>, String> {
+    let answer = expansion::expand(dict, msg_type)?;
+    Ok(answer.map_err(|refusal| format!("{refusal}\n")))
+}
+
 fn layout(dict: &str, msg_type: &str) -> Result<String, String> {
-    Ok(match layouts::expand(&dictionary(dict)?, msg_type) {
-        Ok(expansion) => layouts::expansion_lines(&expansion),
-        Err(refused) => layouts::refusal_lines(&refused),
+    let dict = dictionary(dict)?;
+    Ok(match expanded(&dict, msg_type)? {
+        Ok((expansion, nodes)) => layouts::expansion_lines(&expansion, nodes),
+        Err(refused) => match layouts::expand(&dict, msg_type) {
+            Ok(_) => refused,
+            Err(errors) => refused + &layouts::error_lines(&errors),
+        },
     })
 }
 
 fn expanded_text(dict: &str, msg_type: &str) -> Result<String, String> {
-    Ok(match layouts::expand(&dictionary(dict)?, msg_type) {
-        Ok(expansion) => layouts::layout_text(&expansion.layout()),
-        Err(refused) => layouts::refusal_lines(&refused),
+    Ok(match expanded(&dictionary(dict)?, msg_type)? {
+        Ok((expansion, _)) => layouts::layout_text(&expansion.layout()),
+        Err(refused) => refused,
     })
 }
 
@@ -112,20 +130,20 @@ fn event_lines(events: &[Event]) -> String {
 
 fn message_events(dict: &str, msg: &str) -> Result<String, String> {
     let (dict, msg) = (dictionary(dict)?, message(msg)?);
-    match layouts::expand(&dict, &msg.msg_type()) {
-        Ok(expansion) => {
+    match expanded(&dict, &msg.msg_type())? {
+        Ok((expansion, _)) => {
             walks::checked_message_walk(&msg.fields(), &dict, &msg.msg_type(), &expansion)
                 .map(|events| event_lines(&events))
         }
-        Err(refused) => Ok(layouts::refusal_lines(&refused)),
+        Err(refused) => Ok(refused),
     }
 }
 
 fn group_events(dict: &str, msg: &str, position: &str, count: &str) -> Result<String, String> {
     let (dict, msg) = (dictionary(dict)?, message(msg)?);
-    match layouts::expand(&dict, &msg.msg_type()) {
-        Ok(expansion) => group_lines(&msg, position, count, Top::Expanded(&expansion)),
-        Err(refused) => Ok(layouts::refusal_lines(&refused)),
+    match expanded(&dict, &msg.msg_type())? {
+        Ok((expansion, _)) => group_lines(&msg, position, count, Top::Expanded(&expansion)),
+        Err(refused) => Ok(refused),
     }
 }
 
@@ -166,7 +184,7 @@ fn group_lines(
     )
 }
 
-fn verdict_digits(dict: &oracle::schema::Dictionary, msg: &texts::Message, strict: bool) -> String {
+fn verdict_digits(dict: &Dictionary, msg: &texts::Message, strict: bool) -> String {
     verdicts::verdicts(&msg.fields(), dict, strict)
         .iter()
         .map(u8::to_string)
@@ -181,14 +199,26 @@ fn verdict_line(dict: &str, msg: &str, strict: bool) -> Result<String, String> {
     ))
 }
 
+/// What `gatelist` prints: the calls in their order, and the first refusal as
+/// the only line.
 fn list(dict_path: &str, msg_path: &str) -> Result<String, String> {
-    let (dict, msg) = (dictionary(dict_path)?, message(msg_path)?);
-    let msg_type = msg.msg_type();
-    let expansion = match layouts::expand(&dict, &msg_type) {
-        Ok(expansion) => expansion,
-        Err(refused) => return Ok(layouts::refusal_lines(&refused)),
+    let refused = |refusal: Refusal| Ok(format!("{refusal}\n"));
+    let dict = match texts::dictionary(&file(dict_path)?) {
+        Ok(dict) => dict,
+        Err(refusal) => return refused(refusal),
     };
-    let fields = msg.fields();
+    let msg = match texts::message(&file(msg_path)?) {
+        Ok(msg) => msg,
+        Err(refusal) => return refused(refusal),
+    };
+    let (fields, msg_type) = (msg.fields(), msg.msg_type());
+    let expansion = match expansion::expand(&dict, &msg_type)? {
+        Ok((expansion, _)) => expansion,
+        Err(refusal) => return refused(refusal),
+    };
+    if fields.len() > MOST_FIELDS {
+        return refused(Refusal::new(12, 0));
+    }
     let events = walks::checked_message_walk(&fields, &dict, &msg_type, &expansion)?;
     Ok(format!(
         "type={msg_type} fields={}\n{}verdicts={}\n",

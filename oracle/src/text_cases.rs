@@ -394,7 +394,7 @@ fn message_types(cases: &mut Cases) {
         ",app",
         "app,app",
         "admin,app",
-        "session",
+        "business",
     ] {
         cases.lines(&format!("{ENVELOPE} message=D,{category} end=D"));
     }

@@ -563,7 +563,7 @@ fn deep_walks(blocks: &mut Vec<Block>) {
                 message.extend(fields(&format!("{}=1 {}=v", 100 + depth, 200 + depth)));
             }
             for _ in 0..2 + numbers.below(4) {
-                let more: &str = *numbers.pick::<&str>(&further);
+                let more = numbers.pick::<&str>(&further);
                 message.extend(fields(more));
             }
             if numbers.once_in(3) {

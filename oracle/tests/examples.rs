@@ -3,7 +3,7 @@
 use oracle::events::{BADCOUNT, DEEP, DELIM, Event, MISCOUNT, REPEAT};
 use oracle::layouts;
 use oracle::schema::Dictionary;
-use oracle::{reader, texts, verdicts, walks};
+use oracle::{expansion, reader, texts, verdicts, walks};
 
 fn file(name: &str) -> Vec<u8> {
     let path = format!("{}/../examples/{name}", env!("CARGO_MANIFEST_DIR"));
@@ -16,8 +16,9 @@ fn dictionary(name: &str) -> Dictionary {
 
 /// The layout of a message type, as lines.
 fn layout(dict: &Dictionary, msg_type: &str) -> String {
-    let expansion = layouts::expand(dict, msg_type).map_err(|refused| format!("{refused:?}"));
-    layouts::expansion_lines(&expansion.expect("an expansion"))
+    let expanded = expansion::expand(dict, msg_type).expect("the Rust agrees");
+    let (expansion, nodes) = expanded.expect("an expansion");
+    layouts::expansion_lines(&expansion, nodes)
 }
 
 /// The events of a message and its verdicts.

@@ -4,11 +4,12 @@ use oracle::answers::Kind;
 use oracle::events::{DEEP, Event};
 use oracle::layouts::{self, Expansion, HandMade, Refused};
 use oracle::numbers::Numbers;
+use oracle::refusal::Refusal;
 use oracle::schema::{Dictionary, FieldType};
 use oracle::validator::ValidationError;
 use oracle::values::{self, FIELD_TYPES};
 use oracle::walks::{self, Top};
-use oracle::{reader, texts, verdicts};
+use oracle::{expansion, reader, texts, verdicts};
 
 /// Lines parted by spaces.
 fn lines(text: &str) -> Vec<u8> {
@@ -31,9 +32,18 @@ fn hand_made(text: &str) -> HandMade {
 }
 
 fn expansion<'d>(dict: &'d Dictionary, msg_type: &str) -> Expansion<'d> {
-    layouts::expand(dict, msg_type)
-        .map_err(|refused| layouts::refusal_lines(&refused))
-        .expect("an expansion")
+    let expanded = layouts::expand(dict, msg_type);
+    expanded.unwrap_or_else(|refused| panic!("{refused:?}"))
+}
+
+/// The expansion of a type and the nodes spent, or the refusal. The Rust
+/// agrees.
+fn expand<'d>(dict: &'d Dictionary, msg_type: &str) -> Result<(Expansion<'d>, usize), Refusal> {
+    expansion::expand(dict, msg_type).expect("the Rust agrees")
+}
+
+fn nodes(dict: &Dictionary, msg_type: &str) -> usize {
+    expand(dict, msg_type).expect("an expansion").1
 }
 
 fn event_lines(events: &[Event]) -> Vec<String> {
@@ -68,7 +78,7 @@ fn one_list_in_full() {
     assert_eq!(msg.msg_type(), "D");
     let fields = msg.fields();
     let expansion = expansion(&dict, "D");
-    assert_eq!(expansion.nodes(), 1);
+    assert_eq!(nodes(&dict, "D"), 1);
     let events = walks::checked_message_walk(&fields, &dict, "D", &expansion);
     assert_eq!(
         event_lines(&events.expect("the Rust agrees")),
@@ -153,13 +163,17 @@ fn nested_groups(count: usize) -> Dictionary {
 
 #[test]
 fn nested_33_expand_and_34_do_not() {
-    assert_eq!(expansion(&nested_groups(33), "D").nodes(), 33);
+    assert_eq!(nodes(&nested_groups(33), "D"), 33);
     assert_eq!(
         layouts::expand(&nested_groups(34), "D").err(),
         Some(Refused::Schema(vec![ValidationError::SchemaTooDeep {
             name: "34".to_string(),
             limit: 32,
         }]))
+    );
+    assert_eq!(
+        expand(&nested_groups(34), "D").err(),
+        Some(Refusal::new(8, 34))
     );
 }
 
@@ -182,13 +196,16 @@ fn many_nodes(more: usize) -> Dictionary {
 
 #[test]
 fn nodes_4096_are_good_and_4097_are_not() {
-    assert_eq!(expansion(&many_nodes(1), "D").nodes(), 4096);
+    assert_eq!(nodes(&many_nodes(1), "D"), 4096);
     assert_eq!(
         layouts::expand(&many_nodes(2), "D").err(),
         Some(Refused::Schema(vec![ValidationError::SchemaTooLarge {
             limit: 4096
         }]))
     );
+    // Two groups, 62 uses of 65 nodes each, a use, and 64 groups in it: the
+    // last is node 4,097.
+    assert_eq!(expand(&many_nodes(2), "D").err(), Some(Refusal::new(9, 64)));
 }
 
 #[test]
@@ -201,7 +218,7 @@ fn expansion_follows_document_01() {
          use=1,0 end=D",
     );
     assert_eq!(
-        layouts::expansion_lines(&expansion(&dict, "D")),
+        layouts::expansion_lines(&expansion(&dict, "D"), nodes(&dict, "D")),
         "nodes=8\n\
          level=top members=5,8,10,11,50,627 required=8,10,8 groups=50,627\n\
          group=50 delimiter=52 required=0\n\
@@ -215,6 +232,39 @@ fn expansion_follows_document_01() {
         layouts::expand(&dict, "E").err(),
         Some(Refused::UnknownMsgType)
     );
+    assert_eq!(expand(&dict, "E").err(), Some(Refusal::new(6, 0)));
+}
+
+/// Members and required entries are counted before anything is dropped, and
+/// as they are met.
+#[test]
+fn members_8192_and_required_2048_are_good_and_one_more_is_not() {
+    let met = |components: &str, body: &str| {
+        let dict = dictionary(&format!(
+            "begin=header end=header begin=trailer end=trailer {components} message=D,app {body} end=D"
+        ));
+        expand(&dict, "D").map(|(_, nodes)| nodes)
+    };
+    let over = Err(Refusal::new(10, 0));
+    let members = format!(
+        "component=1 {} end=1 component=2 field=5,0 end=2",
+        "field=5,0 ".repeat(512)
+    );
+    let most = "use=1,1 ".repeat(16);
+    assert_eq!(met(&members, &most), Ok(16));
+    assert_eq!(met(&members, &format!("{most} use=2,0")), over);
+    assert_eq!(
+        met(&members, &format!("{most} use=9,0 use=2,0")),
+        Err(Refusal::new(7, 9))
+    );
+    assert_eq!(met(&members, &format!("{most} use=2,0 use=9,0")), over);
+    // A group adds its count tag and its delimiter.
+    assert_eq!(met(&members, &format!("group=1,2,0 end=1 {most}")), over);
+    let required = members.replace(",0", ",1");
+    let most = "use=1,1 ".repeat(4);
+    assert_eq!(met(&required, &most), Ok(4));
+    assert_eq!(met(&required, &format!("{most} use=2,1")), over);
+    assert_eq!(met(&required, &format!("{most} use=2,0")), Ok(5));
 }
 
 #[test]
@@ -224,9 +274,10 @@ fn an_undefined_component_is_named() {
     );
     let refused = layouts::expand(&dict, "D").err().expect("a refusal");
     assert_eq!(
-        layouts::refusal_lines(&refused),
+        layouts::error_lines(&refused),
         "error=7 name=12\nerror=7 name=3\n"
     );
+    assert_eq!(expand(&dict, "D").err(), Some(Refusal::new(7, 12)));
 }
 
 #[test]
