@@ -47,7 +47,7 @@ or-regroup : (a b c : Bool) → a || (b || c) ≡ a || b || c
 or-regroup true b c = refl
 or-regroup false b c = refl
 
-isIn-append : (tag : ℕ) (these those : List ℕ) → isIn tag (these ++ those) ≡ isIn tag these || isIn tag those
+pub isIn-append : (tag : ℕ) (these those : List ℕ) → isIn tag (these ++ those) ≡ isIn tag these || isIn tag those
 unfolding isIn
 isIn-append tag [] those = refl
 isIn-append tag (first ∷ rest) those =

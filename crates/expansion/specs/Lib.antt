@@ -6,7 +6,9 @@ pub mod Expansion
 pub mod ExpansionCases
 pub mod Trace
 pub mod TraceLaws
-pub mod PathLaws
+pub mod SeenLaws
+pub mod Retained
+pub mod RetainedLaws
 pub mod FillLaws
 pub mod ExpansionInduction
 pub mod ExpansionLaws

@@ -1,3 +1,4 @@
 // The expansion of a message type: from the definitions of a dictionary to the layout of a message.
 pub mod builder;
-pub mod path;
+pub mod required;
+pub mod seen;
