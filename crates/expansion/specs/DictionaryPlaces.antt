@@ -7,6 +7,7 @@
 --   InOrder lines             each line may stand where it stands
 --   at-field, at-group, at-use, at-end   a line of a body at a place, and what is left of the body behind it
 --   IsOther line              the line is no field, no group and no use
+--   component-found, component-not-found   a component's body is the one that begins behind its first line
 use mathlib.Core.Path.{_≡_, refl, sym, ap, _∙_}
 use Prim.Native.Nat.{ℕ, zero, suc, _+_, _≤_, _<_}
 use mathlib.Core.Bool.{Bool}
@@ -15,9 +16,10 @@ use native.Mathlib.Omega.{arith}
 use native.Mathlib.Numerals.{add-one}
 use lib.ListN.{length, getD, drop, drop-of-length-le}
 use lib.Seq.{drop-cons}
+use borrow.Author.Tests.{eq-eqb, ne-eqb}
 use Rattle.texts.specs.declared.line.Line.{Line}
 use Rattle.texts.specs.declared.line.Line.the-variants.{Def, Value, BeginHeader, BeginTrailer, EndHeader, EndTrailer, Component, Message, Field, Group, Use, End, Member, RequiredTag, Unknown}
-use Rattle.expansion.specs.Dictionary.{FieldRef, ComponentRef, Body, GroupDefs, no-group-defs, GroupDef, group-def, body-of, Blocks, fieldsOf, groupDefsOf, usesOf, emptyBody, withField, withGroup, withUse, innermost, aroundIt, before, blocksOf}
+use Rattle.expansion.specs.Dictionary.{FieldRef, ComponentRef, Body, GroupDefs, no-group-defs, GroupDef, group-def, body-of, Blocks, fieldsOf, groupDefsOf, usesOf, emptyBody, withField, withGroup, withUse, innermost, aroundIt, before, blocksOf, dictionaryOf, bodyCalled, componentOf, Found, NotFound}
 
 unfoldable pub openAt : List Line → ℕ → List Body
 openAt lines place = blocksOf (drop place lines) .opened
@@ -210,3 +212,51 @@ module _ (lines : List Line) (place : ℕ) (inside : place < length lines) (orde
   at-end (Member tag) same other = never-by (Member tag) same (rw same at (in-place lines place order inside))
   at-end (RequiredTag tag) same other = never-by (RequiredTag tag) same (rw same at (in-place lines place order inside))
   at-end Unknown same other = never-by Unknown same (rw same at (in-place lines place order inside))
+
+-- ---- the body of a component
+
+-- one line more in front: a component of another name, or no component
+called-by : (line : Line) (name : ℕ) (lines : List Line)
+    → (line ≡ Component name → ⊥)
+    → bodyCalled name (before line (blocksOf lines) .whole .components) ≡ bodyCalled name (blocksOf lines .whole .components)
+unfolding bodyCalled
+called-by (Component other) name lines differs = rw (ne-eqb other name (λ same. differs (ap Component same)))
+called-by (Def tag at) name lines differs = refl
+called-by (Value admitted) name lines differs = refl
+called-by BeginHeader name lines differs = refl
+called-by BeginTrailer name lines differs = refl
+called-by EndHeader name lines differs = refl
+called-by EndTrailer name lines differs = refl
+called-by (Message letters app) name lines differs = refl
+called-by (Field tag required) name lines differs = refl
+called-by (Group count delimiter required) name lines differs = refl
+called-by (Use other required) name lines differs = refl
+called-by (End number letters) name lines differs = refl
+called-by (Member tag) name lines differs = refl
+called-by (RequiredTag tag) name lines differs = refl
+called-by Unknown name lines differs = refl
+
+-- a component is found where its first line stands
+pub component-found : (lines : List Line) (place name : ℕ)
+    → place < length lines
+    → lineAt lines place ≡ Component name
+    → ((earlier : ℕ) → earlier < place → lineAt lines earlier ≡ Component name → ⊥)
+    → componentOf (dictionaryOf lines) name ≡ Found (innermost (openAt lines (place + 1)))
+unfolding dictionaryOf openAt blocksOf bodyCalled
+component-found [] place name inside line first = absurd (omega arith)
+component-found (this ∷ lines) zero name inside line first = rw (line, eq-eqb name name refl)
+component-found (this ∷ lines) (suc place) name inside line first =
+    let shift : suc (place + 1) ≡ suc place + 1 = omega arith in
+    called-by this name lines (λ same. first 0 (omega arith) same)
+    ∙ component-found lines place name (omega arith) line (λ earlier before-it same. first (suc earlier) (omega arith) same)
+    ∙ ap (λ (behind : ℕ). Found (innermost (blocksOf (drop behind (this ∷ lines)) .opened))) shift
+
+-- and not found where it has none
+pub component-not-found : (lines : List Line) (name : ℕ)
+    → ((place : ℕ) → place < length lines → lineAt lines place ≡ Component name → ⊥)
+    → componentOf (dictionaryOf lines) name ≡ NotFound
+unfolding dictionaryOf blocksOf bodyCalled
+component-not-found [] name none = refl
+component-not-found (this ∷ lines) name none =
+    called-by this name lines (λ same. none 0 (omega arith) same)
+    ∙ component-not-found lines name (λ place inside same. none (suc place) (omega arith) same)
