@@ -19,7 +19,7 @@ use lib.Seq.{drop-cons}
 use borrow.Author.Tests.{eq-eqb, ne-eqb}
 use Rattle.texts.specs.declared.line.Line.{Line}
 use Rattle.texts.specs.declared.line.Line.the-variants.{Def, Value, BeginHeader, BeginTrailer, EndHeader, EndTrailer, Component, Message, Field, Group, Use, End, Member, RequiredTag, Unknown}
-use Rattle.expansion.specs.Dictionary.{FieldRef, ComponentRef, Body, GroupDefs, no-group-defs, GroupDef, group-def, body-of, Blocks, fieldsOf, groupDefsOf, usesOf, emptyBody, withField, withGroup, withUse, innermost, aroundIt, before, blocksOf, dictionaryOf, bodyCalled, componentOf, Found, NotFound}
+use Rattle.expansion.specs.Dictionary.{Body, no-group-defs, group-def, fieldsOf, groupDefsOf, emptyBody, withField, withGroup, withUse, innermost, aroundIt, before, blocksOf, dictionaryOf, bodyCalled, componentOf, Found, NotFound}
 
 unfoldable pub openAt : List Line → ℕ → List Body
 openAt lines place = blocksOf (drop place lines) .opened

@@ -31,7 +31,7 @@ use Rattle.texts.specs.LineParts.{messageTypeOf}
 use Rattle.sorting.specs.Sort.{sorted, isIn}
 use Rattle.sorting.specs.Dedup.{deduped}
 use Rattle.layouts.specs.Limits.{Limits}
-use Rattle.layouts.specs.Layout.{Level, Groups, Group, Layout, level-of, group-of, grouped, countTag}
+use Rattle.layouts.specs.Layout.{Level, Group, Layout, level-of, group-of, grouped, countTag}
 use Rattle.expansion.specs.Dictionary.{FieldRef, ComponentRef, Body, GroupDefs, no-group-defs, group-def-and, GroupDef, Dictionary, FoundBody, Found, NotFound, fieldsOf, groupDefsOf, usesOf, countTagOf, delimiterOf, isNeeded, entryBody, componentOf, messageOf}
 
 -- ---- what is in work

@@ -1,19 +1,21 @@
--- Dictionaries, read by the definitions of `Dictionary.antt` and expanded by those of `Expansion.antt`, by computation. Each was given to
--- the Rust's `ScopeBuilder::expand` too, which gave the same levels and nodes. Assumes nothing.
+-- Dictionaries, read by the definitions of `Dictionary.antt` and expanded by those of `Expansion.antt`, by computation. Each dictionary was
+-- given to the Rust's `ScopeBuilder::expand` too: under the gate's limits it gave the same levels and nodes, or the same first error (its
+-- SchemaTooLarge names no group). The cases with other limits are the definitions' alone. Assumes nothing.
 --
---   expanded texts        the expansion of type D where the dictionary text has these lines, under the gate's limits
---   nodesOf expansion     the nodes spent, and 0 for a refusal
---   nestedGroups count innermost   so many groups, each in the entry of the one before
+--   expandedUnder limits texts   the expansion of type D where the dictionary text has these lines
+--   expanded texts               the same under the gate's limits
+--   nodesOf expansion            the nodes spent, and 0 for a refusal
+--   nestedGroups count           so many groups, each in the entry of the one before
+--   groupsUpTo count             so many groups, side by side, each of its delimiter alone
 use mathlib.Core.Path.{_≡_, refl}
 use Prim.Native.Nat.{ℕ, zero, suc}
 use Prim.Native.String.{String}
-use mathlib.Core.Bool.{Bool, true, false, _&&_, _||_}
-use mathlib.Core.List.{List, [], _∷_, _++_, map}
+use mathlib.Core.Bool.{true, false}
+use mathlib.Core.List.{List, [], _∷_}
 use Rattle.ascii.specs.Notation.{isBetween}
 use Rattle.ascii.specs.Bytes.{ascii, nonEmpty, every}
 use Rattle.ascii.specs.Digits.{isDigits, decimalFrom}
 use Rattle.texts.specs.declared.line.Line.{Line}
-use Rattle.texts.specs.declared.refusal.Refusal.{Refusal}
 use Rattle.texts.specs.declared.refusal.Refusal.the-variants.{TypeNotDefined, ComponentNotDefined, TooDeep, OutOfNodes, MembersOver}
 use Rattle.texts.specs.Lines.{positionOf, startsWith, isSame, longer, cut}
 use Rattle.texts.specs.LineParts.{noLeadingZero, numberOf, flagOf, typeIn, typeOf, wordAt, isAlphanumeric, messageTypeOf, valueOf}
@@ -21,8 +23,8 @@ use Rattle.texts.specs.LineForms.{defOf, beginOf, messageOf, fieldOf, groupRest
 use Rattle.sorting.specs.Sort.{inserted, sorted, isIn}
 use Rattle.sorting.specs.Dedup.{dedupedAfter, deduped}
 use Rattle.layouts.specs.Limits.{Limits, gateLimits}
-use Rattle.layouts.specs.Layout.{Level, Groups, Group, level-of, no-groups, group-and, group-of}
-use Rattle.expansion.specs.Dictionary.{Body, body-of, GroupDefs, no-group-defs, group-def-and, GroupDef, group-def, NamedBody, ComponentRef, Dictionary, emptyBody, blocksOf, dictionaryOf, bodyCalled}
+use Rattle.layouts.specs.Layout.{level-of, no-groups, group-and, group-of}
+use Rattle.expansion.specs.Dictionary.{Body, body-of, GroupDefs, no-group-defs, group-def-and, group-def, ComponentRef, Dictionary, emptyBody, blocksOf, dictionaryOf, bodyCalled}
 use Rattle.expansion.specs.Expansion.{Expansion, Expanded, Refused, ranOut, addMember, addRequired, addField, spend, insertedGroup, sortedGroups, firstsAfter, firstsOf, finish, retained, finishEntry, eachField, eachGroup, eachUse, addGroup, addComponent, build, outcomeOf, expandOf}
 
 abbrev linesOf : List String → List Line

@@ -15,7 +15,7 @@ use Rattle.texts.specs.declared.refusal.Refusal.the-variants.{ComponentNotDefin
 use Rattle.sorting.specs.Sort.{isIn}
 use Rattle.layouts.specs.Limits.{Limits}
 use Rattle.expansion.specs.Dictionary.{FieldRef, ComponentRef, Body, GroupDefs, no-group-defs, group-def-and, GroupDef, Dictionary, FoundBody, Found, NotFound, fieldsOf, groupDefsOf, usesOf, countTagOf, delimiterOf, isNeeded, entryBody, componentOf}
-use Rattle.expansion.specs.Expansion.{Work, Spent, Granted, Denied, onGranted, noted, ranOut, withNode, addMember, addRequired, addField, spend, openEntry, closeGroup, eachField, eachGroup, eachUse, fillBody, unlessOpen, onComponent, addGroup, addComponent, depthsLeft, addEnvelope, addMessage, build, nothingSpent, emptyLevel}
+use Rattle.expansion.specs.Expansion.{Work, Granted, Denied, onGranted, noted, ranOut, withNode, addMember, addRequired, addField, spend, openEntry, closeGroup, eachField, eachGroup, eachUse, fillBody, unlessOpen, onComponent, addGroup, addComponent, depthsLeft, addEnvelope, build, nothingSpent, emptyLevel}
 
 pub record Steps (limits : Limits) (Index : Type 0) (Keeps : Index → Work → Type 0) : Type 0 where
   pub member : (index : Index) (tag : ℕ) (work : Work) → Keeps index work → Keeps index (addMember limits tag work)

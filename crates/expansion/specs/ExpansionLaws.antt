@@ -2,8 +2,8 @@
 --
 --   Built limits transport dictionary layout nodes   a message whose build met no error and gave this layout and these nodes
 --   First refusal work                               the first error noted is this refusal
-use mathlib.Core.Path.{_≡_, refl, sym, ap, _∙_}
-use Prim.Native.Nat.{ℕ, zero, suc, _≤_, _<_}
+use mathlib.Core.Path.{_≡_, refl, sym}
+use Prim.Native.Nat.{ℕ, _≤_, _<_}
 use mathlib.Core.Bool.{Bool, true, false, cond}
 use mathlib.Core.List.{List, [], _∷_, _++_}
 use native.Mathlib.Omega.{arith}
@@ -16,8 +16,8 @@ use Rattle.texts.specs.declared.line_parts.MessageType.the-variants.{Letters, N
 use Rattle.texts.specs.LineParts.{messageTypeOf}
 use Rattle.layouts.specs.Limits.{Limits}
 use Rattle.layouts.specs.Layout.{Layout}
-use Rattle.expansion.specs.Dictionary.{Body, GroupDef, Dictionary, FoundBody, Found, NotFound, countTagOf, delimiterOf, messageOf}
-use Rattle.expansion.specs.Expansion.{Builder, Work, emptyLevel, nothingSpent, noted, withNode, pushMember, pushRequired, addMember, addRequired, openEntry, closeGroup, finish, build, Expansion, Expanded, Refused, answered, outcomeOf, onMessage, onType, expandOf}
+use Rattle.expansion.specs.Dictionary.{Body, Dictionary, FoundBody, Found, NotFound, countTagOf, delimiterOf, messageOf}
+use Rattle.expansion.specs.Expansion.{Builder, Work, emptyLevel, nothingSpent, noted, withNode, pushMember, pushRequired, addMember, addRequired, finish, build, Expanded, answered, outcomeOf, onMessage, onType, expandOf}
 use Rattle.expansion.specs.ExpansionInduction.{Steps, keeps-build}
 
 -- ---- what an expansion was built from

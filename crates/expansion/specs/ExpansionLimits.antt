@@ -5,8 +5,8 @@
 --   sizeBelow size level    the sizes of the level and of all below it, added up
 --   Accounted others work   what the level in work and the levels below it have, with `others` more elsewhere, was added
 use mathlib.Core.Path.{_≡_, refl, sym, ap, _∙_}
-use Prim.Native.Nat.{ℕ, zero, suc, _+_, _≤_, _<_}
-use mathlib.Core.Bool.{Bool, true, false, cond, _&&_, _||_}
+use Prim.Native.Nat.{ℕ, zero, suc, _+_, _≤_}
+use mathlib.Core.Bool.{Bool, true, false, cond, _||_}
 use mathlib.Core.List.{List, [], _∷_, _++_, map}
 use native.Mathlib.Omega.{arith}
 use lib.Dec.{eqb, leb}
@@ -16,16 +16,15 @@ use Rattle.ascii.specs.NotationLaws.{and-both}
 use Rattle.texts.specs.declared.refusal.Refusal.the-variants.{MembersOver}
 use Rattle.sorting.specs.Sort.{sorted, isIn}
 use Rattle.sorting.specs.SortLaws.{sorted-length}
-use Rattle.sorting.specs.Dedup.{deduped}
 use Rattle.sorting.specs.DedupLaws.{deduped-length}
 use Rattle.layouts.specs.Limits.{Limits}
-use Rattle.layouts.specs.Layout.{Level, Groups, Group, Layout, level-of, no-groups, group-and, group-of, listed, grouped, groupsOf, membersOf, requiredOf, countTag, entry, groupsBelow, groupsAmong, groupsWith, levelOrder, allGroups, allLevels, allMembers, allRequired, joined}
+use Rattle.layouts.specs.Layout.{Level, Groups, Group, Layout, level-of, no-groups, group-and, group-of, listed, grouped, groupsOf, membersOf, requiredOf, countTag, entry, groupsBelow, levelOrder, allGroups, allLevels, allMembers, allRequired, joined}
 use Rattle.layouts.specs.LayoutLaws.{listed-grouped, groupTotal, groupTotal-first, groupsBelow-total}
 use Rattle.layouts.specs.LayoutRules.{meetsLimits}
 use Rattle.expansion.specs.Dictionary.{Body, GroupDef, Dictionary, countTagOf, delimiterOf}
-use Rattle.expansion.specs.Expansion.{Work, OpenLevel, emptyLevel, addMember, addRequired, noted, pushMember, pushRequired, openEntry, closeGroup, insertedGroup, sortedGroups, firstsAfter, firstsOf, finish, retained, finishEntry, build, Expanded, expandOf}
+use Rattle.expansion.specs.Expansion.{Work, OpenLevel, emptyLevel, addMember, noted, pushMember, pushRequired, openEntry, closeGroup, insertedGroup, sortedGroups, firstsAfter, firstsOf, finish, retained, finishEntry, build, Expanded, expandOf}
 use Rattle.expansion.specs.ExpansionInduction.{Steps, keeps-build}
-use Rattle.expansion.specs.ExpansionLaws.{Built, built, keeps-addMember, keeps-addRequired, build-added}
+use Rattle.expansion.specs.ExpansionLaws.{built, keeps-addMember, keeps-addRequired, build-added}
 
 -- ---- sizes, added up
 

@@ -6,10 +6,9 @@
 --   Proper must level       the members of a level in work cover the tags that must be there and the count tags of its groups, and its groups
 --                           meet their rules
 use mathlib.Core.Path.{_≡_, refl, sym, ap, _∙_}
-use Prim.Native.Nat.{ℕ, zero, suc, _≤_, _<_}
-use mathlib.Core.Bool.{Bool, true, false, cond, _&&_, _||_, false≢true}
+use Prim.Native.Nat.{ℕ}
+use mathlib.Core.Bool.{Bool, true, false, cond, _||_, false≢true}
 use mathlib.Core.List.{List, [], _∷_, _++_, map}
-use native.Mathlib.Omega.{arith}
 use lib.Dec.{eqb, leb}
 use borrow.Author.Tests.{eq-eqb, eqb-true}
 use Rattle.ascii.specs.Bytes.{every}
@@ -19,13 +18,13 @@ use Rattle.sorting.specs.Dedup.{dedupedAfter, deduped}
 use Rattle.sorting.specs.DedupLaws.{members-ascend, isIn-members}
 use Rattle.sorting.specs.SearchLaws.{strictly-isStrictlyAscending}
 use Rattle.layouts.specs.Limits.{Limits}
-use Rattle.layouts.specs.Layout.{Level, Groups, Group, Layout, level-of, no-groups, group-and, group-of, listed, grouped, groupsOf, membersOf, countTagsOf, countTag, entry}
+use Rattle.layouts.specs.Layout.{Group, Layout, group-of, membersOf, countTagsOf, countTag}
 use Rattle.layouts.specs.LayoutLaws.{listed-grouped, map-append, everyBelow, everyGroup-below}
-use Rattle.layouts.specs.LayoutRules.{isAscending, _∈ᵇ_, areAmong, rule1, rule2, rule3, rule4, rule5, rule6, rule7, meetsGroupRules, meetsTopRules, everyGroup, everyAmong, everyWith, meetsRules}
+use Rattle.layouts.specs.LayoutRules.{isAscending, _∈ᵇ_, areAmong, meetsGroupRules, meetsTopRules, everyGroup, everyWith, meetsRules}
 use Rattle.expansion.specs.Dictionary.{Body, GroupDef, Dictionary, countTagOf, delimiterOf}
-use Rattle.expansion.specs.Expansion.{Work, OpenLevel, emptyLevel, addMember, addRequired, pushMember, openEntry, closeGroup, insertedGroup, sortedGroups, firstsAfter, firstsOf, finish, retained, finishEntry, build, Expanded, expandOf}
+use Rattle.expansion.specs.Expansion.{Work, OpenLevel, emptyLevel, addMember, pushMember, closeGroup, insertedGroup, sortedGroups, firstsAfter, firstsOf, finish, retained, finishEntry, build, Expanded, expandOf}
 use Rattle.expansion.specs.ExpansionInduction.{Steps, keeps-build}
-use Rattle.expansion.specs.ExpansionLaws.{Built, built, keeps-addMember, keeps-addRequired}
+use Rattle.expansion.specs.ExpansionLaws.{built, keeps-addMember, keeps-addRequired}
 
 -- ---- tags among members
 

@@ -1,19 +1,19 @@
 -- A body is filled line by line: what `fillBody` does with a body is what it does with the rest of it once its first line is added. And the
 -- first error met stays the first, whatever is added behind it. Assumes nothing.
 use mathlib.Core.Path.{_≡_, refl, sym, ap, _∙_}
-use Prim.Native.Nat.{ℕ, _<_}
-use mathlib.Core.Bool.{Bool, true, false, _&&_}
+use Prim.Native.Nat.{ℕ}
+use mathlib.Core.Bool.{Bool, _&&_}
 use mathlib.Core.List.{List, [], _∷_, _++_}
 use Rattle.texts.specs.declared.refusal.Refusal.{Refusal}
 use Rattle.layouts.specs.Limits.{Limits}
 use Rattle.expansion.specs.declared.builder.Builder as Code
 use Rattle.expansion.specs.declared.builder.Added.{Added}
 use Rattle.expansion.specs.declared.builder.Added.the-variants.{Done, Refused}
-use Rattle.expansion.specs.Dictionary.{FieldRef, ComponentRef, Body, body-of, GroupDefs, no-group-defs, group-def-and, GroupDef, Dictionary, fieldsOf, groupDefsOf, usesOf, emptyBody, withField, withGroup, withUse, countTagOf, delimiterOf}
+use Rattle.expansion.specs.Dictionary.{FieldRef, ComponentRef, Body, body-of, GroupDef, Dictionary, fieldsOf, groupDefsOf, usesOf, emptyBody, withField, withGroup, withUse, countTagOf, delimiterOf}
 use Rattle.expansion.specs.DictionaryPlaces.{OnlyUses}
-use Rattle.expansion.specs.Expansion.{Work, Builder, noted, withNode, emptyLevel, addMember, addRequired, addField, openEntry, closeGroup, eachField, eachGroup, eachUse, fillBody, addGroup, addComponent}
+use Rattle.expansion.specs.Expansion.{Work, Builder, emptyLevel, addMember, addField, eachField, eachGroup, eachUse, fillBody, addGroup, addComponent}
 use Rattle.expansion.specs.ExpansionInduction.{Steps, keeps-fields, keeps-groups, keeps-uses, keeps-group, keeps-component}
-use Rattle.expansion.specs.Trace.{First, Frame, InWork, withLevel, workOf, builderOf, Adds}
+use Rattle.expansion.specs.Trace.{First, withLevel, workOf, Adds}
 use Rattle.expansion.specs.TraceLaws.{first-member, first-required}
 
 -- ---- the first line of a body

@@ -21,7 +21,7 @@
 --   Fits builder              what was added and spent is within the limits, and the trace has a word for each step so far
 --   Grows builder added       the builder that is given fits as well
 use mathlib.Core.Path.{_≡_}
-use Prim.Native.Nat.{ℕ, _+_, _≤_, _<_, _/_, _%_}
+use Prim.Native.Nat.{ℕ, _+_, _≤_, _/_, _%_}
 use mathlib.Core.Bool.{Bool, false}
 use mathlib.Core.List.{List, [], _∷_, _++_}
 use lib.ListN.{take}

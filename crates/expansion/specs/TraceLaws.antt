@@ -1,7 +1,7 @@
 -- Laws of `Trace.antt`, in its order, and the steps of the functions that write a trace. Assumes nothing.
 use mathlib.Core.Path.{_≡_, refl, sym, ap, _∙_}
 use Prim.Native.Nat.{ℕ, zero, suc, _+_, _*_, _/_, _%_, _≤_, _<_}
-use mathlib.Core.Bool.{Bool, true, false, cond}
+use mathlib.Core.Bool.{Bool, true, false}
 use mathlib.Core.List.{List, [], _∷_, _++_}
 use native.Mathlib.Omega.{arith}
 use native.Mathlib.Numerals.{add-one}
@@ -14,9 +14,9 @@ use Rattle.layouts.specs.Limits.{Limits, gateLimits}
 use Rattle.expansion.specs.declared.builder.Builder as Code
 use Rattle.expansion.specs.declared.builder.Added.{Added}
 use Rattle.expansion.specs.declared.builder.Added.the-variants.{Done, Refused}
-use Rattle.expansion.specs.Expansion.{Builder, OpenLevel, Work, Granted, Denied, noted, ranOut, pushMember, pushRequired, addMember, addRequired, addField, spend, openEntry, emptyLevel}
+use Rattle.expansion.specs.Expansion.{Builder, Work, noted, ranOut, pushMember, pushRequired, addMember, addRequired, addField, spend, openEntry, emptyLevel}
 use Rattle.expansion.specs.ExpansionLaws.{keeps-addMember, keeps-addRequired}
-use Rattle.expansion.specs.Trace.{Frame, withLevel, withMember, withRequired, after, run, atStart, builderOf, workOf, First, InWork, Adds, SpendsNode, Fits, Grown, Grows, Entering, Enters, Leaves, entered, left}
+use Rattle.expansion.specs.Trace.{Frame, withLevel, withMember, withRequired, after, run, atStart, builderOf, workOf, First, Adds, SpendsNode, Fits, Grown, Grows, Entering, Enters, Leaves, left}
 
 -- ---- run, after
 
