@@ -8,3 +8,6 @@ pub mod NumeralLaws
 pub mod TypeTextLaws
 pub mod WordTextLaws
 pub mod LineTextsLaws
+pub mod DictionaryWords
+pub mod DictionaryCheck
+pub mod DictionaryCheckLaws

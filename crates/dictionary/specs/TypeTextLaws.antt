@@ -1,11 +1,12 @@
 -- Laws of `typeText` (`LineTexts.antt`): each of the 34 names of `FieldType` is read as its place. Assumes nothing.
 use mathlib.Core.Path.{_≡_, refl, ap}
-use Prim.Native.Nat.{ℕ, zero, suc, _-_, _<_}
+use Prim.Native.Nat.{ℕ, zero, suc, _≤_, _<_}
 use mathlib.Core.Bool.{Bool, true, false, _&&_, false≢true}
+use mathlib.Core.List.{List, [], _∷_}
 use native.Mathlib.Omega.{arith}
-use lib.Dec.{eqb}
+use lib.Dec.{leb, eqb}
 use lib.ListN.{length, getD}
-use borrow.Author.Tests.{eqb-true, eqb-false}
+use borrow.Author.Tests.{leb-true, eqb-true, eqb-false}
 use Rattle.ascii.specs.NotationLaws.{and-left, and-right}
 use Rattle.ascii.specs.Bytes.{every}
 use Rattle.texts.specs.declared.line_parts.TypeName.{TypeName}
@@ -64,3 +65,18 @@ module _ (place : ℕ) (few : place < 34) where
 
   pub typeText-length : length (typeText place) ≡ getD typeLengths place 0
   typeText-length = eqb-true _ _ (allBelow-at 34 (λ number. eqb (length (typeText number)) (getD typeLengths number 0)) type-lengths place few)
+
+-- ---- typeLengths
+
+limited : (words : List ℕ) (limit : ℕ) → every (λ word. leb word limit) words ≡ true → (place : ℕ) → getD words place 0 ≤ limit
+unfolding every
+limited [] limit all place = omega arith
+limited (word ∷ rest) limit all zero = leb-true word limit (and-left (leb word limit) (every (λ each. leb each limit) rest) all)
+limited (word ∷ rest) limit all (suc place) = limited rest limit (and-right (leb word limit) (every (λ each. leb each limit) rest) all) place
+
+lengths-few : every (λ word. leb word 255) typeLengths ≡ true
+unfolding every
+lengths-few = refl
+
+pub typeLengths-few : (place : ℕ) → getD typeLengths place 0 ≤ 255
+typeLengths-few place = limited typeLengths 255 lengths-few place

@@ -1,2 +1,4 @@
 // The words of a dictionary: a record for each line of its text, and the index of what it defines.
+pub mod dictionary_check;
+pub mod line_texts;
 pub mod records;

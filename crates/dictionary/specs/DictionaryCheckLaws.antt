@@ -1,0 +1,151 @@
+-- Laws of `DictionaryCheck.antt`: its loops, turn by turn. Assumes nothing.
+use mathlib.Core.Path.{_≡_, refl, _∙_}
+use Prim.Native.Nat.{ℕ, suc, _+_, _*_, _-_, _≤_, _<_}
+use mathlib.Core.Bool.{true, false}
+use mathlib.Core.List.{List, _∷_}
+use native.Mathlib.Omega.{arith}
+use lib.ListN.{getD, take, drop}
+use lib.Seq.{drop-drop, getD-drop}
+use borrow.Author.Tests.{le-leb, lt-leb, eq-eqb, ne-eqb}
+use Rattle.ascii.specs.Notation.{isBetween}
+use Rattle.texts.specs.declared.refusal.Refusal.{Refusal}
+use Rattle.texts.specs.declared.line.Line.{Line}
+use Rattle.texts.specs.declared.dictionary_text.State.{State}
+use Rattle.texts.specs.declared.dictionary_text.Fault.the-variants.{NoFault, Faulty}
+use Rattle.texts.specs.declared.dictionary_text.Step.{Step}
+use Rattle.texts.specs.DictionaryText.{start, stepOf, behindTrailer, behindMessage}
+use Rattle.texts.specs.DictionaryTextLaws.{step-depth}
+use Rattle.dictionary.specs.Records.{lineFrom}
+use Rattle.dictionary.specs.LineTexts.{lengthOf}
+use Rattle.dictionary.specs.DictionaryCheck.{linesFrom, accepts, countOf, standsAt, standsEach}
+
+-- ---- linesFrom
+
+pub linesFrom-step : (count : ℕ) (words : List ℕ) (at : ℕ) → linesFrom (suc count) (drop at words) ≡ lineFrom (take 10 (drop at words)) ∷ linesFrom count (drop (at + 10) words)
+unfolding linesFrom
+linesFrom-step count words at = rw (drop-drop 10 at words)
+
+-- ---- accepts: the loop of `is_accepted`
+
+-- the first `done` lines are accepted, and those from the record at `at` on are to be read
+pub record AcceptsSoFar (words : List ℕ) (lines : ℕ) (state : State) (total done at : ℕ) : Type 0 where
+  pub within : done ≤ lines
+  pub place : at ≡ 4 + 10 * done
+  pub few-open : state .depth ≤ 40
+  pub few-bytes : total ≤ 65536
+  pub rest : accepts start 1 0 (linesFrom lines (drop 4 words)) ≡ accepts state (done + 1) total (linesFrom (lines - done) (drop at words))
+
+pub accepts-begins : (words : List ℕ) (lines : ℕ) → AcceptsSoFar words lines start 0 0 4
+accepts-begins words lines = record {
+  within = omega arith;
+  place = refl;
+  few-open = omega arith;
+  few-bytes = omega arith;
+  rest = let all : lines - 0 ≡ lines = omega arith in rw all;
+}
+
+module _ (words : List ℕ) (lines : ℕ) (state : State) (total done at : ℕ) (so-far : AcceptsSoFar words lines state total done at) where
+  pub accepts-ends : lines ≤ done → accepts start 1 0 (linesFrom lines (drop 4 words)) ≡ isBetween behindTrailer behindMessage (state .stage)
+  unfolding linesFrom accepts
+  accepts-ends over = let none : lines - done ≡ 0 = omega (arith, so-far .within) in so-far .rest ∙ rw none
+
+  module _ (inside : done < lines) (line : Line) (read : line ≡ lineFrom (take 10 (drop at words))) (step : Step) (stepped : step ≡ stepOf state (done + 1) line) where
+    next-line : linesFrom (lines - done) (drop at words) ≡ line ∷ linesFrom (lines - (done + 1)) (drop (at + 10) words)
+    next-line =
+        let more : lines - done ≡ suc (lines - (done + 1)) = omega arith in
+        rw (more, read) (linesFrom-step (lines - (done + 1)) words at)
+
+    pub accepts-faulty : (refusal : Refusal) → step .fault ≡ Faulty refusal → accepts start 1 0 (linesFrom lines (drop 4 words)) ≡ false
+    unfolding accepts
+    accepts-faulty refusal fault = so-far .rest ∙ rw (next-line, ← stepped, fault)
+
+    module _ (taken : step .fault ≡ NoFault) (len : ℕ) (counted : len ≡ lengthOf line) where
+      pub accepts-long : 65536 < total + (len + 1) → accepts start 1 0 (linesFrom lines (drop 4 words)) ≡ false
+      unfolding accepts
+      accepts-long over = so-far .rest ∙ rw (next-line, ← stepped, taken, ← counted, lt-leb (total + (len + 1)) 65536 over)
+
+      pub accepts-goes-on : total + (len + 1) ≤ 65536 → AcceptsSoFar words lines (step .next) (total + (len + 1)) (done + 1) (at + 10)
+      unfolding accepts
+      accepts-goes-on few = record {
+        within = omega arith;
+        place = omega (arith, so-far .place);
+        few-open = rw stepped (step-depth state (done + 1) (so-far .few-open) line);
+        few-bytes = few;
+        rest = so-far .rest ∙ rw (next-line, ← stepped, taken, ← counted, le-leb (total + (len + 1)) 65536 few);
+      }
+
+-- ---- countOf: the loop of `count_of`
+
+pub record CountSoFar (kind : ℕ) (words : List ℕ) (lines count done at : ℕ) : Type 0 where
+  pub within : done ≤ lines
+  pub place : at ≡ 4 + 10 * done
+  pub few : count ≤ done
+  pub rest : countOf kind lines (drop 4 words) ≡ count + countOf kind (lines - done) (drop at words)
+
+pub count-begins : (kind : ℕ) (words : List ℕ) (lines : ℕ) → CountSoFar kind words lines 0 0 4
+count-begins kind words lines = record {
+  within = omega arith;
+  place = refl;
+  few = omega arith;
+  rest = let all : lines - 0 ≡ lines = omega arith in rw all (omega arith);
+}
+
+module _ (kind : ℕ) (words : List ℕ) (lines count done at : ℕ) (so-far : CountSoFar kind words lines count done at) where
+  pub count-ends : lines ≤ done → count ≡ countOf kind lines (drop 4 words)
+  unfolding countOf
+  count-ends over = let none : lines - done ≡ 0 = omega (arith, so-far .within) in omega (arith, rw none at (so-far .rest))
+
+  module _ (inside : done < lines) where
+    first-word : getD (drop at words) 0 0 ≡ getD words at 0
+    first-word = let same : at + 0 ≡ at = omega arith in getD-drop at words 0 0 ∙ rw same
+
+    pub count-adds : getD words at 0 ≡ kind → CountSoFar kind words lines (count + 1) (done + 1) (at + 10)
+    unfolding countOf
+    count-adds same =
+        let more : lines - done ≡ suc (lines - (done + 1)) = omega arith in
+        let step : countOf kind (lines - done) (drop at words) ≡ suc (countOf kind (lines - (done + 1)) (drop (at + 10) words)) =
+        rw (more, first-word, eq-eqb (getD words at 0) kind same, drop-drop 10 at words) in
+        record { within = omega arith; place = omega (arith, so-far .place); few = omega (arith, so-far .few); rest = omega (arith, so-far .rest) }
+
+    pub count-skips : (getD words at 0 ≡ kind → ⊥) → CountSoFar kind words lines count (done + 1) (at + 10)
+    unfolding countOf
+    count-skips other =
+        let more : lines - done ≡ suc (lines - (done + 1)) = omega arith in
+        let step : countOf kind (lines - done) (drop at words) ≡ countOf kind (lines - (done + 1)) (drop (at + 10) words) =
+        rw (more, first-word, ne-eqb (getD words at 0) kind other, drop-drop 10 at words) in
+        record { within = omega arith; place = omega (arith, so-far .place); few = omega (arith, so-far .few); rest = omega (arith, so-far .rest) }
+
+-- ---- standsEach: the loop of `stands_each`
+
+pub record StandsSoFar (kind count at : ℕ) (words : List ℕ) (place : ℕ) : Type 0 where
+  pub from : at ≤ place
+  pub within : place ≤ at + count
+  pub rest : standsEach kind count at count words ≡ standsEach kind count place (at + count - place) words
+
+pub stands-begins : (kind count at : ℕ) (words : List ℕ) → StandsSoFar kind count at words at
+stands-begins kind count at words = record {
+  from = omega arith;
+  within = omega arith;
+  rest = let all : at + count - at ≡ count = omega arith in rw all;
+}
+
+module _ (kind count at : ℕ) (words : List ℕ) (place : ℕ) (so-far : StandsSoFar kind count at words place) where
+  pub stands-ends : at + count ≤ place → standsEach kind count at count words ≡ true
+  unfolding standsEach
+  stands-ends over = let none : at + count - place ≡ 0 = omega arith in so-far .rest ∙ rw none
+
+  module _ (inside : place < at + count) where
+    pub stands-fails : standsAt kind (getD words place 0) (getD words (place + count) 0) words ≡ false → standsEach kind count at count words ≡ false
+    unfolding standsEach
+    stands-fails fails = let more : at + count - place ≡ suc (at + count - (place + 1)) = omega arith in so-far .rest ∙ rw (more, fails)
+
+    pub stands-goes-on : standsAt kind (getD words place 0) (getD words (place + count) 0) words ≡ true → StandsSoFar kind count at words (place + 1)
+    unfolding standsEach
+    stands-goes-on stands =
+        let more : at + count - place ≡ suc (at + count - (place + 1)) = omega arith in
+        record { from = omega (arith, so-far .from); within = omega arith; rest = so-far .rest ∙ rw (more, stands) }
+
+-- ---- isIndex: the names that `&words[at..past]` lends
+
+pub part-of-count : (words : List ℕ) (at count : ℕ) → take (at + count - at) (drop at words) ≡ take count (drop at words)
+part-of-count words at count = let same : at + count - at ≡ count = omega arith in rw same

@@ -1,0 +1,164 @@
+// The check of lent words: whether they begin with the arrangement of an accepted dictionary.
+use crate::line_texts::length_of;
+use crate::records::line_at;
+use sorting::search::is_strictly_ascending;
+use texts::dictionary_text::BEGINNING;
+use texts::dictionary_text::BEHIND_MESSAGE;
+use texts::dictionary_text::BEHIND_TRAILER;
+use texts::dictionary_text::Fault;
+use texts::dictionary_text::NO_BODY;
+use texts::dictionary_text::State;
+use texts::dictionary_text::take_line;
+ghost use mathlib.Core.Path.{_≡_};
+ghost use Prim.Native.Nat.{_+_, _*_, _≤_};
+ghost use lib.ListN.{length, getD, drop};
+ghost use Rattle.ascii.specs.Notation.{isBetween};
+ghost use Rattle.texts.specs.DictionaryText.{start, behindTrailer, behindMessage};
+ghost use Rattle.dictionary.specs.DictionaryCheck.{linesFrom, accepts, countOf, standsAt, standsEach, isIndex, isDictionary};
+
+// A text may end here: behind its trailer, and with no block open.
+fn may_end(state: State) -> bool
+    ensures { λ answer. ⌜ answer ≡ isBetween behindTrailer behindMessage (state .stage) ⌝ }
+{
+    if state.stage < BEHIND_TRAILER {
+        return false;
+    }
+    state.stage <= BEHIND_MESSAGE
+}
+
+// The lines of so many records are those of an accepted text, but for what is defined again.
+fn is_accepted(words: &[u32], lines: usize) -> bool
+    requires { ⌜ 4 + 10 * lines ≤ length (now words) ⌝ }
+    ensures { λ answer. ⌜ answer ≡ accepts start 1 0 (linesFrom lines (drop 4 (now (words .entry)))) ⌝ }
+{
+    let mut state = State {
+        stage: BEGINNING,
+        part: NO_BODY,
+        name: 0,
+        depth: 0,
+        counts: [0u32; 40],
+    };
+    let mut total: usize = 0;
+    let mut done: usize = 0;
+    let mut at: usize = 4;
+    while done < lines {
+        let line = line_at(words, at);
+        let number = done as u64 + 1;
+        let step = take_line(state, number, line);
+        let fault = step.fault;
+        match fault {
+            Fault::Faulty(_) => {
+                return false;
+            }
+            Fault::NoFault => {
+                total += length_of(line) + 1;
+                if 65536 < total {
+                    return false;
+                }
+                let next = step.next;
+                state = next;
+                done += 1;
+                at += 10;
+            }
+        }
+    }
+    may_end(state)
+}
+
+// How many of so many records are of this kind.
+fn count_of(words: &[u32], lines: usize, kind: u32) -> usize
+    requires { ⌜ 4 + 10 * lines ≤ length (now words) ⌝ }
+    ensures { λ count. ⌜ count ≡ countOf kind lines (drop 4 (now (words .entry))) ⌝ }
+{
+    let mut count: usize = 0;
+    let mut done: usize = 0;
+    let mut at: usize = 4;
+    while done < lines {
+        let found = words[at];
+        done += 1;
+        at += 10;
+        if found == kind {
+            count += 1;
+        }
+    }
+    count
+}
+
+// The record with this number is of this kind and has this name.
+fn stands_at(words: &[u32], kind: u32, name: u32, number: u32) -> bool
+    requires { ⌜ (4 ≤ length (now words)) × (4 + 10 * getD (now words) 0 0 ≤ length (now words)) ⌝ }
+    ensures { λ answer. ⌜ answer ≡ standsAt kind name number (now (words .entry)) ⌝ }
+{
+    if words[0] <= number {
+        return false;
+    }
+    let at = 4 + 10 * (number as usize);
+    if words[at] != kind {
+        return false;
+    }
+    words[at + 1] == name
+}
+
+// Each name of the index is that of a record of this kind, and stands where the index says.
+fn stands_each(words: &[u32], kind: u32, at: usize, count: usize) -> bool
+    requires { ⌜ (4 ≤ length (now words)) × ((4 + 10 * getD (now words) 0 0 ≤ length (now words)) × (at + 2 * count ≤ length (now words))) ⌝ }
+    ensures { λ answer. ⌜ answer ≡ standsEach kind count at count (now (words .entry)) ⌝ }
+{
+    let mut place = at;
+    let past = at + count;
+    while place < past {
+        let name = words[place];
+        let number = words[place + count];
+        if !stands_at(words, kind, name, number) {
+            return false;
+        }
+        place += 1;
+    }
+    true
+}
+
+// The index at this place has the names of all records of this kind, each once, and where they stand.
+fn is_index(words: &[u32], kind: u32, at: usize, count: usize) -> bool
+    requires { ⌜ (4 ≤ length (now words)) × ((4 + 10 * getD (now words) 0 0 ≤ length (now words)) × (at + 2 * count ≤ length (now words))) ⌝ }
+    ensures { λ answer. ⌜ answer ≡ isIndex kind at count (now (words .entry)) ⌝ }
+{
+    let lines = words[0] as usize;
+    if count_of(words, lines, kind) != count {
+        return false;
+    }
+    let past = at + count;
+    if !is_strictly_ascending(&words[at..past]) {
+        return false;
+    }
+    stands_each(words, kind, at, count)
+}
+
+// The words begin with the arrangement of an accepted dictionary.
+pub fn is_dictionary(words: &[u32]) -> bool
+    ensures outcome { λ answer. ⌜ answer ≡ isDictionary (now (words .entry)) ⌝ }
+{
+    if words.len() < 4 {
+        return false;
+    }
+    let lines = words[0] as usize;
+    let tags = words[1] as usize;
+    let components = words[2] as usize;
+    let messages = words[3] as usize;
+    let tags_at = 4 + 10 * lines;
+    let components_at = tags_at + 2 * tags;
+    let messages_at = components_at + 2 * components;
+    let size = messages_at + 2 * messages;
+    if words.len() < size {
+        return false;
+    }
+    if !is_accepted(words, lines) {
+        return false;
+    }
+    if !is_index(words, 1, tags_at, tags) {
+        return false;
+    }
+    if !is_index(words, 5, components_at, components) {
+        return false;
+    }
+    is_index(words, 6, messages_at, messages)
+}
