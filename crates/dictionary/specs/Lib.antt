@@ -11,3 +11,5 @@ pub mod LineTextsLaws
 pub mod DictionaryWords
 pub mod DictionaryCheck
 pub mod DictionaryCheckLaws
+pub mod Definitions
+pub mod DefinitionsLaws

@@ -1,0 +1,141 @@
+-- Laws of `Definitions.antt`: what a dictionary's words are known to hold when they are searched. Assumes nothing.
+use mathlib.Core.Path.{_≡_}
+use Prim.Native.Nat.{ℕ, zero, suc, _+_, _*_, _-_, _≤_, _<_}
+use mathlib.Core.Bool.{Bool, true, _&&_}
+use mathlib.Core.List.{List}
+use native.Mathlib.Omega.{arith}
+use lib.Dec.{leb, eqb}
+use lib.ListN.{length, getD, take, drop, length-drop}
+use lib.Seq.{length-take-le}
+use borrow.Author.Tests.{leb-true, ltb-true}
+use Rattle.ascii.specs.NotationLaws.{and-left, and-right}
+use Rattle.sorting.specs.declared.search.Found.{Found}
+use Rattle.sorting.specs.declared.search.Found.the-variants.{At, Nothing}
+use Rattle.sorting.specs.Search.{StrictlyAscending, isStrictlyAscending, rankIn, Holds}
+use Rattle.sorting.specs.SearchLaws.{isStrictlyAscending-true, holds-at}
+use Rattle.texts.specs.DictionaryText.{start}
+use Rattle.dictionary.specs.DictionaryCheck.{linesFrom, accepts, countOf, standsAt, standsEach, isIndex, tagsAt, componentsAt, messagesAt, sizeOf, isDictionary}
+use Rattle.dictionary.specs.Definitions.{recordIn}
+
+-- the number of what was found is below the number of lines
+abbrev pub Below : ℕ → Found → Type 0
+Below lines (At number) = number < lines
+Below lines Nothing = Unit
+
+-- ---- isIndex
+
+module _ (kind at count : ℕ) (words : List ℕ) (index : isIndex kind at count words ≡ true) where
+  index-parts : (isStrictlyAscending (take count (drop at words)) ≡ true) × (standsEach kind count at count words ≡ true)
+  unfolding isIndex
+  index-parts =
+      let names = isStrictlyAscending (take count (drop at words)) in
+      let both = and-right (eqb (countOf kind (getD words 0 0) (drop 4 words)) count) (names && standsEach kind count at count words) index in
+      (and-left names (standsEach kind count at count words) both, and-right names (standsEach kind count at count words) both)
+
+  pub index-ascends : StrictlyAscending (take count (drop at words))
+  index-ascends = isStrictlyAscending-true (take count (drop at words)) (index-parts .0)
+
+stands-nth : (kind count : ℕ) (words : List ℕ) (left at rank : ℕ)
+    → standsEach kind count at left words ≡ true
+    → rank < left
+    → standsAt kind (getD words (at + rank) 0) (getD words (at + rank + count) 0) words ≡ true
+unfolding standsEach
+stands-nth kind count words zero at rank stands inside = absurd (omega arith)
+stands-nth kind count words (suc left) at zero stands inside =
+    let same : at + 0 ≡ at = omega arith in
+    rw same (and-left (standsAt kind (getD words at 0) (getD words (at + count) 0) words) (standsEach kind count (at + 1) left words) stands)
+stands-nth kind count words (suc left) at (suc rank) stands inside =
+    let next : at + suc rank ≡ at + 1 + rank = omega arith in
+    rw next
+    (stands-nth kind count words left (at + 1) rank
+    (and-right (standsAt kind (getD words at 0) (getD words (at + count) 0) words) (standsEach kind count (at + 1) left words) stands)
+    (omega arith))
+
+module _ (kind at count : ℕ) (words : List ℕ) (index : isIndex kind at count words ≡ true) (rank : ℕ) (inside : rank < count) where
+  pub index-number : getD words (at + count + rank) 0 < getD words 0 0
+  unfolding standsAt
+  index-number =
+      let place : at + rank + count ≡ at + count + rank = omega arith in
+      let stands = stands-nth kind count words count at rank (index-parts kind at count words index .1) inside in
+      let number : getD words (at + rank + count) 0 < getD words 0 0 = ltb-true _ _ (and-left _ _ stands) in
+      rw place at number
+
+-- ---- isDictionary
+
+pub record Dictionary (words : List ℕ) : Type 0 where
+  pub some-words : 4 ≤ length words
+  pub fits : sizeOf words ≤ length words
+  pub accepted : accepts start 1 0 (linesFrom (getD words 0 0) (drop 4 words)) ≡ true
+  pub tags : isIndex 1 (tagsAt words) (getD words 1 0) words ≡ true
+  pub component-names : isIndex 5 (componentsAt words) (getD words 2 0) words ≡ true
+  pub message-names : isIndex 6 (messagesAt words) (getD words 3 0) words ≡ true
+
+six : (one two three four five other : Bool)
+    → one && (two && (three && (four && (five && other)))) ≡ true
+    → (one ≡ true) × ((two ≡ true) × ((three ≡ true) × ((four ≡ true) × ((five ≡ true) × (other ≡ true)))))
+six one two three four five other all =
+    let second = and-right one (two && (three && (four && (five && other)))) all in
+    let third = and-right two (three && (four && (five && other))) second in
+    let fourth = and-right three (four && (five && other)) third in
+    let fifth = and-right four (five && other) fourth in (
+      and-left one (two && (three && (four && (five && other)))) all,
+      (
+        and-left two (three && (four && (five && other))) second,
+        (and-left three (four && (five && other)) third, (and-left four (five && other) fourth, (and-left five other fifth, and-right five other fifth))),
+      ),
+    )
+
+pub isDictionary-parts : (words : List ℕ) → isDictionary words ≡ true → Dictionary words
+unfolding isDictionary
+isDictionary-parts words holds =
+    let parts =
+    six (leb 4 (length words)) (leb (sizeOf words) (length words)) (accepts start 1 0 (linesFrom (getD words 0 0) (drop 4 words)))
+    (isIndex 1 (tagsAt words) (getD words 1 0) words)
+    (isIndex 5 (componentsAt words) (getD words 2 0) words)
+    (isIndex 6 (messagesAt words) (getD words 3 0) words)
+    holds in
+    record {
+      some-words = leb-true 4 (length words) (parts .0);
+      fits = leb-true (sizeOf words) (length words) (parts .1 .0);
+      accepted = parts .1 .1 .0;
+      tags = parts .1 .1 .1 .0;
+      component-names = parts .1 .1 .1 .1 .0;
+      message-names = parts .1 .1 .1 .1 .1;
+    }
+
+pub lineNumbered-place : (words : List ℕ) (number : ℕ) → number < getD words 0 0 → Dictionary words → 4 + 10 * number + 10 ≤ length words
+lineNumbered-place words number inside known = omega (arith, known .fits)
+
+-- ---- recordIn: what the search of the names found
+
+module _ (kind at count name : ℕ) (words : List ℕ) (fits : at + 2 * count ≤ length words) (index : isIndex kind at count words ≡ true) (found : Found)
+    (searched : StrictlyAscending (take (at + count - at) (drop at words)) → found ≡ rankIn (take (at + count - at) (drop at words)) name) where
+  rank-searched : found ≡ rankIn (take count (drop at words)) name
+  rank-searched =
+      let same : at + count - at ≡ count = omega arith in
+      let exact : StrictlyAscending (take count (drop at words)) → found ≡ rankIn (take count (drop at words)) name = rw same at searched in
+      exact (index-ascends kind at count words index)
+
+  pub recordIn-missing : found ≡ Nothing → Nothing ≡ recordIn at count name words
+  unfolding recordIn
+  recordIn-missing missing = rw (← rank-searched, missing)
+
+  module _ (rank : ℕ) (there : found ≡ At rank) where
+    pub recordIn-found : At (getD words (at + count + rank) 0) ≡ recordIn at count name words
+    unfolding recordIn
+    recordIn-found = rw (← rank-searched, there)
+
+    pub rank-inside : Holds (take (at + count - at) (drop at words)) name found → rank < count
+    rank-inside holds =
+        let same : at + count - at ≡ count = omega arith in
+        let names : length (take count (drop at words)) ≡ count = length-take-le count (drop at words) (omega (arith, length-drop at words)) in
+        let exact : Holds (take count (drop at words)) name found = rw same at holds in
+        let inside : rank < length (take count (drop at words)) = holds-at (take count (drop at words)) name rank found there exact .0 in
+        omega arith
+
+-- what was found is a number
+pub below-number : (lines number : ℕ) (found : Found) → found ≡ At number → Below lines found → number < lines
+below-number lines number found there below = rw there at below
+
+pub below-nothing : (lines : ℕ) (found : Found) → found ≡ Nothing → Below lines found
+below-nothing lines found missing = rw missing tt

@@ -1,0 +1,98 @@
+// What a dictionary defines, looked up in its words.
+use crate::records::line_at;
+use sorting::search::Found;
+use sorting::search::binary_search;
+use texts::line::Line;
+use texts::line_parts::MessageType;
+use texts::line_parts::parse_message_type;
+ghost use mathlib.Core.Path.{_≡_};
+ghost use mathlib.Core.Bool.{true};
+ghost use Prim.Native.Nat.{_+_, _*_, _≤_, _<_};
+ghost use lib.ListN.{length, getD};
+ghost use Rattle.dictionary.specs.DictionaryCheck.{isIndex, messagesAt, isDictionary};
+ghost use Rattle.dictionary.specs.Definitions.{recordIn, definitionOf, componentOf, messageOf, lineNumbered};
+ghost use Rattle.dictionary.specs.DefinitionsLaws.{Below};
+
+// The definition of a tag.
+pub enum Definition {
+    // the place of its TYPE among the names of FieldType, and the number of its record; its admitted values are the records behind it
+    Defined(u32, usize),
+    Undefined,
+}
+
+// The number of the record that the index at this place gives the name.
+fn record_in(words: &[u32], kind: u32, at: usize, count: usize, name: u32) -> Found
+    requires { ⌜ (at + 2 * count ≤ length (now words)) × (isIndex kind at count (now words) ≡ true) ⌝ }
+    ensures found { λ found. ⌜ found ≡ recordIn at count name (now (words .entry)) ⌝ }
+    ensures inside { λ found. ⌜ Below (getD (now (words .entry)) 0 0) found ⌝ }
+{
+    let past = at + count;
+    match binary_search(&words[at..past], name) {
+        Found::At(rank) => Found::At(words[past + rank] as usize),
+        Found::Nothing => Found::Nothing,
+    }
+}
+
+// The definition of the tag.
+pub fn definition_of(words: &[u32], tag: u32) -> Definition
+    requires { ⌜ isDictionary (now words) ≡ true ⌝ }
+    ensures { λ definition. ⌜ definition ≡ definitionOf (now (words .entry)) tag ⌝ }
+{
+    let lines = words[0] as usize;
+    let count = words[1] as usize;
+    let at = 4 + 10 * lines;
+    match record_in(words, 1, at, count, tag) {
+        Found::At(number) => {
+            let place = 4 + 10 * number + 2;
+            Definition::Defined(words[place], number)
+        }
+        Found::Nothing => Definition::Undefined,
+    }
+}
+
+// The number of the record of component N.
+pub fn component_of(words: &[u32], name: u32) -> Found
+    requires { ⌜ isDictionary (now words) ≡ true ⌝ }
+    ensures found { λ found. ⌜ found ≡ componentOf (now (words .entry)) name ⌝ }
+    ensures inside { λ found. ⌜ Below (getD (now (words .entry)) 0 0) found ⌝ }
+{
+    let lines = words[0] as usize;
+    let tags = words[1] as usize;
+    let count = words[2] as usize;
+    let at = 4 + 10 * lines + 2 * tags;
+    record_in(words, 5, at, count, name)
+}
+
+// The number of the record of the message whose type is these letters.
+fn message_named(words: &[u32], letters: u32) -> Found
+    requires { ⌜ isDictionary (now words) ≡ true ⌝ }
+    ensures found { λ found. ⌜ found ≡ recordIn (messagesAt (now (words .entry))) (getD (now (words .entry)) 3 0) letters (now (words .entry)) ⌝ }
+    ensures inside { λ found. ⌜ Below (getD (now (words .entry)) 0 0) found ⌝ }
+{
+    let lines = words[0] as usize;
+    let tags = words[1] as usize;
+    let components = words[2] as usize;
+    let count = words[3] as usize;
+    let at = 4 + 10 * lines + 2 * tags + 2 * components;
+    record_in(words, 6, at, count, letters)
+}
+
+// The number of the record of the message of this type.
+pub fn message_of(words: &[u32], value: &[u8]) -> Found
+    requires { ⌜ isDictionary (now words) ≡ true ⌝ }
+    ensures found { λ found. ⌜ found ≡ messageOf (now (words .entry)) (now (value .entry)) ⌝ }
+    ensures inside { λ found. ⌜ Below (getD (now (words .entry)) 0 0) found ⌝ }
+{
+    match parse_message_type(value) {
+        MessageType::Letters(letters) => message_named(words, letters),
+        MessageType::NoLetters => Found::Nothing,
+    }
+}
+
+// The line of the record with this number.
+pub fn line_numbered(words: &[u32], number: usize) -> Line
+    requires { ⌜ (isDictionary (now words) ≡ true) × (number < getD (now words) 0 0) ⌝ }
+    ensures { λ line. ⌜ line ≡ lineNumbered (now (words .entry)) number ⌝ }
+{
+    line_at(words, 4 + 10 * number)
+}
