@@ -18,3 +18,5 @@ pub mod GroupWalkCases
 pub mod ReadingTheorem
 pub mod EntryTags
 pub mod EntryTagsLaws
+pub mod WalkWords
+pub mod WalkWordsLaws
