@@ -16,6 +16,11 @@ A fact is typed by a place and is put before the first answer that cites it, wit
     fact digit-here at Else2
         : isDigit (..) ≡ true
         = sym (@is-digit .ensures) ∙ not-false _ (@if2 .left)
+
+A line `def NAME = ..` names a piece of text; `$NAME` stands for it in clauses, and its paths are those of the need.
+Functions that call each other are proved in one file, in the folder +a+b, from the one template +a+b.answers. There a clause's name begins
+with its function's, as walk-group-returns, and a measure's is μ-walk-group. For functions that differ in little, {x,y} in a clause stands for
+x in the one copy and for y in the other: `scan-{entry,wide}-returns = ..{8,128}..` is two clauses.
 """
 import glob
 import hashlib
@@ -41,25 +46,26 @@ def source_key(crate):
     return digest.hexdigest()[:16] + "-" + crate
 
 
-def skeleton_and_records(crate, function):
-    """The lines that a check prints for a function without a proof, and the records of its places."""
-    folder = f"{CACHE}/{source_key(crate)}/{function}"
-    if not os.path.exists(folder + "/lts"):
-        proof = f"{ROOT}/crates/{crate}/proofs/{function}/Proof.antt"
-        aside = proof + ".aside"
-        had = os.path.exists(proof)
-        if had:
-            os.rename(proof, aside)
-        try:
-            printed = run("dev", crate)
-            generated = f"{ROOT}/target/generated"
-            run("dev", crate, "--generated", generated)
-            found = glob.glob(f"{generated}/Rattle.{crate}.proofs/proofs/{function}/Lts.antt")
-        finally:
-            if had:
-                os.rename(aside, proof)
-        lines = printed.split("\n")
+def collect(crate, functions):
+    """For all of the functions whose skeleton and records are not at hand: a check with their proofs aside prints the one and writes the other."""
+    folder = f"{CACHE}/{source_key(crate)}/"
+    wanted = [function for function in functions if not os.path.exists(folder + function + "/skeleton")]
+    if not wanted:
+        return
+    proofs = [f"{ROOT}/crates/{crate}/proofs/{function}/Proof.antt" for function in wanted]
+    aside = [proof for proof in proofs if os.path.exists(proof)]
+    for proof in aside:
+        os.rename(proof, proof + ".aside")
+    generated = f"{ROOT}/target/generated"
+    try:
+        lines = run("dev", crate).split("\n")
+        run("dev", crate, "--generated", generated)
+    finally:
+        for proof in aside:
+            os.rename(proof + ".aside", proof)
+    for function in wanted:
         start = [i for i, line in enumerate(lines) if line.startswith("help: write ") and f"/proofs/{function}/Proof.antt " in line]
+        found = glob.glob(f"{generated}/Rattle.{crate}.proofs/proofs/{glob.escape(function)}/Lts*.antt")
         if not start or not found:
             told = [line for line in lines if line.startswith("fn ") or "error" in line]
             sys.exit(f"no skeleton is printed for {function}:\n" + "\n".join(told[:20]))
@@ -69,13 +75,25 @@ def skeleton_and_records(crate, function):
                 skeleton.append(line[4:])
             else:
                 break
-        os.makedirs(folder, exist_ok=True)
-        open(folder + "/skeleton", "w").write("\n".join(skeleton).strip() + "\n")
-        open(folder + "/lts", "w").write(open(found[0]).read())
-    return open(folder + "/skeleton").read(), records(open(folder + "/lts").read())
+        os.makedirs(folder + function, exist_ok=True)
+        for path in found:
+            open(folder + function + "/" + os.path.basename(path), "w").write(open(path).read())
+        open(folder + function + "/skeleton", "w").write("\n".join(skeleton).strip() + "\n")
 
 
-def records(text):
+def skeleton_and_records(crate, function):
+    """The lines that a check prints for a function without a proof, and the records of its places."""
+    collect(crate, [function])
+    folder = f"{CACHE}/{source_key(crate)}/{function}"
+    known = {}
+    for path in sorted(glob.glob(glob.escape(folder) + "/Lts*.antt")):
+        # a cycle has a file for each of its functions, and prefixes what it asks by the function's name
+        member = re.match(r"Lts(?:-(\S+))?\.antt", os.path.basename(path)).group(1)
+        known.update(records(open(path).read(), member.replace("_", "-") + "-" if member else ""))
+    return open(folder + "/skeleton").read(), known
+
+
+def records(text, prefix=""):
     """For each need and each place: what its `c` leads to, as name -> path."""
     fields, needs, current, need = {}, {}, None, None
     for line in text.split("\n"):
@@ -109,13 +127,27 @@ def records(text):
             record, path = here["before"].split()[0], path + " .before"
         return known
 
-    result = {name: things(record) for name, record in needs.items()}
-    result.update({"place " + record: things(record) for record in fields if not record.endswith("·own")})
+    result = {prefix + name: things(record) for name, record in needs.items()}
+    result.update({"place " + prefix + record: things(record) for record in fields if not record.endswith("·own")})
     return result
 
 
+def copies(text):
+    """The text, or where it has {x,y} one text for each place between the commas."""
+    found = re.findall(r"\{([^{}\s]+(?:,[^{}\s]+)+)\}", text)
+    if not found:
+        return [text]
+    return [re.sub(r"\{([^{}\s]+(?:,[^{}\s]+)+)\}", lambda match: match.group(1).split(",")[index], text) for index in range(len(found[0].split(",")))]
+
+
 def read_template(path):
-    head, uses, clauses, facts, unfolding, comment = [], [], {}, {}, "", ""
+    head, uses, clauses, facts, unfolding, comment, pieces = [], [], {}, {}, "", "", {}
+
+    def whole(text):
+        while re.search(r"\$[a-z][\w-]*", text):
+            text = re.sub(r"\$([a-z][\w-]*)", lambda match: pieces[match.group(1)], text)
+        return text
+
     lines = open(path).read().rstrip("\n").split("\n")
     index = 0
     while index < len(lines):
@@ -140,14 +172,20 @@ def read_template(path):
             body.append(lines[index])
             index += 1
         text = "\n".join(body)
+        match = re.match(r"def (\S+) = (.*)", text, re.S)
+        if match:
+            pieces[match.group(1)] = match.group(2)
+            continue
+        text = whole(text)
         match = re.match(r"fact (\S+) at (\S+)\s*:(.*?)\n\s*=(.*)", text, re.S)
         if match:
             facts[match.group(1)] = (match.group(2), match.group(3).strip(), match.group(4).strip("\n"), unfolding, comment)
         else:
-            match = re.match(r"(\S+) =(.*)", text, re.S)
-            if not match:
-                sys.exit(f"{path}: not a clause: {line}")
-            clauses[match.group(1)] = (match.group(2), unfolding)
+            for copy in copies(text):
+                match = re.match(r"(\S+) =(.*)", copy, re.S)
+                if not match:
+                    sys.exit(f"{path}: not a clause: {line}")
+                clauses[match.group(1)] = (match.group(2), unfolding)
         unfolding, comment = "", ""
     return head, uses, clauses, facts
 
@@ -163,7 +201,74 @@ def expand(text, known, where):
             sys.exit(f"{where}: no thing '{match.group(1)}' there; there are: " + " ".join(k for k in known))
         return known[match.group(1)]
 
-    return re.sub(r"@([^\s().,]+)", path, text)
+    return re.sub(r"@([^\s().,;]+)", path, text)
+
+
+def write_cycle(crate, function):
+    """The proof of functions that call each other. What a function reads of those that it calls is named once, as NAME-claims."""
+    template = f"{ROOT}/tools/answers/{crate}/{function}.answers"
+    head, uses, clauses, _ = read_template(template)
+    skeleton, known = skeleton_and_records(crate, function)
+    claims = {}
+
+    def claimed(match):
+        claims.setdefault(match.group(2), " ".join(match.group(4).split()).rstrip(","))
+        return f"{match.group(1)}{match.group(2)}-lts.{match.group(3)} ({match.group(2)}-claims t)"
+
+    skeleton = re.sub(r"(^|[\s(])(\S+)-lts\.(Need-\S+|spec) \(\n(.*?)\n\s*\)(?=\s)", claimed, skeleton, flags=re.S | re.M)
+    source, out, unused, comment, last_comment = {}, [], set(clauses), None, None
+    for block in re.split(r"\n\n+", skeleton.strip()):
+        lines = block.split("\n")
+        if lines[0].startswith("use "):
+            continue
+        match = re.match(r"-- (src/\S+?):(\d+):\d+", lines[0])
+        if match:
+            path = f"{ROOT}/crates/{crate}/{match.group(1)}"
+            source.setdefault(path, open(path).read().split("\n"))
+            comment = "-- " + source[path][int(match.group(2)) - 1].strip()
+            lines = lines[1:]
+        name = re.match(r"(?:abbrev |pub )?(\S+) :", lines[0]).group(1)
+        start = next(index for index, line in enumerate(lines) if line.startswith(name + " ") and index > 0)
+        left = re.match(r"(.*?) =(\s|$)", lines[start]).group(1)
+        body = "\n".join([lines[start][len(left) + 2:], *lines[start + 1:]])
+        key = name if name in clauses else re.sub(r"-\d+$", "", name) + "*"
+        unfolding = ""
+        if body.strip() == "?" or key in clauses:
+            if key not in clauses and name not in known:
+                sys.exit(f"{template}: {name} is missing; its variables: {left}")
+            body, unfolding = clauses.get(key, (" search needs", ""))
+            unused.discard(key)
+            body = expand(body, known.get(name, {}), name)
+        elif "search needs" in body:
+            body = " search needs"
+        else:
+            body = (" " if body and not body.startswith("\n") else "") + body
+        for member in list(claims):
+            if name == member + "-Inv-loop":
+                out.append(f"abbrev {member}-claims : ℕ → {member}-lts.Claims\n{member}-claims t = ({claims.pop(member)})\n")
+        if name in known and comment != last_comment:
+            out.append(comment)
+            last_comment = comment
+        out.append("\n".join(lines[:start]) + f"\n{unfolding}{left} ={body}\n")
+    if unused:
+        sys.exit(f"{template}: no such need: " + ", ".join(sorted(unused)))
+    text = "\n".join(out)
+    imports = list(uses)
+    if "search needs" in text and not any("Author.Needs." in use for use in uses):
+        imports.append("use borrow.Author.Needs.{needs}")
+    for line in skeleton.split("\n"):
+        match = re.match(r"use \S+ as (\S+)$", line)
+        if line.startswith("use ") and (not match or re.search(r"(?<![\w-])" + re.escape(match.group(1)) + r"\.", text)):
+            imports.append(line)
+    put_file(crate, function, head, imports, text)
+
+
+def put_file(crate, function, head, imports, text):
+    first = f"-- Generated by tools/answers.py from tools/answers/{crate}/{function}.answers; edit that."
+    proof = f"{ROOT}/crates/{crate}/proofs/{function}/Proof.antt"
+    os.makedirs(os.path.dirname(proof), exist_ok=True)
+    open(proof, "w").write("\n".join([first, *head, *imports]) + "\n\n" + text)
+    print("wrote", os.path.relpath(proof, ROOT))
 
 
 def write(crate, function):
@@ -241,11 +346,7 @@ def write(crate, function):
         match = re.match(r"use \S+ as (\S+)$", line)
         if match and match.group(1) != "tie" and re.search(r"(?<![\w-])" + re.escape(match.group(1)) + r"\.", text):
             imports.append(line)
-    first = f"-- Generated by tools/answers.py from tools/answers/{crate}/{function}.answers; edit that."
-    proof = f"{ROOT}/crates/{crate}/proofs/{function}/Proof.antt"
-    os.makedirs(os.path.dirname(proof), exist_ok=True)
-    open(proof, "w").write("\n".join([first, *head, *imports]) + "\n\n" + text)
-    print("wrote", os.path.relpath(proof, ROOT))
+    put_file(crate, function, head, imports, text)
 
 
 def main():
@@ -264,8 +365,12 @@ def main():
     if not functions:
         found = glob.glob(folder + "**/*.answers", recursive=True)
         functions = sorted(path[len(folder):-len(".answers")] for path in found)
+    collect(crate, functions)
     for function in functions:
-        write(crate, function)
+        if function.split("/")[-1].startswith("+"):
+            write_cycle(crate, function)
+        else:
+            write(crate, function)
     run("fmt")
 
 
