@@ -20,3 +20,7 @@ pub mod EntryTags
 pub mod EntryTagsLaws
 pub mod WalkWords
 pub mod WalkWordsLaws
+pub mod WordSteps
+pub mod WordStepsLaws
+pub mod WrittenEvents
+pub mod WrittenEventsLaws

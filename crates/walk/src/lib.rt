@@ -2,3 +2,6 @@
 mod entry_tags;
 mod event;
 mod field_table;
+mod group_events;
+mod group_steps;
+mod layout_input;
