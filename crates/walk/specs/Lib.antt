@@ -24,3 +24,5 @@ pub mod WordSteps
 pub mod WordStepsLaws
 pub mod WrittenEvents
 pub mod WrittenEventsLaws
+pub mod WalkPromises
+pub mod WalkLoops

@@ -4,4 +4,5 @@ mod event;
 mod field_table;
 mod group_events;
 mod group_steps;
+mod group_walk;
 mod layout_input;
