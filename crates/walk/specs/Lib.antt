@@ -1,5 +1,5 @@
 -- Definitions and laws of the crate `walk`: the events of a walk over the fields of a message, and the readings of a group. A definition's laws
--- stand in the file of its name with `Laws`, its examples in the one with `Cases`. To read: `GroupReading`, then `ReadingTheorem`.
+-- stand in the file of its name with `Laws`, its examples in the one with `Cases`. To read: `GroupReading`, then `ReadingTheorem`, then `CallTheorem`.
 pub mod Membership
 pub mod Events
 pub mod EventsLaws
@@ -26,3 +26,6 @@ pub mod WrittenEvents
 pub mod WrittenEventsLaws
 pub mod WalkPromises
 pub mod WalkLoops
+pub mod WalkCall
+pub mod WalkCallLaws
+pub mod CallTheorem

@@ -6,3 +6,4 @@ mod group_events;
 mod group_steps;
 mod group_walk;
 mod layout_input;
+pub mod walk_call;
