@@ -1,13 +1,13 @@
 -- Laws of `Definitions.antt`: what a dictionary's words are known to hold when they are searched. Assumes nothing.
-use mathlib.Core.Path.{_≡_}
+use mathlib.Core.Path.{_≡_, refl, ap, _∙_}
 use Prim.Native.Nat.{ℕ, zero, suc, _+_, _*_, _-_, _≤_, _<_}
-use mathlib.Core.Bool.{Bool, true, _&&_}
+use mathlib.Core.Bool.{Bool, true, false, _&&_}
 use mathlib.Core.List.{List}
 use native.Mathlib.Omega.{arith}
 use lib.Dec.{leb, eqb}
 use lib.ListN.{length, getD, take, drop, length-drop}
 use lib.Seq.{length-take-le}
-use borrow.Author.Tests.{leb-true, ltb-true}
+use borrow.Author.Tests.{eq-eqb, ne-eqb, leb-true, ltb-true}
 use Rattle.ascii.specs.NotationLaws.{and-left, and-right}
 use Rattle.sorting.specs.declared.search.Found.{Found}
 use Rattle.sorting.specs.declared.search.Found.the-variants.{At, Nothing}
@@ -15,7 +15,9 @@ use Rattle.sorting.specs.Search.{StrictlyAscending, isStrictlyAscending, rankIn
 use Rattle.sorting.specs.SearchLaws.{isStrictlyAscending-true, holds-at}
 use Rattle.texts.specs.DictionaryOrder.{start}
 use Rattle.dictionary.specs.DictionaryCheck.{linesFrom, accepts, countOf, standsAt, standsEach, isIndex, tagsAt, componentsAt, messagesAt, sizeOf, isDictionary}
-use Rattle.dictionary.specs.Definitions.{recordIn}
+use Rattle.dictionary.specs.Definitions.{recordIn, isSameValue, isAmong}
+use Rattle.dictionary.specs.Records.{admittedFrom}
+use Rattle.texts.specs.declared.line_parts.Admitted.{Admitted}
 
 -- the number of what was found is below the number of lines
 abbrev pub Below : ℕ → Found → Type 0
@@ -139,3 +141,42 @@ below-number lines number found there below = rw there at below
 
 pub below-nothing : (lines : ℕ) (found : Found) → found ≡ Nothing → Below lines found
 below-nothing lines found missing = rw missing tt
+
+-- ---- isAmong: the loop of `is_among`
+
+pub record AmongSoFar (value : Admitted) (records first : ℕ) (words : List ℕ) (left at : ℕ) : Type 0 where
+  pub fits : at + 10 * left ≤ length words
+  pub rest : isAmong value records first words ≡ isAmong value left at words
+
+pub among-begins : (value : Admitted) (records first : ℕ) (words : List ℕ) → first + 10 * records ≤ length words → AmongSoFar value records first words records first
+among-begins value records first words fits = record { fits = fits; rest = refl }
+
+module _ (value : Admitted) (records first : ℕ) (words : List ℕ) (left at : ℕ) (so-far : AmongSoFar value records first words left at) where
+  pub among-ends : left ≤ 0 → isAmong value records first words ≡ false
+  unfolding isAmong
+  among-ends over = let none : left ≡ 0 = omega arith in so-far .rest ∙ rw none
+
+  module _ (inside : 0 < left) where
+    pub among-stops : (getD words at 0 ≡ 2 → ⊥) → isAmong value records first words ≡ false
+    unfolding isAmong
+    among-stops other = let more : left ≡ suc (left - 1) = omega arith in so-far .rest ∙ rw (more, ne-eqb (getD words at 0) 2 other)
+
+    module _ (admitted : Admitted) (kind : getD words at 0 ≡ 2) (read : admitted ≡ admittedFrom (take (at + 10 - at) (drop at words))) where
+      admitted-here : admitted ≡ admittedFrom (take 10 (drop at words))
+      admitted-here = let ten : at + 10 - at ≡ 10 = omega arith in rw ten at read
+
+      pub among-found : isSameValue admitted value ≡ true → isAmong value records first words ≡ true
+      unfolding isAmong
+      among-found same = let more : left ≡ suc (left - 1) = omega arith in so-far .rest ∙ rw (more, eq-eqb (getD words at 0) 2 kind, ← admitted-here, same)
+
+      pub among-goes-on : isSameValue admitted value ≡ false → AmongSoFar value records first words (left - 1) (at + 10)
+      unfolding isAmong
+      among-goes-on other =
+          let more : left ≡ suc (left - 1) = omega arith in
+          record {
+            fits = omega (arith, so-far .fits);
+            rest = so-far .rest ∙ among-step more other;
+          }
+        where
+          among-step : left ≡ suc (left - 1) → isSameValue admitted value ≡ false → isAmong value left at words ≡ isAmong value (left - 1) (at + 10) words
+          among-step more other = ap (λ (count : ℕ). isAmong value count at words) more ∙ rw (eq-eqb (getD words at 0) 2 kind, ← admitted-here, other)

@@ -1,16 +1,20 @@
 // What a dictionary defines, looked up in its words.
+use crate::records::admitted_from;
 use crate::records::line_at;
 use sorting::search::Found;
 use sorting::search::binary_search;
 use texts::line::Line;
+use texts::line_parts::Admitted;
 use texts::line_parts::MessageType;
+use texts::line_parts::ValueText;
 use texts::line_parts::parse_message_type;
+use texts::line_parts::parse_value;
 ghost use mathlib.Core.Path.{_≡_};
 ghost use mathlib.Core.Bool.{true};
 ghost use Prim.Native.Nat.{_+_, _*_, _≤_, _<_};
 ghost use lib.ListN.{length, getD};
 ghost use Rattle.dictionary.specs.DictionaryCheck.{isIndex, messagesAt, isDictionary};
-ghost use Rattle.dictionary.specs.Definitions.{recordIn, definitionOf, componentOf, messageOf, lineNumbered};
+ghost use Rattle.dictionary.specs.Definitions.{recordIn, definitionOf, componentOf, messageOf, lineNumbered, isSameValue, isAmong, admitsValue};
 ghost use Rattle.dictionary.specs.DefinitionsLaws.{Below};
 
 // The definition of a tag.
@@ -95,4 +99,76 @@ pub fn line_numbered(words: &[u32], number: usize) -> Line
     ensures { λ line. ⌜ line ≡ lineNumbered (now (words .entry)) number ⌝ }
 {
     line_at(words, 4 + 10 * number)
+}
+
+fn is_same_value(one: Admitted, other: Admitted) -> bool
+    ensures { λ answer. ⌜ answer ≡ isSameValue one other ⌝ }
+{
+    if one.len != other.len {
+        return false;
+    }
+    if one.word0 != other.word0 {
+        return false;
+    }
+    if one.word1 != other.word1 {
+        return false;
+    }
+    if one.word2 != other.word2 {
+        return false;
+    }
+    if one.word3 != other.word3 {
+        return false;
+    }
+    if one.word4 != other.word4 {
+        return false;
+    }
+    if one.word5 != other.word5 {
+        return false;
+    }
+    if one.word6 != other.word6 {
+        return false;
+    }
+    one.word7 == other.word7
+}
+
+// The value is among those that the records from this place on admit.
+fn is_among(words: &[u32], first: usize, records: usize, value: Admitted) -> bool
+    requires { ⌜ first + 10 * records ≤ length (now words) ⌝ }
+    ensures { λ answer. ⌜ answer ≡ isAmong value records first (now (words .entry)) ⌝ }
+{
+    let mut left = records;
+    let mut at = first;
+    while 0 < left {
+        if words[at] != 2 {
+            return false;
+        }
+        let past = at + 10;
+        let admitted = admitted_from(&words[at..past]);
+        if is_same_value(admitted, value) {
+            return true;
+        }
+        left -= 1;
+        at += 10;
+    }
+    false
+}
+
+// The definition with this record admits the value: it has no admitted values, or the value is one of them.
+pub fn admits(words: &[u32], number: usize, value: &[u8]) -> bool
+    requires { ⌜ (isDictionary (now words) ≡ true) × (number < getD (now words) 0 0) ⌝ }
+    ensures { λ answer. ⌜ answer ≡ admitsValue (now (words .entry)) number (now (value .entry)) ⌝ }
+{
+    let lines = words[0] as usize;
+    let left = lines - number - 1;
+    let at = 4 + 10 * number + 10;
+    if left == 0 {
+        return true;
+    }
+    if words[at] != 2 {
+        return true;
+    }
+    match parse_value(value) {
+        ValueText::Bytes(admitted) => is_among(words, at, left, admitted),
+        ValueText::NoBytes => false,
+    }
 }

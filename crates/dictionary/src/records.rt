@@ -159,7 +159,7 @@ fn def_from(words: &[u32]) -> Line
     Line::Unknown
 }
 
-fn admitted_from(words: &[u32]) -> Admitted
+pub fn admitted_from(words: &[u32]) -> Admitted
     requires { ⌜ length (now words) ≡ 10 ⌝ }
     ensures { λ value. ⌜ value ≡ admittedFrom (now (words .entry)) ⌝ }
 {
