@@ -13,7 +13,7 @@ use Rattle.sorting.specs.declared.search.Found.{Found}
 use Rattle.sorting.specs.declared.search.Found.the-variants.{At, Nothing}
 use Rattle.sorting.specs.Search.{StrictlyAscending, isStrictlyAscending, rankIn, Holds}
 use Rattle.sorting.specs.SearchLaws.{isStrictlyAscending-true, holds-at}
-use Rattle.texts.specs.DictionaryOrder.{start}
+use Rattle.texts.specs.DictionaryText.{start}
 use Rattle.dictionary.specs.DictionaryCheck.{linesFrom, accepts, countOf, standsAt, standsEach, isIndex, tagsAt, componentsAt, messagesAt, sizeOf, isDictionary}
 use Rattle.dictionary.specs.Definitions.{recordIn, isSameValue, isAmong}
 use Rattle.dictionary.specs.Records.{admittedFrom}
@@ -37,7 +37,7 @@ module _ (kind at count : ℕ) (words : List ℕ) (index : isIndex kind at count
   pub index-ascends : StrictlyAscending (take count (drop at words))
   index-ascends = isStrictlyAscending-true (take count (drop at words)) (index-parts .0)
 
-stands-nth : (kind count : ℕ) (words : List ℕ) (left at rank : ℕ)
+pub stands-nth : (kind count : ℕ) (words : List ℕ) (left at rank : ℕ)
     → standsEach kind count at left words ≡ true
     → rank < left
     → standsAt kind (getD words (at + rank) 0) (getD words (at + rank + count) 0) words ≡ true

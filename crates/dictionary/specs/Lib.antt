@@ -13,3 +13,5 @@ pub mod DictionaryCheck
 pub mod DictionaryCheckLaws
 pub mod Definitions
 pub mod DefinitionsLaws
+pub mod DictionaryTheorem
+pub mod IndexLaws
