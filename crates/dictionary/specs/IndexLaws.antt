@@ -6,13 +6,13 @@
 --   without word words   the words without the first that is the word
 use mathlib.Core.Path.{_≡_, refl, sym, ap, _∙_}
 use Prim.Native.Nat.{ℕ, zero, suc, _+_, _*_, _-_, _≤_, _<_}
-use mathlib.Core.Bool.{Bool, true, false, _&&_, cond, false≢true}
+use mathlib.Core.Bool.{Bool, true, false, _&&_, cond}
 use mathlib.Core.List.{List, [], _∷_, _++_, map, append-assoc}
 use native.Mathlib.Omega.{arith}
-use lib.Dec.{leb, ltb, eqb}
-use lib.ListN.{length, getD, take, drop, take-append-drop, length-append, length-drop, length-map, List·getD-append, List·getD-map}
+use lib.Dec.{ltb, eqb}
+use lib.ListN.{length, getD, take, drop, take-append-drop, length-drop, length-map, List·getD-append, List·getD-map}
 use lib.Seq.{take-add, drop-drop, drop-at, getD-take, getD-drop, getD-append-add, length-take-le, ext-getD}
-use borrow.Author.Tests.{ltb-true, eqb-true, eqb-false, eq-eqb, ne-eqb}
+use borrow.Author.Tests.{ltb-true, eqb-true, eq-eqb}
 use Rattle.ascii.specs.NotationLaws.{and-left, and-right}
 use Rattle.sorting.specs.Sort.{sorted, AscendingFrom, Ascending, once, howOften, AsOften}
 use Rattle.sorting.specs.SortLaws.{howOften-below, sorted-unique}
@@ -53,7 +53,7 @@ strictly-ascending : (words : List ℕ) → StrictlyAscending words → Ascendin
 strictly-ascending [] ascends = tt
 strictly-ascending (word ∷ rest) ascends = (omega arith, lower word rest (above-ascending word rest ascends))
 
-once-same : (word : ℕ) → once word word ≡ 1
+pub once-same : (word : ℕ) → once word word ≡ 1
 unfolding once
 once-same word = rw (eq-eqb word word refl)
 
