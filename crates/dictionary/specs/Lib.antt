@@ -15,3 +15,5 @@ pub mod Definitions
 pub mod DefinitionsLaws
 pub mod DictionaryTheorem
 pub mod IndexLaws
+pub mod LinePartReadLaws
+pub mod LineReadLaws
