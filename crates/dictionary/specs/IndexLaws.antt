@@ -44,7 +44,7 @@ above-distinct low [] ascends = tt
 above-distinct low (word ∷ rest) ascends =
     (howOften-below word (suc word) rest (omega arith) (above-ascending word rest (ascends .1)), above-distinct word rest (ascends .1))
 
-strictly-distinct : (words : List ℕ) → StrictlyAscending words → Distinct words
+pub strictly-distinct : (words : List ℕ) → StrictlyAscending words → Distinct words
 strictly-distinct [] ascends = tt
 strictly-distinct (word ∷ rest) ascends =
     (howOften-below word (suc word) rest (omega arith) (above-ascending word rest ascends), above-distinct word rest ascends)
@@ -71,7 +71,7 @@ unfolding howOften
 distinct-often [] distinct word = omega arith
 distinct-often (other ∷ rest) distinct word = distinct-by word other rest (eqb other word) refl (distinct .0) (distinct-often rest (distinct .1) word)
 
-often-at : (words : List ℕ) (place : ℕ) → place < length words → 1 ≤ howOften (getD words place 0) words
+pub often-at : (words : List ℕ) (place : ℕ) → place < length words → 1 ≤ howOften (getD words place 0) words
 unfolding howOften
 often-at [] place inside = absurd (omega arith)
 often-at (word ∷ rest) zero inside = omega (arith, once-same word)
@@ -142,13 +142,13 @@ fills (word ∷ rest) others distinct among few each =
 -- ---- the records of a kind
 
 module _ (line : Line) (more : List ℕ) where
-  record-word : (place : ℕ) → place < 10 → getD (recordOf line ++ more) place 0 ≡ getD (recordOf line) place 0
+  pub record-word : (place : ℕ) → place < 10 → getD (recordOf line ++ more) place 0 ≡ getD (recordOf line) place 0
   record-word place few = List·getD-append (recordOf line) more 0 place (omega (arith, recordOf-length line))
 
-  record-drop : drop 10 (recordOf line ++ more) ≡ more
+  pub record-drop : drop 10 (recordOf line ++ more) ≡ more
   record-drop = drop-at (recordOf line) more 10 (recordOf-length line)
 
-  record-behind : (place : ℕ) → getD (recordOf line ++ more) (10 + place) 0 ≡ getD more place 0
+  pub record-behind : (place : ℕ) → getD (recordOf line ++ more) (10 + place) 0 ≡ getD more place 0
   record-behind place =
       let ten = recordOf-length line in
       let same : 10 + place ≡ length (recordOf line) + place = omega arith in
@@ -198,7 +198,7 @@ module _ (kind name : ℕ) (line : Line) (rest : List Line) where
         ),
       )
 
-more-often : (test : Bool) (name first : ℕ) (names : List ℕ) → howOften name names ≤ howOften name (cond test (first ∷ names) names)
+pub more-often : (test : Bool) (name first : ℕ) (names : List ℕ) → howOften name names ≤ howOften name (cond test (first ∷ names) names)
 unfolding howOften
 more-often true name first names = omega arith
 more-often false name first names = omega arith
@@ -239,7 +239,7 @@ stands-place kind name (suc number) (line ∷ rest) stands few =
 
 -- ---- an index that passes
 
-getD-any : (words : List ℕ) (place this that : ℕ) → place < length words → getD words place this ≡ getD words place that
+pub getD-any : (words : List ℕ) (place this that : ℕ) → place < length words → getD words place this ≡ getD words place that
 getD-any [] place this that inside = absurd (omega arith)
 getD-any (word ∷ rest) zero this that inside = refl
 getD-any (word ∷ rest) (suc place) this that inside = getD-any rest place this that (omega arith)

@@ -8,12 +8,13 @@ pub mod NumeralLaws
 pub mod TypeTextLaws
 pub mod WordTextLaws
 pub mod LineTextsLaws
+pub mod LinePartReadLaws
+pub mod LineReadLaws
 pub mod DictionaryWords
 pub mod DictionaryCheck
 pub mod DictionaryCheckLaws
 pub mod Definitions
 pub mod DefinitionsLaws
-pub mod DictionaryTheorem
 pub mod IndexLaws
-pub mod LinePartReadLaws
-pub mod LineReadLaws
+pub mod PassAccepted
+pub mod AcceptedPass

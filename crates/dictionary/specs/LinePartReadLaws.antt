@@ -1,12 +1,12 @@
 -- What the parts of a line are read as (texts, `LineParts.antt`), against what a record holds: a number has 32 bits and at least as many digits as `digitCount`,
 -- a TYPE is one of 34 and as long as its name, a T is `lettersText` of its word, a V fills its words. Assumes nothing.
 use mathlib.Core.Path.{_≡_, refl, sym, ap, _∙_}
-use Prim.Native.Nat.{ℕ, zero, suc, _+_, _*_, _-_, _/_, _%_, _^_, _≤_, _<_}
+use Prim.Native.Nat.{ℕ, zero, suc, _+_, _*_, _-_, _^_, _≤_, _<_}
 use mathlib.Core.Bool.{Bool, true, false, _&&_, not, cond, false≢true}
-use mathlib.Core.List.{List, [], _∷_, _++_}
+use mathlib.Core.List.{List, [], _∷_}
 use native.Mathlib.Omega.{arith}
-use lib.Dec.{leb, ltb, eqb}
-use lib.ListN.{length, getD, take, drop, length-drop}
+use lib.Dec.{ltb, eqb}
+use lib.ListN.{length, getD, drop, length-drop}
 use lib.Seq.{length-take-le, drop-drop, getD-drop}
 use borrow.Author.Tests.{lt-ltb, ltb-true, ltb-false, eq-eqb, ne-eqb, eqb-true, eqb-false}
 use Rattle.ascii.specs.Notation.{isBetween}
@@ -22,14 +22,12 @@ use Rattle.texts.specs.declared.line_parts.TypeName.{TypeName}
 use Rattle.texts.specs.declared.line_parts.TypeName.the-variants.{TypeAt, NoType}
 use Rattle.texts.specs.declared.line_parts.MessageType.{MessageType}
 use Rattle.texts.specs.declared.line_parts.MessageType.the-variants.{Letters, NoLetters}
-use Rattle.texts.specs.declared.line_parts.Admitted.{Admitted}
 use Rattle.texts.specs.declared.line_parts.ValueText.{ValueText}
 use Rattle.texts.specs.declared.line_parts.ValueText.the-variants.{Bytes, NoBytes}
-use Rattle.texts.specs.Lines.{positionOf, before, behind, startsWith, isSame, Pieces, last, piece, longer, cut, comma}
+use Rattle.texts.specs.Lines.{positionOf, before, behind, isSame, Pieces, last, piece, longer, cut, comma}
 use Rattle.texts.specs.LinesLaws.{positionOf-within}
 use Rattle.texts.specs.LineParts.{noLeadingZero, numberOf, flagOf, typeNames, typeIn, typeOf, wordAt, isAlphanumeric, messageTypeOf, isVisible, admittedBytes, valueOf}
 use Rattle.dictionary.specs.Records.{byte0, byte1, byte2, byte3, holdsByte, holdsPart, lettersLength, lettersText, holdsLetters, holdsValue, valueWords}
-use Rattle.dictionary.specs.RecordsLaws.{holdsByte-inside, holdsByte-behind}
 use Rattle.dictionary.specs.LineTexts.{nameAt, typeText, digitCountFrom, digitCount, typeLengths}
 use Rattle.dictionary.specs.NumeralLaws.{alphanumeric-range}
 use Rattle.dictionary.specs.TypeTextLaws.{typeText-length}

@@ -24,20 +24,18 @@ use Rattle.texts.specs.declared.line_parts.TypeName.{TypeName}
 use Rattle.texts.specs.declared.line_parts.TypeName.the-variants.{TypeAt, NoType}
 use Rattle.texts.specs.declared.line_parts.MessageType.{MessageType}
 use Rattle.texts.specs.declared.line_parts.MessageType.the-variants.{Letters, NoLetters}
-use Rattle.texts.specs.declared.line_parts.Admitted.{Admitted}
 use Rattle.texts.specs.declared.line_parts.ValueText.{ValueText}
 use Rattle.texts.specs.declared.line_parts.ValueText.the-variants.{Bytes, NoBytes}
 use Rattle.texts.specs.Lines.{before, behind, startsWith, isSame, comma}
 use Rattle.texts.specs.LinesLaws.{startsWith-length}
-use Rattle.texts.specs.LineParts.{noLeadingZero, numberOf, flagOf, typeOf, wordAt, isAlphanumeric, messageTypeOf, valueOf}
+use Rattle.texts.specs.LineParts.{noLeadingZero, numberOf, flagOf, typeOf, isAlphanumeric, messageTypeOf, valueOf}
 use Rattle.texts.specs.LinePartsLaws.{isAlphanumeric-digit, messageTypeOf-letters}
 use Rattle.texts.specs.LineForms.{defWith, defOf, valueWith, beginOf, componentWith, messageWith, messageOf, fieldWith, fieldOf, groupWith, groupRest, groupOf, useWith, useOf, endWith, endOf, memberWith, requiredWith, blockLineOf, definitionLineOf, lineOf}
-use Rattle.dictionary.specs.Records.{lettersLength, lettersText, holdsLetters}
 use Rattle.dictionary.specs.RecordsLaws.{Held}
-use Rattle.dictionary.specs.LineTexts.{digitCount, typeLengths, lengthOf}
+use Rattle.dictionary.specs.LineTexts.{typeLengths, lengthOf}
 use Rattle.dictionary.specs.NumeralLaws.{every-weaker}
 use Rattle.dictionary.specs.WordTextLaws.{lettersText-length}
-use Rattle.dictionary.specs.LinePartReadLaws.{NumberFits, numberOf-fits, LargeNumber, numberOf-large, FlagFits, flagOf-fits, parts-length, same-length, TypeFits, typeOf-fits, LettersFit, messageTypeOf-fits, ValueFits, valueOf-fits}
+use Rattle.dictionary.specs.LinePartReadLaws.{NumberFits, numberOf-fits, numberOf-large, FlagFits, flagOf-fits, parts-length, same-length, TypeFits, typeOf-fits, LettersFit, messageTypeOf-fits, ValueFits, valueOf-fits}
 
 abbrev pub Usable : Line → Type 0
 Usable (Def tag place) = Held (Def tag place)

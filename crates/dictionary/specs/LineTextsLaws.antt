@@ -112,7 +112,7 @@ end-named : (number : Number32) (letters : ℕ) → endWith number (Letters lett
 end-named (Number number) letters = refl
 end-named NoNumber letters = refl
 
-some-digit-by : (test : Bool) (more : ℕ) → 1 ≤ cond test 1 (suc more)
+pub some-digit-by : (test : Bool) (more : ℕ) → 1 ≤ cond test 1 (suc more)
 some-digit-by true more = omega arith
 some-digit-by false more = omega arith
 

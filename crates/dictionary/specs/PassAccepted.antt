@@ -1,11 +1,12 @@
--- The check of lent words finds the words of accepted dictionaries, and nothing else.
+-- Words that pass the check of lent words begin with the arrangement of the lines of an accepted text (`pass-accepted`). The text is written from the
+-- decoded lines, each with its line feed; the reader reads these lines from it (`linesIn-textsOf`), finds them in order (`accepts-order`), finds the text
+-- short enough (`accepts-length`) and nothing in it defined again (`again-nowhere`). The converse is `AcceptedPass.antt`. Assumes nothing.
 --
---   pass-accepted   words that pass begin with the arrangement of the lines of an accepted text
---
--- Here: the text of a list of lines, and that its lines are read from it. Assumes nothing.
---
---   textsOf lines       the lines' texts, each with its line feed
---   linesIn pieces      the lines of a text that was cut at its line feeds
+--   textsOf lines          the lines' texts, each with its line feed
+--   linesIn pieces         the lines of a text that was cut at its line feeds
+--   AllHeld lines          a record can hold each of the lines
+--   keysOf lines           what the lines define, as the numbers that row 5 compares
+--   AcceptedWords words    some text is accepted, and the words begin with the arrangement of its lines
 use mathlib.Core.Path.{_≡_, refl, sym, ap, _∙_}
 use Prim.Native.Nat.{ℕ, zero, suc, _+_, _*_, _-_, _≤_, _<_}
 use mathlib.Core.Bool.{Bool, true, false, _||_, cond, false≢true}
@@ -24,9 +25,9 @@ use Rattle.texts.specs.declared.line_parts.Number32.{Number32}
 use Rattle.texts.specs.declared.line_parts.Number32.the-variants.{Number, NoNumber}
 use Rattle.texts.specs.declared.line_parts.MessageType.{MessageType}
 use Rattle.texts.specs.declared.line_parts.MessageType.the-variants.{Letters, NoLetters}
-use Rattle.texts.specs.declared.dictionary_text.State.{State}
-use Rattle.texts.specs.declared.dictionary_text.Fault.{Fault}
-use Rattle.texts.specs.declared.dictionary_text.Fault.the-variants.{NoFault, Faulty}
+use Rattle.texts.specs.declared.dictionary_order.State.{State}
+use Rattle.texts.specs.declared.dictionary_order.Fault.{Fault}
+use Rattle.texts.specs.declared.dictionary_order.Fault.the-variants.{NoFault, Faulty}
 use Rattle.texts.specs.declared.dictionary_text.Counts.{Counts}
 use Rattle.texts.specs.declared.dictionary_text.Defined.{Defined}
 use Rattle.texts.specs.declared.dictionary_text.Defined.the-variants.{Tag, ComponentName, MessageName, Nothing}
@@ -39,7 +40,8 @@ use Rattle.texts.specs.Lines.{Pieces, last, piece, cut, linesOf, lineFeed}
 use Rattle.texts.specs.LinesLaws.{cut-first-piece}
 use Rattle.texts.specs.LineParts.{isVisible}
 use Rattle.texts.specs.LineForms.{lineOf}
-use Rattle.texts.specs.DictionaryText.{start, stepOf, counted, counts, definedBy, orderFrom, keyOf, isIn, onKey, againFrom, againOf, orderOf, dictionaryTextOf}
+use Rattle.texts.specs.DictionaryOrder.{start, stepOf}
+use Rattle.texts.specs.DictionaryText.{counted, counts, definedBy, orderFrom, keyOf, isIn, onKey, againFrom, againOf, orderOf, dictionaryTextOf}
 use Rattle.dictionary.specs.Records.{recordOf, lineFrom, lettersText}
 use Rattle.dictionary.specs.RecordsLaws.{Held, HeldEnd, Words32, recordOf-lineFrom, lineFrom-held}
 use Rattle.dictionary.specs.LineTexts.{numeral, typeText, valueText, flagText, appText, endText, textOf, lengthOf}
@@ -154,7 +156,7 @@ counted-by read (ComponentName name) number same = omega arith
 counted-by read (MessageName letters) number same = omega arith
 counted-by read Nothing number same = omega arith
 
-counted-lines : (read : Counts) (line : Line) (number : ℕ) → number ≡ read .lines + 1 → number + 1 ≡ counted read (definedBy line) .lines + 1
+pub counted-lines : (read : Counts) (line : Line) (number : ℕ) → number ≡ read .lines + 1 → number + 1 ≡ counted read (definedBy line) .lines + 1
 counted-lines read line number same = counted-by read (definedBy line) number same
 
 pub accepts-order : (state : State) (read : Counts) (number total : ℕ) (lines : List Line) → number ≡ read .lines + 1
@@ -224,25 +226,25 @@ accepts-records state number total (suc count) words fits small passes =
 
 -- ---- row 5: nothing that passes is defined again
 
-abbrev tagIn : Defined → List ℕ
+abbrev pub tagIn : Defined → List ℕ
 tagIn (Tag tag) = tag ∷ []
 tagIn (ComponentName name) = []
 tagIn (MessageName letters) = []
 tagIn Nothing = []
 
-abbrev componentIn : Defined → List ℕ
+abbrev pub componentIn : Defined → List ℕ
 componentIn (Tag tag) = []
 componentIn (ComponentName name) = name ∷ []
 componentIn (MessageName letters) = []
 componentIn Nothing = []
 
-abbrev messageIn : Defined → List ℕ
+abbrev pub messageIn : Defined → List ℕ
 messageIn (Tag tag) = []
 messageIn (ComponentName name) = []
 messageIn (MessageName letters) = letters ∷ []
 messageIn Nothing = []
 
-abbrev SmallNames : Defined → Type 0
+abbrev pub SmallNames : Defined → Type 0
 SmallNames (Tag tag) = tag < 4294967296
 SmallNames (ComponentName name) = name < 4294967296
 SmallNames (MessageName letters) = Unit
@@ -254,7 +256,7 @@ tags-step-end number (Letters letters) rest = refl
 tags-step-end (Number number) NoLetters rest = refl
 tags-step-end NoNumber NoLetters rest = refl
 
-tags-step : (line : Line) (rest : List Line) → namesOf 1 (line ∷ rest) ≡ tagIn (definedBy line) ++ namesOf 1 rest
+pub tags-step : (line : Line) (rest : List Line) → namesOf 1 (line ∷ rest) ≡ tagIn (definedBy line) ++ namesOf 1 rest
 unfolding namesOf isOf nameOf recordOf
 tags-step (Def tag place) rest = refl
 tags-step (Value value) rest = refl
@@ -278,7 +280,7 @@ components-step-end number (Letters letters) rest = refl
 components-step-end (Number number) NoLetters rest = refl
 components-step-end NoNumber NoLetters rest = refl
 
-components-step : (line : Line) (rest : List Line) → namesOf 5 (line ∷ rest) ≡ componentIn (definedBy line) ++ namesOf 5 rest
+pub components-step : (line : Line) (rest : List Line) → namesOf 5 (line ∷ rest) ≡ componentIn (definedBy line) ++ namesOf 5 rest
 unfolding namesOf isOf nameOf recordOf
 components-step (Def tag place) rest = refl
 components-step (Value value) rest = refl
@@ -302,7 +304,7 @@ messages-step-end number (Letters letters) rest = refl
 messages-step-end (Number number) NoLetters rest = refl
 messages-step-end NoNumber NoLetters rest = refl
 
-messages-step : (line : Line) (rest : List Line) → namesOf 6 (line ∷ rest) ≡ messageIn (definedBy line) ++ namesOf 6 rest
+pub messages-step : (line : Line) (rest : List Line) → namesOf 6 (line ∷ rest) ≡ messageIn (definedBy line) ++ namesOf 6 rest
 unfolding namesOf isOf nameOf recordOf
 messages-step (Def tag place) rest = refl
 messages-step (Value value) rest = refl
@@ -320,7 +322,7 @@ messages-step (RequiredTag tag) rest = refl
 messages-step Unknown rest = refl
 messages-step (End number letters) rest = messages-step-end number letters rest
 
-held-small : (line : Line) → Held line → SmallNames (definedBy line)
+pub held-small : (line : Line) → Held line → SmallNames (definedBy line)
 held-small (Def tag place) held = held .0
 held-small (Value value) held = tt
 held-small BeginHeader held = tt
@@ -337,7 +339,7 @@ held-small (RequiredTag tag) held = absurd held
 held-small Unknown held = absurd held
 held-small (End number letters) held = tt
 
-once-other : (word other : ℕ) → (other ≡ word → ⊥) → once word other ≡ 0
+pub once-other : (word other : ℕ) → (other ≡ word → ⊥) → once word other ≡ 0
 unfolding once
 once-other word other differ = rw (ne-eqb other word differ)
 
@@ -386,19 +388,19 @@ module _ (name : ℕ) (keys names : List ℕ) where
   message-key (MessageName letters) small same = omega (arith, once-shifted 8589934592 name letters)
   message-key Nothing small same = same
 
-tag-keys : (key : ℕ) (lines : List Line) → key < 4294967296 → howOften key (keysOf lines) ≡ howOften key (namesOf 1 lines)
+pub tag-keys : (key : ℕ) (lines : List Line) → key < 4294967296 → howOften key (keysOf lines) ≡ howOften key (namesOf 1 lines)
 unfolding keysOf
 tag-keys key [] low = unfold namesOf in refl
 tag-keys key (line ∷ rest) low = rw (tags-step line rest) (tag-key key (keysOf rest) (namesOf 1 rest) (tag-keys key rest low) (definedBy line) low)
 
-component-keys : (name : ℕ) (lines : List Line) → AllHeld lines → name < 4294967296 → howOften (4294967296 + name) (keysOf lines) ≡ howOften name (namesOf 5 lines)
+pub component-keys : (name : ℕ) (lines : List Line) → AllHeld lines → name < 4294967296 → howOften (4294967296 + name) (keysOf lines) ≡ howOften name (namesOf 5 lines)
 unfolding keysOf
 component-keys name [] held low = unfold namesOf howOften in refl
 component-keys name (line ∷ rest) held low =
     rw (components-step line rest)
     (component-key name (keysOf rest) (namesOf 5 rest) (definedBy line) (held-small line (held .0)) low (component-keys name rest (held .1) low))
 
-message-keys : (name : ℕ) (lines : List Line) → AllHeld lines → howOften (8589934592 + name) (keysOf lines) ≡ howOften name (namesOf 6 lines)
+pub message-keys : (name : ℕ) (lines : List Line) → AllHeld lines → howOften (8589934592 + name) (keysOf lines) ≡ howOften name (namesOf 6 lines)
 unfolding keysOf
 message-keys name [] held = unfold namesOf howOften in refl
 message-keys name (line ∷ rest) held =
@@ -428,7 +430,7 @@ module _ (lines : List Line) (held : AllHeld lines)
   pub keys-once : (key : ℕ) → howOften key (keysOf lines) ≤ 1
   keys-once key = keys-by key (ltb key 4294967296) (ltb key 8589934592) refl refl
 
-howOften-append : (each : ℕ) (words others : List ℕ) → howOften each (words ++ others) ≡ howOften each words + howOften each others
+pub howOften-append : (each : ℕ) (words others : List ℕ) → howOften each (words ++ others) ≡ howOften each words + howOften each others
 unfolding howOften
 howOften-append each [] others = omega arith
 howOften-append each (word ∷ rest) others = omega (arith, howOften-append each rest others)
