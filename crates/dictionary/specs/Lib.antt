@@ -14,6 +14,7 @@ pub mod DictionaryWords
 pub mod DictionaryCheck
 pub mod DictionaryCheckLaws
 pub mod Definitions
+pub mod DictionaryCases
 pub mod DefinitionsLaws
 pub mod IndexLaws
 pub mod PassAccepted
