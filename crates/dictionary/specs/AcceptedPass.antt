@@ -21,9 +21,9 @@ use Rattle.sorting.specs.SearchLaws.{strictly-isStrictlyAscending}
 use Rattle.texts.specs.declared.refusal.Refusal.{Refusal}
 use Rattle.texts.specs.declared.line.Line.{Line}
 use Rattle.texts.specs.declared.line.Line.the-variants.{Def, Value, BeginHeader, BeginTrailer, EndHeader, EndTrailer, Component, Message, Field, Group, Use, End, Member, RequiredTag, Unknown}
-use Rattle.texts.specs.declared.dictionary_text.State.{State}
-use Rattle.texts.specs.declared.dictionary_text.Fault.{Fault}
-use Rattle.texts.specs.declared.dictionary_text.Fault.the-variants.{NoFault, Faulty}
+use Rattle.texts.specs.declared.dictionary_order.State.{State}
+use Rattle.texts.specs.declared.dictionary_order.Fault.{Fault}
+use Rattle.texts.specs.declared.dictionary_order.Fault.the-variants.{NoFault, Faulty}
 use Rattle.texts.specs.declared.dictionary_text.Counts.{Counts}
 use Rattle.texts.specs.declared.dictionary_text.Defined.{Defined}
 use Rattle.texts.specs.declared.dictionary_text.Defined.the-variants.{Tag, ComponentName, MessageName, Nothing}
@@ -37,7 +37,8 @@ use Rattle.texts.specs.declared.refusal.Refusal.the-variants.{TextTooLong, Unkn
 use Rattle.texts.specs.Refusal.{refusalPlace}
 use Rattle.texts.specs.Lines.{Pieces, last, piece, longer, cut, linesOf, lineFeed}
 use Rattle.texts.specs.LineForms.{lineOf}
-use Rattle.texts.specs.DictionaryText.{start, stepOf, behindTrailer, behindMessage, counted, counts, definedBy, orderFrom, orderOf, onFault, keyOf, isIn, onKey, againFrom, againOf, firstOf, dictionaryTextOf}
+use Rattle.texts.specs.DictionaryOrder.{start, stepOf, behindTrailer, behindMessage}
+use Rattle.texts.specs.DictionaryText.{counted, counts, definedBy, orderFrom, orderOf, onFault, keyOf, isIn, onKey, againFrom, againOf, firstOf, dictionaryTextOf}
 use Rattle.dictionary.specs.Records.{recordOf}
 use Rattle.dictionary.specs.RecordsLaws.{Held, HeldEnd, lineFrom-recordOf, recordOf-length}
 use Rattle.dictionary.specs.LineTexts.{digitCountFrom, digitCount, endLength, lengthOf}

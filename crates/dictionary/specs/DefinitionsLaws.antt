@@ -13,7 +13,7 @@ use Rattle.sorting.specs.declared.search.Found.{Found}
 use Rattle.sorting.specs.declared.search.Found.the-variants.{At, Nothing}
 use Rattle.sorting.specs.Search.{StrictlyAscending, isStrictlyAscending, rankIn, Holds}
 use Rattle.sorting.specs.SearchLaws.{isStrictlyAscending-true, holds-at}
-use Rattle.texts.specs.DictionaryText.{start}
+use Rattle.texts.specs.DictionaryOrder.{start}
 use Rattle.dictionary.specs.DictionaryCheck.{linesFrom, accepts, countOf, standsAt, standsEach, isIndex, tagsAt, componentsAt, messagesAt, sizeOf, isDictionary}
 use Rattle.dictionary.specs.Definitions.{recordIn, isSameValue, isAmong}
 use Rattle.dictionary.specs.Records.{admittedFrom}

@@ -17,7 +17,7 @@ use Rattle.texts.specs.declared.line.Line.the-variants.{Def, BeginHeader, Begin
 use Rattle.texts.specs.declared.line_parts.Number32.the-variants.{Number}
 use Rattle.texts.specs.declared.line_parts.MessageType.the-variants.{Letters}
 use Rattle.texts.specs.LineParts.{noLeadingZero, numberOf, isAlphanumeric}
-use Rattle.texts.specs.DictionaryText.{stepOf}
+use Rattle.texts.specs.DictionaryOrder.{stepOf}
 use Rattle.dictionary.specs.declared.definitions.Definition.the-variants.{Defined, Undefined}
 use Rattle.dictionary.specs.Records.{holdsByte, holdsPart, lettersLength, lettersText, holdsLetters, recordOf, isUnused, outerFrom, bodyFrom, lineFrom}
 use Rattle.dictionary.specs.LineTexts.{digitCount, lengthOf}

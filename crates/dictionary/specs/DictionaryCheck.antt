@@ -13,10 +13,10 @@ use lib.ListN.{length, getD, take, drop}
 use Rattle.ascii.specs.Notation.{_≤ᵇ_, _<ᵇ_, _≡ᵇ_, if_then_else_, isBetween}
 use Rattle.sorting.specs.Search.{isStrictlyAscending}
 use Rattle.texts.specs.declared.line.Line.{Line}
-use Rattle.texts.specs.declared.dictionary_text.State.{State}
-use Rattle.texts.specs.declared.dictionary_text.Fault.{Fault}
-use Rattle.texts.specs.declared.dictionary_text.Fault.the-variants.{NoFault, Faulty}
-use Rattle.texts.specs.DictionaryText.{start, stepOf, behindTrailer, behindMessage}
+use Rattle.texts.specs.declared.dictionary_order.State.{State}
+use Rattle.texts.specs.declared.dictionary_order.Fault.{Fault}
+use Rattle.texts.specs.declared.dictionary_order.Fault.the-variants.{NoFault, Faulty}
+use Rattle.texts.specs.DictionaryOrder.{start, stepOf, behindTrailer, behindMessage}
 use Rattle.dictionary.specs.Records.{lineFrom}
 use Rattle.dictionary.specs.LineTexts.{lengthOf}
 use Rattle.dictionary.specs.DictionaryWords as kinds

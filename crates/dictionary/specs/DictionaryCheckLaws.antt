@@ -10,11 +10,11 @@ use borrow.Author.Tests.{le-leb, lt-leb, eq-eqb, ne-eqb}
 use Rattle.ascii.specs.Notation.{isBetween}
 use Rattle.texts.specs.declared.refusal.Refusal.{Refusal}
 use Rattle.texts.specs.declared.line.Line.{Line}
-use Rattle.texts.specs.declared.dictionary_text.State.{State}
-use Rattle.texts.specs.declared.dictionary_text.Fault.the-variants.{NoFault, Faulty}
-use Rattle.texts.specs.declared.dictionary_text.Step.{Step}
-use Rattle.texts.specs.DictionaryText.{start, stepOf, behindTrailer, behindMessage}
-use Rattle.texts.specs.DictionaryTextLaws.{step-depth}
+use Rattle.texts.specs.declared.dictionary_order.State.{State}
+use Rattle.texts.specs.declared.dictionary_order.Fault.the-variants.{NoFault, Faulty}
+use Rattle.texts.specs.declared.dictionary_order.Step.{Step}
+use Rattle.texts.specs.DictionaryOrder.{start, stepOf, behindTrailer, behindMessage}
+use Rattle.texts.specs.DictionaryOrderLaws.{step-depth}
 use Rattle.dictionary.specs.Records.{lineFrom}
 use Rattle.dictionary.specs.LineTexts.{lengthOf}
 use Rattle.dictionary.specs.DictionaryCheck.{linesFrom, accepts, countOf, standsAt, standsEach}

@@ -25,9 +25,9 @@ use Rattle.texts.specs.declared.line_parts.Number32.{Number32}
 use Rattle.texts.specs.declared.line_parts.Number32.the-variants.{Number, NoNumber}
 use Rattle.texts.specs.declared.line_parts.MessageType.{MessageType}
 use Rattle.texts.specs.declared.line_parts.MessageType.the-variants.{Letters, NoLetters}
-use Rattle.texts.specs.declared.dictionary_text.State.{State}
-use Rattle.texts.specs.declared.dictionary_text.Fault.{Fault}
-use Rattle.texts.specs.declared.dictionary_text.Fault.the-variants.{NoFault, Faulty}
+use Rattle.texts.specs.declared.dictionary_order.State.{State}
+use Rattle.texts.specs.declared.dictionary_order.Fault.{Fault}
+use Rattle.texts.specs.declared.dictionary_order.Fault.the-variants.{NoFault, Faulty}
 use Rattle.texts.specs.declared.dictionary_text.Counts.{Counts}
 use Rattle.texts.specs.declared.dictionary_text.Defined.{Defined}
 use Rattle.texts.specs.declared.dictionary_text.Defined.the-variants.{Tag, ComponentName, MessageName, Nothing}
@@ -40,7 +40,8 @@ use Rattle.texts.specs.Lines.{Pieces, last, piece, cut, linesOf, lineFeed}
 use Rattle.texts.specs.LinesLaws.{cut-first-piece}
 use Rattle.texts.specs.LineParts.{isVisible}
 use Rattle.texts.specs.LineForms.{lineOf}
-use Rattle.texts.specs.DictionaryText.{start, stepOf, counted, counts, definedBy, orderFrom, keyOf, isIn, onKey, againFrom, againOf, orderOf, dictionaryTextOf}
+use Rattle.texts.specs.DictionaryOrder.{start, stepOf}
+use Rattle.texts.specs.DictionaryText.{counted, counts, definedBy, orderFrom, keyOf, isIn, onKey, againFrom, againOf, orderOf, dictionaryTextOf}
 use Rattle.dictionary.specs.Records.{recordOf, lineFrom, lettersText}
 use Rattle.dictionary.specs.RecordsLaws.{Held, HeldEnd, Words32, recordOf-lineFrom, lineFrom-held}
 use Rattle.dictionary.specs.LineTexts.{numeral, typeText, valueText, flagText, appText, endText, textOf, lengthOf}

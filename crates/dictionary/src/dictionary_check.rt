@@ -2,18 +2,18 @@
 use crate::line_texts::length_of;
 use crate::records::line_at;
 use sorting::search::is_strictly_ascending;
-use texts::dictionary_text::BEGINNING;
-use texts::dictionary_text::BEHIND_MESSAGE;
-use texts::dictionary_text::BEHIND_TRAILER;
-use texts::dictionary_text::Fault;
-use texts::dictionary_text::NO_BODY;
-use texts::dictionary_text::State;
-use texts::dictionary_text::take_line;
+use texts::dictionary_order::BEGINNING;
+use texts::dictionary_order::BEHIND_MESSAGE;
+use texts::dictionary_order::BEHIND_TRAILER;
+use texts::dictionary_order::Fault;
+use texts::dictionary_order::NO_BODY;
+use texts::dictionary_order::State;
+use texts::dictionary_order::take_line;
 ghost use mathlib.Core.Path.{_≡_};
 ghost use Prim.Native.Nat.{_+_, _*_, _≤_};
 ghost use lib.ListN.{length, getD, drop};
 ghost use Rattle.ascii.specs.Notation.{isBetween};
-ghost use Rattle.texts.specs.DictionaryText.{start, behindTrailer, behindMessage};
+ghost use Rattle.texts.specs.DictionaryOrder.{start, behindTrailer, behindMessage};
 ghost use Rattle.dictionary.specs.DictionaryCheck.{linesFrom, accepts, countOf, standsAt, standsEach, isIndex, isDictionary};
 
 // A text may end here: behind its trailer, and with no block open.
