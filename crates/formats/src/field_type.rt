@@ -75,7 +75,7 @@ pub enum FieldType {
     Reserved,
 }
 
-// The on-the-wire forms that the data types admit: one for each arm of the Rust's `is_valid_value`.
+// The on-the-wire forms that the data types admit: those that the arms of the Rust's `is_valid_value` test.
 pub enum Format {
     SignedInteger,
     UnsignedInteger,
