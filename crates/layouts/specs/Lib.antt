@@ -14,6 +14,8 @@ pub mod LayoutCheckRules
 pub mod LayoutCheckSound
 pub mod LayoutCheckComplete
 pub mod LayoutCheckUnique
+pub mod GatheredLayout
+pub mod GatheredLayoutLaws
 pub mod LayoutCases
 pub mod Members
 pub mod MembersLaws

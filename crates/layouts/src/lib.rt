@@ -2,3 +2,4 @@
 pub mod layout_check;
 pub mod layout_words;
 pub mod members;
+pub mod put_layout;
