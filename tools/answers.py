@@ -271,6 +271,11 @@ def put_file(crate, function, head, imports, text):
     print("wrote", os.path.relpath(proof, ROOT))
 
 
+def left_side(line):
+    """What stands before the `=` of a line, which a long line ends with: its answer then stands on the next one."""
+    return re.split(r" =(?: |$)", line, maxsplit=1)[0]
+
+
 def write(crate, function):
     template = f"{ROOT}/tools/answers/{crate}/{function}.answers"
     head, uses, clauses, facts = read_template(template)
@@ -304,19 +309,18 @@ def write(crate, function):
             pass
         elif line.startswith("abbrev ") and " : tie." in line:
             name = line.split()[1]
-            left = lines[index + 1].split(" = ")[0]
+            left = left_side(lines[index + 1])
             if name not in clauses:
                 sys.exit(f"{template}: {name} is missing; its variables: {left}")
             text, unfolding = clauses[name]
             unused.discard(name)
             out.append(f"{line}\n{unfolding}{left} ={text}\n")
-            index += 1
+            index += 2 if lines[index + 1].endswith(" =") else 1
         elif re.match(r"\S+ : tie\.Need-", line):
             name = line.split()[0]
-            left = lines[index + 1].split(" = ")[0]
             if lines[index + 1].startswith("unfolding"):
                 index += 1
-                left = lines[index + 1].split(" = ")[0]
+            left = left_side(lines[index + 1])
             key = name if name in clauses else re.sub(r"-\d+$", "", name) + "*"
             text, unfolding = clauses.get(key, (" search needs", ""))
             unused.discard(key)
@@ -326,7 +330,7 @@ def write(crate, function):
                 out.append(comment)
                 last_comment = comment
             out.append(f"{line}\n{unfolding}{left} ={text}\n")
-            index += 1
+            index += 2 if lines[index + 1].endswith(" =") else 1
         elif line.startswith("pub "):
             out.append("\n".join(lines[index:]))
             break

@@ -1,7 +1,8 @@
 // What is replayed, and how it went.
+use libc::STDOUT_FILENO;
 use std::num::wrapping_add_u64;
 
-// The recorded lists.
+// The recorded lists whose lines are cases by themselves.
 pub enum CaseList {
     Values,
     Counts,
@@ -50,6 +51,31 @@ impl Tally {
                 differ: self.differ,
                 unread: wrapping_add_u64(self.unread, 1),
             },
+        }
+    }
+}
+
+// The first byte of a line; # where it is empty. A line that begins with # is a comment.
+pub fn kind_of(line: &[u8]) -> u8 {
+    if line.len() == 0 {
+        return b'#';
+    }
+    line[0]
+}
+
+// Prints a line that differs or is of no known form.
+pub fn print_unless_same(line: &[u8], replayed: Replayed) {
+    match replayed {
+        Replayed::Same => {}
+        Replayed::Differs => {
+            io::write_all(STDOUT_FILENO, b"differs: ");
+            io::write_all(STDOUT_FILENO, line);
+            io::write_all(STDOUT_FILENO, b"\n");
+        }
+        Replayed::Unread => {
+            io::write_all(STDOUT_FILENO, b"of no known form: ");
+            io::write_all(STDOUT_FILENO, line);
+            io::write_all(STDOUT_FILENO, b"\n");
         }
     }
 }

@@ -3,22 +3,27 @@ mod cases;
 mod count_cases;
 mod hex;
 mod lines;
+mod lists;
+mod numbers;
 mod text_cases;
 mod value_cases;
+mod walk_cases;
 
 use crate::cases::CaseList;
 use crate::cases::Tally;
 use libc::STDOUT_FILENO;
 
 fn main() {
-    let values = lines::replay_file(b"is_valid_value.cases", CaseList::Values);
+    let values = lists::replay_file(b"is_valid_value.cases", CaseList::Values);
     print_tally(b"is_valid_value, plain and strict: ", values);
-    let counts = lines::replay_file(b"parse_count.cases", CaseList::Counts);
+    let counts = lists::replay_file(b"parse_count.cases", CaseList::Counts);
     print_tally(b"parse_count: ", counts);
-    let dictionaries = lines::replay_file(b"read_dictionary.cases", CaseList::DictionaryTexts);
+    let dictionaries = lists::replay_file(b"read_dictionary.cases", CaseList::DictionaryTexts);
     print_tally(b"check_dictionary_text: ", dictionaries);
-    let layouts = lines::replay_file(b"read_layout.cases", CaseList::LayoutTexts);
+    let layouts = lists::replay_file(b"read_layout.cases", CaseList::LayoutTexts);
     print_tally(b"check_layout_text: ", layouts);
+    let walks = walk_cases::replay_file(b"walk_group.cases");
+    print_tally(b"walk_group: ", walks);
 }
 
 // One line: the name of the call, the cases, those that differ and those whose line is of no known form.
