@@ -1,13 +1,12 @@
 -- A dictionary's bodies, found from a place among its lines: what a walk over the lines of a body needs to know. `InOrder` states of a list of
 -- lines what document 01 says of an accepted text: "A body holds `field=TAG,R` lines, then `group=COUNT,DELIMITER,R` .. `end=COUNT`
--- blocks, then `use=N,R` lines", and blocks stand where they may. Assumes nothing.
+-- blocks, then `use=N,R` lines. Header and trailer bodies have no `use`", and blocks stand where they may. Assumes nothing.
 --
 --   openAt lines place        what is left of each body that is open at the place, innermost first
 --   InPlace line opened       the line may stand before lines that leave these bodies open
 --   InOrder lines             each line may stand where it stands
 --   at-field, at-group, at-use, at-end   a line of a body at a place, and what is left of the body behind it
 --   IsOther line              the line is no field, no group and no use
---   component-found, component-not-found   a component's body is the one that begins behind its first line
 use mathlib.Core.Path.{_≡_, refl, sym, ap, _∙_}
 use Prim.Native.Nat.{ℕ, zero, suc, _+_, _≤_, _<_}
 use mathlib.Core.Bool.{Bool}
@@ -16,10 +15,9 @@ use native.Mathlib.Omega.{arith}
 use native.Mathlib.Numerals.{add-one}
 use lib.ListN.{length, getD, drop, drop-of-length-le}
 use lib.Seq.{drop-cons}
-use borrow.Author.Tests.{eq-eqb, ne-eqb}
 use Rattle.texts.specs.declared.line.Line.{Line}
 use Rattle.texts.specs.declared.line.Line.the-variants.{Def, Value, BeginHeader, BeginTrailer, EndHeader, EndTrailer, Component, Message, Field, Group, Use, End, Member, RequiredTag, Unknown}
-use Rattle.expansion.specs.Dictionary.{Body, no-group-defs, group-def, fieldsOf, groupDefsOf, emptyBody, withField, withGroup, withUse, innermost, aroundIt, before, blocksOf, dictionaryOf, bodyCalled, componentOf, Found, NotFound}
+use Rattle.expansion.specs.Dictionary.{Body, no-group-defs, group-def, fieldsOf, groupDefsOf, usesOf, emptyBody, withField, withGroup, withUse, innermost, aroundIt, before, blocksOf}
 
 unfoldable pub openAt : List Line → ℕ → List Body
 openAt lines place = blocksOf (drop place lines) .opened
@@ -27,6 +25,10 @@ openAt lines place = blocksOf (drop place lines) .opened
 -- a body is open, and nothing of these kinds is left of it
 abbrev pub SomeBody : List Body → Type 0
 SomeBody opened = (body : Body) × ((around : List Body) × (opened ≡ body ∷ around))
+
+-- one body is open
+abbrev pub OneBody : List Body → Type 0
+OneBody opened = (body : Body) × (opened ≡ body ∷ [])
 
 abbrev pub WithoutFields : Body → Type 0
 WithoutFields body = fieldsOf body ≡ []
@@ -37,12 +39,12 @@ OnlyUses body = (fieldsOf body ≡ []) × (groupDefsOf body ≡ no-group-defs)
 abbrev pub InPlace : Line → List Body → Type 0
 InPlace (Def tag place) opened = opened ≡ []
 InPlace (Value admitted) opened = opened ≡ []
-InPlace BeginHeader opened = aroundIt opened ≡ []
-InPlace BeginTrailer opened = aroundIt opened ≡ []
+InPlace BeginHeader opened = OneBody opened × (usesOf (innermost opened) ≡ [])
+InPlace BeginTrailer opened = OneBody opened × (usesOf (innermost opened) ≡ [])
 InPlace EndHeader opened = opened ≡ []
 InPlace EndTrailer opened = opened ≡ []
-InPlace (Component name) opened = aroundIt opened ≡ []
-InPlace (Message letters app) opened = aroundIt opened ≡ []
+InPlace (Component name) opened = OneBody opened
+InPlace (Message letters app) opened = OneBody opened
 InPlace (Field tag required) opened = SomeBody opened
 InPlace (Group count delimiter required) opened = SomeBody opened × (SomeBody (aroundIt opened) × WithoutFields (innermost (aroundIt opened)))
 InPlace (Use name required) opened = SomeBody opened × OnlyUses (innermost opened)
@@ -194,17 +196,25 @@ module _ (lines : List Line) (place : ℕ) (inside : place < length lines) (orde
       let never : _≡_ {A = ℕ} 0 1 = cc in
       absurd (omega arith)
 
+  -- .. nor one that opens a block
+  never-opens : (line : Line)
+      → lineAt lines place ≡ line
+      → (before line (blocksOf (drop (place + 1) lines)) .opened ≡ aroundIt (openAt lines (place + 1)))
+      → OneBody (openAt lines (place + 1))
+      → (body ≡ emptyBody) × (openAt lines (place + 1) ≡ around)
+  never-opens line same-line closes one = never-by line same-line (closes ∙ ap aroundIt (one .1))
+
   -- at any other line nothing is left of the body, and behind the line the bodies around it are open
   pub at-end : (line : Line) → lineAt lines place ≡ line → IsOther line → (body ≡ emptyBody) × (openAt lines (place + 1) ≡ around)
   unfolding openAt
   at-end (Def tag at) same other = never-by (Def tag at) same (rw same at (in-place lines place order inside))
   at-end (Value admitted) same other = never-by (Value admitted) same (rw same at (in-place lines place order inside))
-  at-end BeginHeader same other = never-by BeginHeader same (rw same at (in-place lines place order inside))
-  at-end BeginTrailer same other = never-by BeginTrailer same (rw same at (in-place lines place order inside))
+  at-end BeginHeader same other = let stands : InPlace BeginHeader (openAt lines (place + 1)) = rw same at (in-place lines place order inside) in never-opens BeginHeader same refl (stands .0)
+  at-end BeginTrailer same other = let stands : InPlace BeginTrailer (openAt lines (place + 1)) = rw same at (in-place lines place order inside) in never-opens BeginTrailer same refl (stands .0)
   at-end EndHeader same other = end-by EndHeader same refl
   at-end EndTrailer same other = end-by EndTrailer same refl
-  at-end (Component name) same other = never-by (Component name) same (rw same at (in-place lines place order inside))
-  at-end (Message letters app) same other = never-by (Message letters app) same (rw same at (in-place lines place order inside))
+  at-end (Component name) same other = let stands : InPlace (Component name) (openAt lines (place + 1)) = rw same at (in-place lines place order inside) in never-opens (Component name) same refl stands
+  at-end (Message letters app) same other = let stands : InPlace (Message letters app) (openAt lines (place + 1)) = rw same at (in-place lines place order inside) in never-opens (Message letters app) same refl stands
   at-end (Field tag required) same other = absurd other
   at-end (Group count delimiter required) same other = absurd other
   at-end (Use name required) same other = absurd other
@@ -212,51 +222,3 @@ module _ (lines : List Line) (place : ℕ) (inside : place < length lines) (orde
   at-end (Member tag) same other = never-by (Member tag) same (rw same at (in-place lines place order inside))
   at-end (RequiredTag tag) same other = never-by (RequiredTag tag) same (rw same at (in-place lines place order inside))
   at-end Unknown same other = never-by Unknown same (rw same at (in-place lines place order inside))
-
--- ---- the body of a component
-
--- one line more in front: a component of another name, or no component
-called-by : (line : Line) (name : ℕ) (lines : List Line)
-    → (line ≡ Component name → ⊥)
-    → bodyCalled name (before line (blocksOf lines) .whole .components) ≡ bodyCalled name (blocksOf lines .whole .components)
-unfolding bodyCalled
-called-by (Component other) name lines differs = rw (ne-eqb other name (λ same. differs (ap Component same)))
-called-by (Def tag at) name lines differs = refl
-called-by (Value admitted) name lines differs = refl
-called-by BeginHeader name lines differs = refl
-called-by BeginTrailer name lines differs = refl
-called-by EndHeader name lines differs = refl
-called-by EndTrailer name lines differs = refl
-called-by (Message letters app) name lines differs = refl
-called-by (Field tag required) name lines differs = refl
-called-by (Group count delimiter required) name lines differs = refl
-called-by (Use other required) name lines differs = refl
-called-by (End number letters) name lines differs = refl
-called-by (Member tag) name lines differs = refl
-called-by (RequiredTag tag) name lines differs = refl
-called-by Unknown name lines differs = refl
-
--- a component is found where its first line stands
-pub component-found : (lines : List Line) (place name : ℕ)
-    → place < length lines
-    → lineAt lines place ≡ Component name
-    → ((earlier : ℕ) → earlier < place → lineAt lines earlier ≡ Component name → ⊥)
-    → componentOf (dictionaryOf lines) name ≡ Found (innermost (openAt lines (place + 1)))
-unfolding dictionaryOf openAt blocksOf bodyCalled
-component-found [] place name inside line first = absurd (omega arith)
-component-found (this ∷ lines) zero name inside line first = rw (line, eq-eqb name name refl)
-component-found (this ∷ lines) (suc place) name inside line first =
-    let shift : suc (place + 1) ≡ suc place + 1 = omega arith in
-    called-by this name lines (λ same. first 0 (omega arith) same)
-    ∙ component-found lines place name (omega arith) line (λ earlier before-it same. first (suc earlier) (omega arith) same)
-    ∙ ap (λ (behind : ℕ). Found (innermost (blocksOf (drop behind (this ∷ lines)) .opened))) shift
-
--- and not found where it has none
-pub component-not-found : (lines : List Line) (name : ℕ)
-    → ((place : ℕ) → place < length lines → lineAt lines place ≡ Component name → ⊥)
-    → componentOf (dictionaryOf lines) name ≡ NotFound
-unfolding dictionaryOf blocksOf bodyCalled
-component-not-found [] name none = refl
-component-not-found (this ∷ lines) name none =
-    called-by this name lines (λ same. none 0 (omega arith) same)
-    ∙ component-not-found lines name (λ place inside same. none (suc place) (omega arith) same)

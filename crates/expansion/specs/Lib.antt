@@ -2,6 +2,8 @@
 -- stand in the file of its name with `Laws`, its examples in the one with `Cases`.
 pub mod Dictionary
 pub mod DictionaryPlaces
+pub mod AcceptedPlaces
+pub mod DictionaryLookups
 pub mod Expansion
 pub mod ExpansionCases
 pub mod Trace
