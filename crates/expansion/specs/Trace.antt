@@ -5,8 +5,9 @@
 --   2   a group is entered: (count tag × 2 + R) × 4 + 2. The count tag is a member of the level in work, and the entry level is in work now
 --   3   a group is left: delimiter × 4 + 3. Its entry level is finished, and the level around is in work again
 --
--- Assumes nothing.
+-- A tag has 32 bits, so a word is read by them whatever stands above. Assumes nothing.
 --
+--   tagIn word, countTagIn word   the tag of a word, and that of a word of step 2
 --   Frame                     a level in work, with the count tag and R of the group whose entry it is
 --   after frames word         the levels in work, innermost first, after one step
 --   run frames words          .. after the steps of these words
@@ -61,14 +62,20 @@ left delimiter entry (around ∷ outer) =
     around
     ∷ outer
 
+abbrev pub tagIn : ℕ → ℕ
+tagIn word = word / 4 % 4294967296
+
+abbrev pub countTagIn : ℕ → ℕ
+countTagIn word = word / 8 % 4294967296
+
 unfoldable pub after : List Frame → ℕ → List Frame
 after [] word = []
 after (frame ∷ outer) word =
-    if word % 4 ≡ᵇ 0 then withLevel (withMember (word / 4) (frame .level)) frame ∷ outer
-    else if word % 4 ≡ᵇ 1 then withLevel (withRequired (word / 4) (frame .level)) frame ∷ outer
+    if word % 4 ≡ᵇ 0 then withLevel (withMember (tagIn word) (frame .level)) frame ∷ outer
+    else if word % 4 ≡ᵇ 1 then withLevel (withRequired (tagIn word) (frame .level)) frame ∷ outer
     else if word % 4 ≡ᵇ 2
-    then record { countTag = word / 8; needed = word / 4 % 2 ≡ᵇ 1; level = emptyLevel } ∷ withLevel (withMember (word / 8) (frame .level)) frame ∷ outer
-    else left (word / 4) frame outer
+    then record { countTag = countTagIn word; needed = word / 4 % 2 ≡ᵇ 1; level = emptyLevel } ∷ withLevel (withMember (countTagIn word) (frame .level)) frame ∷ outer
+    else left (tagIn word) frame outer
 
 unfoldable pub run : List Frame → List ℕ → List Frame
 run frames [] = frames
@@ -124,7 +131,7 @@ Grows builder (Refused refusal) = Unit
 
 pub record Entering (count : ℕ) (required : Bool) (word : ℕ) : Type 0 where
   pub step : word % 4 ≡ 2
-  pub tag : word / 8 ≡ count
+  pub tag : countTagIn word ≡ count
   pub flag : (word / 4 % 2 ≡ᵇ 1) ≡ required
 
 -- the entry level of a group that is entered, seen from the level around

@@ -25,19 +25,21 @@ unfolding run
 run-last frames [] word = refl
 run-last frames (first ∷ words) word = run-last (after frames first) words word
 
-after-member : (tag : ℕ) (frame : Frame) (outer : List Frame) → after (frame ∷ outer) (tag * 4) ≡ withLevel (withMember tag (frame .level)) frame ∷ outer
+after-member : (tag : ℕ) (frame : Frame) (outer : List Frame) → tag < 4294967296 → after (frame ∷ outer) (tag * 4) ≡ withLevel (withMember tag (frame .level)) frame ∷ outer
 unfolding after
-after-member tag frame outer =
+after-member tag frame outer narrow =
     let rest : tag * 4 % 4 ≡ 0 = omega arith in
     let whole : tag * 4 / 4 ≡ tag = omega arith in
-    rw (eq-eqb (tag * 4 % 4) 0 rest, whole)
+    let same : tag % 4294967296 ≡ tag = omega (arith, narrow) in
+    rw (eq-eqb (tag * 4 % 4) 0 rest, whole, same)
 
-after-required : (tag : ℕ) (frame : Frame) (outer : List Frame) → after (frame ∷ outer) (tag * 4 + 1) ≡ withLevel (withRequired tag (frame .level)) frame ∷ outer
+after-required : (tag : ℕ) (frame : Frame) (outer : List Frame) → tag < 4294967296 → after (frame ∷ outer) (tag * 4 + 1) ≡ withLevel (withRequired tag (frame .level)) frame ∷ outer
 unfolding after
-after-required tag frame outer =
+after-required tag frame outer narrow =
     let rest : (tag * 4 + 1) % 4 ≡ 1 = omega arith in
     let whole : (tag * 4 + 1) / 4 ≡ tag = omega arith in
-    rw (rest, whole)
+    let same : tag % 4294967296 ≡ tag = omega (arith, narrow) in
+    rw (rest, whole, same)
 
 -- ---- a word more
 
@@ -99,7 +101,7 @@ grown-then builder next last first second = record { fits = second .fits; slack 
 
 -- ---- add_member, add_required
 
-module _ (builder : Code.Builder) (trace : List ℕ) (tag : ℕ) (size : 14336 ≤ length trace) (fits : Fits builder) where
+module _ (builder : Code.Builder) (trace : List ℕ) (tag : ℕ) (narrow : tag < 4294967296) (size : 14336 ≤ length trace) (fits : Fits builder) where
   abbrev pub memberMore : Code.Builder
   memberMore = record { nodes = builder .nodes; members = builder .members + 1; required = builder .required; len = builder .len + 1 }
 
@@ -111,7 +113,7 @@ module _ (builder : Code.Builder) (trace : List ℕ) (tag : ℕ) (size : 14336 �
   adds-member room frame outer stands =
       let within : builder .len < length trace = omega (arith, fits .nodes, fits .required, fits .len) in
       rw (lt-ltb (builder .members) 8192 room) (
-        one-more (builder .len) trace (tag * 4) frame outer within stands ∙ after-member tag frame outer,
+        one-more (builder .len) trace (tag * 4) frame outer within stands ∙ after-member tag frame outer narrow,
         rw add-one refl,
       )
 
@@ -130,7 +132,7 @@ module _ (builder : Code.Builder) (trace : List ℕ) (tag : ℕ) (size : 14336 �
   adds-required room frame outer stands =
       let within : builder .len < length trace = omega (arith, fits .nodes, fits .members, fits .len) in
       rw (lt-ltb (builder .required) 2048 room) (
-        one-more (builder .len) trace (tag * 4 + 1) frame outer within stands ∙ after-required tag frame outer,
+        one-more (builder .len) trace (tag * 4 + 1) frame outer within stands ∙ after-required tag frame outer narrow,
         rw add-one refl,
       )
 
@@ -214,13 +216,13 @@ module _ (builder : Code.Builder) (name : ℕ) where
 
 -- ---- enter_group
 
-pub entering-required : (count : ℕ) → Entering count true (count * 8 + 6)
-entering-required count =
+pub entering-required : (count : ℕ) → count < 4294967296 → Entering count true (count * 8 + 6)
+entering-required count narrow =
     let bit : (count * 8 + 6) / 4 % 2 ≡ 1 = omega arith in
     record { step = omega arith; tag = omega arith; flag = eq-eqb ((count * 8 + 6) / 4 % 2) 1 bit }
 
-pub entering-optional : (count : ℕ) → Entering count false (count * 8 + 2)
-entering-optional count =
+pub entering-optional : (count : ℕ) → count < 4294967296 → Entering count false (count * 8 + 2)
+entering-optional count narrow =
     let bit : (count * 8 + 2) / 4 % 2 ≡ 0 = omega arith in
     record { step = omega arith; tag = omega arith; flag = ne-eqb ((count * 8 + 2) / 4 % 2) 1 (λ one. omega arith) }
 
@@ -231,14 +233,15 @@ after-entering : (count : ℕ) (required : Bool) (word : ℕ) (frame : Frame) (o
 unfolding after
 after-entering count required word frame outer entering = rw (entering .step, entering .tag, entering .flag)
 
-after-leaving : (delimiter : ℕ) (entry : Frame) (outer : List Frame) → after (entry ∷ outer) (delimiter * 4 + 3) ≡ left delimiter entry outer
+after-leaving : (delimiter : ℕ) (entry : Frame) (outer : List Frame) → delimiter < 4294967296 → after (entry ∷ outer) (delimiter * 4 + 3) ≡ left delimiter entry outer
 unfolding after
-after-leaving delimiter entry outer =
+after-leaving delimiter entry outer narrow =
     let rest : (delimiter * 4 + 3) % 4 ≡ 3 = omega arith in
     let whole : (delimiter * 4 + 3) / 4 ≡ delimiter = omega arith in
-    rw (rest, whole)
+    let same : delimiter % 4294967296 ≡ delimiter = omega (arith, narrow) in
+    rw (rest, whole, same)
 
-module _ (builder : Code.Builder) (trace : List ℕ) (count : ℕ) (required : Bool) (delimiter word : ℕ) (size : 14336 ≤ length trace) (fits : Fits builder) where
+module _ (builder : Code.Builder) (trace : List ℕ) (count : ℕ) (required : Bool) (delimiter word : ℕ) (narrow : delimiter < 4294967296) (size : 14336 ≤ length trace) (fits : Fits builder) where
   abbrev pub groupMore : Code.Builder
   groupMore = record { nodes = builder .nodes; members = builder .members + 2; required = builder .required; len = builder .len + 2 }
 
@@ -257,7 +260,7 @@ module _ (builder : Code.Builder) (trace : List ℕ) (count : ℕ) (required : B
       (withLevel (withMember count (frame .level)) frame ∷ outer)
       also
       one
-      ∙ after-member delimiter (record { countTag = count; needed = required; level = emptyLevel }) (withLevel (withMember count (frame .level)) frame ∷ outer) in
+      ∙ after-member delimiter (record { countTag = count; needed = required; level = emptyLevel }) (withLevel (withMember count (frame .level)) frame ∷ outer) narrow in
       let len : builder .len + 2 ≡ builder .len + 1 + 1 = omega arith in
       let more : builder .members + 2 ≡ suc (suc (builder .members)) = omega arith in
       let second : suc (builder .members) < 8192 = omega arith in
@@ -278,7 +281,7 @@ module _ (builder : Code.Builder) (trace : List ℕ) (count : ℕ) (required : B
 
 -- ---- leave_group
 
-module _ (builder : Code.Builder) (trace : List ℕ) (delimiter : ℕ) (size : 14336 ≤ length trace) (fits : Fits builder) (room : builder .len < builder .members + builder .required + builder .nodes) where
+module _ (builder : Code.Builder) (trace : List ℕ) (delimiter : ℕ) (narrow : delimiter < 4294967296) (size : 14336 ≤ length trace) (fits : Fits builder) (room : builder .len < builder .members + builder .required + builder .nodes) where
   abbrev pub wordMore : Code.Builder
   wordMore = record { nodes = builder .nodes; members = builder .members; required = builder .required; len = builder .len + 1 }
 
@@ -286,7 +289,7 @@ module _ (builder : Code.Builder) (trace : List ℕ) (delimiter : ℕ) (size : 1
   unfolding Leaves
   leaves = λ entry around outer stands.
       let within : builder .len < length trace = omega (arith, fits .nodes, fits .members, fits .required) in (
-        one-more (builder .len) trace (delimiter * 4 + 3) entry (around ∷ outer) within stands ∙ after-leaving delimiter entry (around ∷ outer),
+        one-more (builder .len) trace (delimiter * 4 + 3) entry (around ∷ outer) within stands ∙ after-leaving delimiter entry (around ∷ outer) narrow,
         refl,
       )
 

@@ -30,13 +30,13 @@ same-length c = search needs
 
 returns : tie.Need-returns
 returns c = (
-  adds-member _ _ _ (c .before .before .before .pre .1) (c .before .before .before .pre .0) (c .before .if1 .taken),
-  grown-grows _ _ (member-grows _ (c .before .before .before .args .trace .now) (c .before .before .before .args .tag) (c .before .before .before .pre .1) (c .before .before .before .pre .0) (c .before .if1 .taken)),
+  adds-member _ _ _ (c .before .before .before .fits .tag .fits) (c .before .before .before .pre .1) (c .before .before .before .pre .0) (c .before .if1 .taken),
+  grown-grows _ _ (member-grows _ (c .before .before .before .args .trace .now) (c .before .before .before .args .tag) (c .before .before .before .fits .tag .fits) (c .before .before .before .pre .1) (c .before .before .before .pre .0) (c .before .if1 .taken)),
 )
 
 -- pub fn add_member(trace: &mut [u64], builder: Builder, tag: u32) -> Added
 returns-2 : tie.Need-returns-2
-returns-2 c = (adds-member-over _ _ _ (c .before .before .pre .1) (c .before .before .pre .0) (omega (arith, c .if1 .left)), refused-grows _ _)
+returns-2 c = (adds-member-over _ _ _ (c .before .before .fits .tag .fits) (c .before .before .pre .1) (c .before .before .pre .0) (omega (arith, c .if1 .left)), refused-grows _ _)
 
 pub add-member-spec : {M : Type 1} → statement M
 add-member-spec =

@@ -33,13 +33,13 @@ same-length c = search needs
 
 returns : tie.Need-returns
 returns c = (
-  adds-required _ _ _ (c .before .before .before .pre .1) (c .before .before .before .pre .0) (c .before .if1 .taken),
-  grown-grows _ _ (required-grows _ (c .before .before .before .args .trace .now) (c .before .before .before .args .tag) (c .before .before .before .pre .1) (c .before .before .before .pre .0) (c .before .if1 .taken)),
+  adds-required _ _ _ (c .before .before .before .fits .tag .fits) (c .before .before .before .pre .1) (c .before .before .before .pre .0) (c .before .if1 .taken),
+  grown-grows _ _ (required-grows _ (c .before .before .before .args .trace .now) (c .before .before .before .args .tag) (c .before .before .before .fits .tag .fits) (c .before .before .before .pre .1) (c .before .before .before .pre .0) (c .before .if1 .taken)),
 )
 
 -- pub fn add_required(trace: &mut [u64], builder: Builder, tag: u32) -> Added
 returns-2 : tie.Need-returns-2
-returns-2 c = (adds-required-over _ _ _ (c .before .before .pre .1) (c .before .before .pre .0) (omega (arith, c .if1 .left)), refused-grows _ _)
+returns-2 c = (adds-required-over _ _ _ (c .before .before .fits .tag .fits) (c .before .before .pre .1) (c .before .before .pre .0) (omega (arith, c .if1 .left)), refused-grows _ _)
 
 pub add-required-spec : {M : Type 1} → statement M
 add-required-spec =

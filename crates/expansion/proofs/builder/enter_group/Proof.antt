@@ -49,13 +49,13 @@ same-length c = search needs
 
 returns : tie.Need-returns
 returns c = (
-  enters _ _ _ _ _ _ (c .before .before .before .before .before .pre .1) (c .before .before .before .before .before .pre .0) (c .before .before .before .entering .ensures) (c .before .if1 .taken),
-  grown-grows _ _ (enter-grows _ (c .before .before .before .before .before .args .trace .now) (c .before .before .before .before .before .args .count) (c .before .before .before .before .before .args .required) (c .before .before .before .before .before .args .delimiter) (c .before .before .before .entering .result) (c .before .before .before .before .before .pre .1) (c .before .before .before .before .before .pre .0) (c .before .if1 .taken)),
+  enters _ _ _ _ _ _ (c .before .before .before .before .before .fits .delimiter .fits) (c .before .before .before .before .before .pre .1) (c .before .before .before .before .before .pre .0) (c .before .before .before .entering .ensures) (c .before .if1 .taken),
+  grown-grows _ _ (enter-grows _ (c .before .before .before .before .before .args .trace .now) (c .before .before .before .before .before .args .count) (c .before .before .before .before .before .args .required) (c .before .before .before .before .before .args .delimiter) (c .before .before .before .entering .result) (c .before .before .before .before .before .fits .delimiter .fits) (c .before .before .before .before .before .pre .1) (c .before .before .before .before .before .pre .0) (c .before .if1 .taken)),
 )
 
--- pub fn enter_group(trace: &mut [u64], builder: Builder, count: u32, required: bool, delimiter: u32) -> Added
+-- pub fn enter_group(
 returns-2 : tie.Need-returns-2
-returns-2 c = (enters-over _ _ _ _ _ (c .before .before .entering .result) (c .before .before .before .before .pre .1) (c .before .before .before .before .pre .0) (omega (arith, c .if1 .left)), refused-grows _ _)
+returns-2 c = (enters-over _ _ _ _ _ (c .before .before .entering .result) (c .before .before .before .before .fits .delimiter .fits) (c .before .before .before .before .pre .1) (c .before .before .before .before .pre .0) (omega (arith, c .if1 .left)), refused-grows _ _)
 
 pub enter-group-spec : {M : Type 1} → statement M
 enter-group-spec =

@@ -13,7 +13,7 @@ add-result : tie.Need-add-result
 add-result c = search needs
 
 returns : tie.Need-returns
-returns c = rw (c .if1 .taken) (entering-required (c .before .args .count))
+returns c = rw (c .if1 .taken) (entering-required (c .before .args .count) (c .before .fits .count .fits))
 
 -- count as u64 * 8 + 2
 mul-result-2 : tie.Need-mul-result-2
@@ -24,7 +24,7 @@ add-result-2 c = search needs
 
 -- fn entering(count: u32, required: bool) -> u64
 returns-2 : tie.Need-returns-2
-returns-2 c = rw (c .if1 .left) (entering-optional (c .before .args .count))
+returns-2 c = rw (c .if1 .left) (entering-optional (c .before .args .count) (c .before .fits .count .fits))
 
 pub entering-spec : {M : Type 1} → statement M
 entering-spec =

@@ -27,7 +27,7 @@ same-length : tie.Need-same-length
 same-length c = search needs
 
 returns : tie.Need-returns
-returns c = (leaves _ _ _ (c .pre .2) (c .pre .0) (c .pre .1), leave-fits _ (c .args .trace .now) (c .args .delimiter) (c .pre .2) (c .pre .0) (c .pre .1))
+returns c = (leaves _ _ _ (c .fits .delimiter .fits) (c .pre .2) (c .pre .0) (c .pre .1), leave-fits _ (c .args .trace .now) (c .args .delimiter) (c .fits .delimiter .fits) (c .pre .2) (c .pre .0) (c .pre .1))
 
 pub leave-group-spec : {M : Type 1} → statement M
 leave-group-spec =
