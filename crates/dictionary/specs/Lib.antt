@@ -19,3 +19,5 @@ pub mod DefinitionsLaws
 pub mod IndexLaws
 pub mod PassAccepted
 pub mod AcceptedPass
+pub mod DefinedTags
+pub mod DefinedTagsLaws

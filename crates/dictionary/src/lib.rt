@@ -1,4 +1,5 @@
 // The words of a dictionary: a record for each line of its text, and the index of what it defines.
+pub mod defined_tags;
 pub mod definitions;
 pub mod dictionary_check;
 pub mod line_texts;
