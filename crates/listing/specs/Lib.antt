@@ -3,3 +3,7 @@
 pub mod MessageText
 pub mod MessageTextLaws
 pub mod MessageTextCases
+pub mod MessageType
+pub mod MessageTypeLaws
+pub mod MessageTypeCases
+pub mod MessageTable
