@@ -6,7 +6,9 @@
 --   typeNumbered number    the type of that number, where there is one
 --   spellingOf type        the type's name, as a dictionary text spells it
 --   formatOf type          the form that its values have; several types share one
+--   isMultiValue type      "this type carries a space-separated list of values" (schema.rs, `is_multi_value`)
 use Prim.Native.Nat.{ℕ}
+use mathlib.Core.Bool.{Bool, true, false}
 use mathlib.Core.List.{List, [], _∷_}
 use lib.ListN.{getD}
 use Rattle.formats.specs.declared.field_type.FieldType.{FieldType}
@@ -167,3 +169,39 @@ formatOf Language = Anything
 formatOf Pattern = Anything
 formatOf Tenor = Anything
 formatOf Reserved = Anything
+
+abbrev pub isMultiValue : FieldType → Bool
+isMultiValue Int = false
+isMultiValue Length = false
+isMultiValue SeqNum = false
+isMultiValue NumInGroup = false
+isMultiValue TagNum = false
+isMultiValue DayOfMonth = false
+isMultiValue Float = false
+isMultiValue Qty = false
+isMultiValue Price = false
+isMultiValue PriceOffset = false
+isMultiValue Amt = false
+isMultiValue Percentage = false
+isMultiValue Char = false
+isMultiValue Boolean = false
+isMultiValue String = false
+isMultiValue MultipleCharValue = true
+isMultiValue MultipleStringValue = true
+isMultiValue Country = false
+isMultiValue Currency = false
+isMultiValue Exchange = false
+isMultiValue MonthYear = false
+isMultiValue UtcTimestamp = false
+isMultiValue UtcTimeOnly = false
+isMultiValue UtcDateOnly = false
+isMultiValue LocalMktDate = false
+isMultiValue LocalMktTime = false
+isMultiValue TzTimeOnly = false
+isMultiValue TzTimestamp = false
+isMultiValue Data = false
+isMultiValue XmlData = false
+isMultiValue Language = false
+isMultiValue Pattern = false
+isMultiValue Tenor = false
+isMultiValue Reserved = false

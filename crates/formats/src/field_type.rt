@@ -1,7 +1,7 @@
 // The data types of FIX fields. Ported from schema.rs, `FieldType`.
 use crate::multi_value::TokenLen;
 ghost use mathlib.Core.Path.{_≡_};
-ghost use Rattle.formats.specs.FieldType.{formatOf, typeNumbered};
+ghost use Rattle.formats.specs.FieldType.{formatOf, isMultiValue, typeNumbered};
 
 // FIX field data type.
 pub enum FieldType {
@@ -175,6 +175,48 @@ impl FieldType {
             FieldType::Pattern => Format::Anything,
             FieldType::Tenor => Format::Anything,
             FieldType::Reserved => Format::Anything,
+        }
+    }
+
+    // Returns true if this type carries a space-separated list of values.
+    pub fn is_multi_value(self) -> bool
+        ensures { λ answer. ⌜ answer ≡ isMultiValue self ⌝ }
+    {
+        match self {
+            FieldType::Int => false,
+            FieldType::Length => false,
+            FieldType::SeqNum => false,
+            FieldType::NumInGroup => false,
+            FieldType::TagNum => false,
+            FieldType::DayOfMonth => false,
+            FieldType::Float => false,
+            FieldType::Qty => false,
+            FieldType::Price => false,
+            FieldType::PriceOffset => false,
+            FieldType::Amt => false,
+            FieldType::Percentage => false,
+            FieldType::Char => false,
+            FieldType::Boolean => false,
+            FieldType::String => false,
+            FieldType::MultipleCharValue => true,
+            FieldType::MultipleStringValue => true,
+            FieldType::Country => false,
+            FieldType::Currency => false,
+            FieldType::Exchange => false,
+            FieldType::MonthYear => false,
+            FieldType::UtcTimestamp => false,
+            FieldType::UtcTimeOnly => false,
+            FieldType::UtcDateOnly => false,
+            FieldType::LocalMktDate => false,
+            FieldType::LocalMktTime => false,
+            FieldType::TzTimeOnly => false,
+            FieldType::TzTimestamp => false,
+            FieldType::Data => false,
+            FieldType::XmlData => false,
+            FieldType::Language => false,
+            FieldType::Pattern => false,
+            FieldType::Tenor => false,
+            FieldType::Reserved => false,
         }
     }
 }
