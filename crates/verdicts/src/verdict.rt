@@ -1,0 +1,98 @@
+// The verdict on a value. Ported from validator.rs, `check_value`; strict mode is document 01's.
+use ascii::split::find;
+use dictionary::definitions::Definition;
+use dictionary::definitions::admits;
+use dictionary::definitions::definition_of;
+use formats::field_type::FieldType;
+use formats::field_type::NumberedType;
+use formats::field_type::type_numbered;
+use formats::field_value::is_strict_value;
+use formats::field_value::is_valid_value;
+ghost use mathlib.Core.Path.{_≡_};
+ghost use mathlib.Core.Bool.{true};
+ghost use Prim.Native.Nat.{_<_};
+ghost use lib.ListN.{getD};
+ghost use Rattle.dictionary.specs.DictionaryCheck.{isDictionary};
+ghost use Rattle.verdicts.specs.Verdict.{verdictWord, hasFormat, admitsEach, isAdmitted, checkValue};
+
+// What is said of a value. The Rust pushes an error for each but the first.
+pub enum Verdict {
+    Good,
+    // the Rust's UnknownTag
+    Undefined,
+    // the Rust's InvalidFieldFormat
+    WrongFormat,
+    // the Rust's InvalidEnumValue
+    NotAdmitted,
+}
+
+// The word that stands for the verdict.
+pub fn verdict_word(verdict: Verdict) -> u64
+    ensures outcome { λ word. ⌜ word ≡ verdictWord verdict ⌝ }
+{
+    match verdict {
+        Verdict::Good => 0,
+        Verdict::Undefined => 1,
+        Verdict::WrongFormat => 2,
+        Verdict::NotAdmitted => 3,
+    }
+}
+
+// Returns true if `value` has the form of its type, and in strict mode its ranges.
+fn has_format(field_type: FieldType, value: &[u8], strict: bool) -> bool
+    ensures { λ answer. ⌜ answer ≡ hasFormat strict «field_type» (now (value .entry)) ⌝ }
+{
+    if strict {
+        return is_strict_value(field_type, value);
+    }
+    is_valid_value(field_type, value)
+}
+
+// Returns true if the definition with this record admits every token of a space-separated list.
+fn admits_each(dictionary: &[u32], number: usize, value: &[u8]) -> bool
+    requires { ⌜ (isDictionary (now dictionary) ≡ true) × (number < getD (now dictionary) 0 0) ⌝ }
+    ensures { λ answer. ⌜ answer ≡ admitsEach (now (dictionary .entry)) number (now (value .entry)) ⌝ }
+{
+    let mut first: usize = 0;
+    loop {
+        let past = find(value, first, b' ');
+        if past == value.len() {
+            return admits(dictionary, number, &value[first..]);
+        }
+        if !admits(dictionary, number, &value[first..past]) {
+            return false;
+        }
+        first = past + 1;
+    }
+}
+
+// Returns true if the definition with this record, of this type, admits the value: a multi-value type every token of it.
+fn is_admitted(dictionary: &[u32], number: usize, field_type: FieldType, value: &[u8]) -> bool
+    requires { ⌜ (isDictionary (now dictionary) ≡ true) × (number < getD (now dictionary) 0 0) ⌝ }
+    ensures { λ answer. ⌜ answer ≡ isAdmitted (now (dictionary .entry)) number «field_type» (now (value .entry)) ⌝ }
+{
+    if field_type.is_multi_value() {
+        return admits_each(dictionary, number, value);
+    }
+    admits(dictionary, number, value)
+}
+
+// Checks that a field is defined, well-formed for its type, and — when enumerated — carries a defined value.
+pub fn check_value(dictionary: &[u32], tag: u32, value: &[u8], strict: bool) -> Verdict
+    requires { ⌜ isDictionary (now dictionary) ≡ true ⌝ }
+    ensures { λ verdict. ⌜ verdict ≡ checkValue (now (dictionary .entry)) strict tag (now (value .entry)) ⌝ }
+{
+    let Definition::Defined(type_number, number) = definition_of(dictionary, tag) else {
+        return Verdict::Undefined;
+    };
+    let NumberedType::Numbered(field_type) = type_numbered(type_number as usize) else {
+        return Verdict::Undefined;
+    };
+    if !has_format(field_type, value, strict) {
+        return Verdict::WrongFormat;
+    }
+    if !is_admitted(dictionary, number, field_type, value) {
+        return Verdict::NotAdmitted;
+    }
+    Verdict::Good
+}
