@@ -40,6 +40,7 @@ record read_dictionary.cases dictionary-texts
 record read_layout.cases layout-texts
 record walk_group.cases walks walk
 record expand.cases expansions expand
+record check_values.cases verdict-words '\(plain\|strict\)'
 
 # list DICT MSG: what `gatelist` prints, beside the message.
 list() {

@@ -6,8 +6,8 @@ use crate::case_text::CaseText;
 use crate::layouts::HandMade;
 use crate::walks::Top;
 use crate::{
-    arrangement, cases, expansion, expansion_cases, hex, layouts, reader, text_cases, texts,
-    values, walk_cases, walks,
+    arrangement, cases, dictionary_words, expansion, expansion_cases, hex, layouts, reader,
+    text_cases, texts, values, verdict_cases, verdicts, walk_cases, walks,
 };
 use ironfix_core::field::FieldRef;
 use std::str::FromStr;
@@ -27,11 +27,13 @@ pub enum Kind {
     Walks,
     /// `ScopeBuilder::expand`.
     Expansions,
+    /// `check_value`, plain and strict.
+    Verdicts,
 }
 
 impl Kind {
     /// Each kind, with its name and the file of its list.
-    pub const ALL: [(Self, &'static str, &'static str); 6] = [
+    pub const ALL: [(Self, &'static str, &'static str); 7] = [
         (Self::Values, "values", "is_valid_value.cases"),
         (Self::Counts, "counts", "parse_count.cases"),
         (
@@ -42,6 +44,7 @@ impl Kind {
         (Self::LayoutTexts, "layout-texts", "read_layout.cases"),
         (Self::Walks, "walks", "walk_group.cases"),
         (Self::Expansions, "expansions", "expand.cases"),
+        (Self::Verdicts, "verdict-words", "check_values.cases"),
     ];
 
     pub fn named(name: &str) -> Option<Self> {
@@ -58,6 +61,7 @@ impl Kind {
             Self::LayoutTexts => text_lines(&text_cases::layout_cases()),
             Self::Walks => walk_cases::walk_cases(),
             Self::Expansions => expansion_cases::expansion_cases(),
+            Self::Verdicts => verdict_cases::verdict_cases(),
         }
     }
 
@@ -74,6 +78,7 @@ impl Kind {
             Self::LayoutTexts => text_answers(cases, layout_answer),
             Self::Walks => walk_answers(cases),
             Self::Expansions => expansion_answers(cases),
+            Self::Verdicts => verdict_answers(cases),
         }
     }
 }
@@ -240,6 +245,34 @@ fn expansion_answers(lines: &str) -> Result<String, String> {
                     Err(refusal) => refusal.recorded(),
                 };
                 answers.push_str(&format!(" {answer}"));
+            }
+            _ if line.starts_with('#') => {}
+            _ => return Err(format!("`{line:.60}` is of no known form")),
+        }
+        answers.push('\n');
+    }
+    Ok(answers)
+}
+
+/// A `plain` or `strict` line gives itself and a word for each field. It is
+/// asked of the `dictionary`, `message` and `fields` above it.
+fn verdict_answers(lines: &str) -> Result<String, String> {
+    let mut answers = String::new();
+    let mut dict = None;
+    let mut message = Vec::new();
+    let mut table = Table::default();
+    for line in lines.lines() {
+        let (key, rest) = line.split_once(' ').unwrap_or((line, ""));
+        answers.push_str(line);
+        match key {
+            "dictionary" => dict = Some(dictionary_words::definitions(&numbers(rest)?)?),
+            "message" => message = hex::decode(rest)?,
+            "fields" => table = Table::new(&numbers(rest)?, &message)?,
+            "plain" | "strict" => {
+                let dict = dict.as_ref().ok_or("no dictionary")?;
+                for verdict in verdicts::verdicts(&table.fields(), dict, key == "strict") {
+                    answers.push_str(&format!(" {verdict}"));
+                }
             }
             _ if line.starts_with('#') => {}
             _ => return Err(format!("`{line:.60}` is of no known form")),

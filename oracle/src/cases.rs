@@ -174,7 +174,7 @@ fn words_up_to(length: usize, letters: &[&[u8]]) -> Vec<Vec<u8>> {
 /// Float, Percentage, Boolean, String, the lists, MonthYear, the UTC and Tz
 /// types and Tenor. For the others, ordinary values. The descriptions do not
 /// lie in docs/, so the examples stand here as they are remembered.
-fn examples(field_type: FieldType) -> &'static [&'static str] {
+pub fn examples(field_type: FieldType) -> &'static [&'static str] {
     match field_type {
         FieldType::Int => &["723", "-723", "99999", "-99999", "00023", "23"],
         FieldType::Length => &["30", "5"],

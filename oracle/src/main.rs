@@ -58,7 +58,7 @@ const MOST_FIELDS: usize = 4_096;
 const USAGE: &str = "usage: oracle COMMAND
   cases KIND | KIND             the cases of a recorded list; the answers to
                                 the cases on standard input. KIND is one of
-    values counts dictionary-texts layout-texts walks expansions
+    values counts dictionary-texts layout-texts walks expansions verdict-words
   dictionary-text FILE          `accepted LINES` or `refused N P`
   layout-text FILE              the same for a layout text
   layout DICT TYPE
