@@ -102,7 +102,7 @@ end-by true ends read outcome one two same = refused-never one outcome same
 end-by false true read outcome one two same = refl
 end-by false false read outcome one two same = refused-never two outcome same
 
-fault-by : (fault : Fault) (goesOn : TextOutcome) (outcome : Counts) → onFault fault goesOn ≡ Accepted outcome → (isTaken fault ≡ true) × (goesOn ≡ Accepted outcome)
+pub fault-by : (fault : Fault) (goesOn : TextOutcome) (outcome : Counts) → onFault fault goesOn ≡ Accepted outcome → (isTaken fault ≡ true) × (goesOn ≡ Accepted outcome)
 fault-by NoFault goesOn outcome same = (refl, same)
 fault-by (Faulty refusal) goesOn outcome same = refused-never refusal outcome same
 
@@ -130,7 +130,7 @@ order-accepts state read number total (piece bytes others) outcome same order fe
 
 -- ---- their records are read as these lines
 
-linesFrom-records : (lines : List Line) (more : List ℕ) → AllHeld lines → linesFrom (length lines) (recordsOf lines ++ more) ≡ lines
+pub linesFrom-records : (lines : List Line) (more : List ℕ) → AllHeld lines → linesFrom (length lines) (recordsOf lines ++ more) ≡ lines
 unfolding linesFrom recordsOf
 linesFrom-records [] more held = refl
 linesFrom-records (line ∷ rest) more held =
@@ -231,13 +231,13 @@ module _ (lines : List Line) (held : AllHeld lines) (keys : (key : ℕ) → howO
   components-by name true test = rw (← component-keys name lines held (ltb-true name 4294967296 test)) (keys (4294967296 + name))
   components-by name false test = omega (arith, components-large name lines held (ltb-false name 4294967296 test))
 
-  tags-once : (name : ℕ) → howOften name (namesOf 1 lines) ≤ 1
+  pub tags-once : (name : ℕ) → howOften name (namesOf 1 lines) ≤ 1
   tags-once name = tags-by name (ltb name 4294967296) refl
 
-  components-once : (name : ℕ) → howOften name (namesOf 5 lines) ≤ 1
+  pub components-once : (name : ℕ) → howOften name (namesOf 5 lines) ≤ 1
   components-once name = components-by name (ltb name 4294967296) refl
 
-  messages-once : (name : ℕ) → howOften name (namesOf 6 lines) ≤ 1
+  pub messages-once : (name : ℕ) → howOften name (namesOf 6 lines) ≤ 1
   messages-once name = rw (← message-keys name lines held) (keys (8589934592 + name))
 
 -- ---- the index of a kind passes
@@ -256,7 +256,7 @@ strictly-from word (next ∷ more) ascends few = (
   strictly-from next more (ascends .1) (λ each. omega (arith, few each)),
 )
 
-strictly-once : (words : List ℕ) → Ascending words → ((each : ℕ) → howOften each words ≤ 1) → StrictlyAscending words
+pub strictly-once : (words : List ℕ) → Ascending words → ((each : ℕ) → howOften each words ≤ 1) → StrictlyAscending words
 strictly-once [] ascends few = tt
 strictly-once (word ∷ rest) ascends few = strictly-from word rest (ascends .1) few
 
@@ -308,12 +308,12 @@ module _ (kind name : ℕ) (line : Line) (rest : List Line) where
       later-stands (placeOf kind name rest) (deeper (omega arith))
   place-by false same is named deeper some = later-stands (placeOf kind name rest) (deeper some)
 
-place-stands : (kind name : ℕ) (lines : List Line) → 1 ≤ howOften name (namesOf kind lines) → Stands kind name (placeOf kind name lines) lines
+pub place-stands : (kind name : ℕ) (lines : List Line) → 1 ≤ howOften name (namesOf kind lines) → Stands kind name (placeOf kind name lines) lines
 unfolding namesOf placeOf
 place-stands kind name [] some = absurd (unfold howOften in omega arith)
 place-stands kind name (line ∷ rest) some = place-by kind name line rest (isOf kind line) (eqb (nameOf line) name) refl refl (place-stands kind name rest) some
 
-recordsOf-length : (lines : List Line) → length (recordsOf lines) ≡ 10 * length lines
+pub recordsOf-length : (lines : List Line) → length (recordsOf lines) ≡ 10 * length lines
 unfolding recordsOf
 recordsOf-length [] = refl
 recordsOf-length (line ∷ rest) = omega (arith, length-append (recordOf line) (recordsOf rest), recordOf-length line, recordsOf-length rest)
@@ -412,7 +412,7 @@ accepted-parts text outcome accepted =
     let parts = text-by (ltb 65536 (length text)) (againOf text) (orderOf text) outcome accepted in
     (ltb-false 65536 (length text) (parts .0), parts .1)
 
-indexOf-length : (kind : ℕ) (lines : List Line) → length (indexOf kind lines) ≡ 2 * length (namesOf kind lines)
+pub indexOf-length : (kind : ℕ) (lines : List Line) → length (indexOf kind lines) ≡ 2 * length (namesOf kind lines)
 unfolding indexOf
 indexOf-length kind lines =
     let names = sorted (namesOf kind lines) in
@@ -502,13 +502,13 @@ module _ (lines : List Line) (more : List ℕ) (held : AllHeld lines) (accepted 
       (and-both (isIndex 5 (componentsAt allWords) (length (namesOf 5 lines)) allWords) _ components-pass messages-pass))))
 
 module _ (text : List ℕ) (outcome : Counts) (accepted : dictionaryTextOf text ≡ Accepted outcome) where
-  text-lines : AllHeld (linesIn (linesOf text)) × (accepts start 1 0 (linesIn (linesOf text)) ≡ true)
+  pub text-lines : AllHeld (linesIn (linesOf text)) × (accepts start 1 0 (linesIn (linesOf text)) ≡ true)
   unfolding orderOf
   text-lines =
       let parts = accepted-parts text outcome accepted in
       order-accepts start (counts 0 0 0 0) 1 0 (linesOf text) outcome refl (parts .1 .1) (omega (arith, parts .0, cut-bytes lineFeed text))
 
-  text-keys : (key : ℕ) → howOften key (keysOf (linesIn (linesOf text))) ≤ 1
+  pub text-keys : (key : ℕ) → howOften key (keysOf (linesIn (linesOf text))) ≤ 1
   unfolding againOf howOften
   text-keys key =
       omega (arith, nowhere-once [] 1 (linesOf text) (accepted-parts text outcome accepted .1 .0) (λ each. omega arith) key)

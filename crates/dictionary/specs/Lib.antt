@@ -21,3 +21,7 @@ pub mod PassAccepted
 pub mod AcceptedPass
 pub mod DefinedTags
 pub mod DefinedTagsLaws
+pub mod IndexWords
+pub mod IndexWordsLaws
+pub mod ReadDictionary
+pub mod ReadDictionaryLaws
