@@ -63,6 +63,10 @@ pub record Turns : Type 0 where
   pub events : List Event
   pub seen : List ℕ
 
+-- "twice stands before enter"
+abbrev pub definedTurn : List ℕ → ℕ → WalkedGroup → Turn
+definedTurn seen tag place = record { events = twiceIf (tag ∈ᵇ seen) tag ++ place .events; seen = insertIf (tag ∈ᵇ seen) tag seen; next = place .next }
+
 abbrev pub turnAnd : Turn → (List ℕ → ℕ → Turns) → Turns
 turnAnd turn rest = record { events = turn .events ++ rest (turn .seen) (turn .next) .events; seen = rest (turn .seen) (turn .next) .seen }
 
@@ -76,10 +80,6 @@ module _ (input : Input) (level : MessageLevel (input .layout .Group)) where
   abbrev pub placeAt : Option Group → ℕ → WalkedGroup
   placeAt (some group) index = walkGroup input group 0 allows index
   placeAt none index = record { events = foreignUnless (allows (tagAt index)) (tagAt index); next = suc index }
-
-  -- "twice stands before enter"
-  abbrev pub definedTurn : List ℕ → ℕ → WalkedGroup → Turn
-  definedTurn seen tag place = record { events = twiceIf (tag ∈ᵇ seen) tag ++ place .events; seen = insertIf (tag ∈ᵇ seen) tag seen; next = place .next }
 
   -- "undefined tags are skipped"
   unfoldable pub turnAt : List ℕ → ℕ → Turn

@@ -28,7 +28,7 @@ pub struct WideInserted {
 }
 
 // The bit of the member ranked `rank` in its word. The Rust's `slot`.
-fn mask_of(rank: usize) -> u64
+pub fn mask_of(rank: usize) -> u64
     ensures { λ mask. ⌜ mask ≡ 2 ^ (rank % 64) ⌝ }
 {
     1u64 << (rank % 64)

@@ -1,5 +1,5 @@
 // The walk over the fields of a message: groups and their entries.
-mod entry_tags;
+pub mod entry_tags;
 pub mod event;
 pub mod field_table;
 pub mod group_events;
