@@ -244,7 +244,7 @@ def write_cycle(crate, function):
         else:
             body = (" " if body and not body.startswith("\n") else "") + body
         for member in list(claims):
-            if name == member + "-Inv-loop":
+            if name == member + "-Inv-loop" or f"({member}-claims t)" in block:
                 out.append(f"abbrev {member}-claims : ℕ → {member}-lts.Claims\n{member}-claims t = ({claims.pop(member)})\n")
         if name in known and comment != last_comment:
             out.append(comment)
