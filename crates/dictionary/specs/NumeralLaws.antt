@@ -115,7 +115,7 @@ digit-of : (n : ℕ) → n < 10 → isDigit (48 + n) ≡ true
 digit-of n small = isBetween-inside 48 57 (48 + n) (omega arith) (omega arith)
 
 -- numbers of at most so many digits
-abbrev bound : ℕ → ℕ
+abbrev pub bound : ℕ → ℕ
 bound zero = 1
 bound (suc digits) = 10 * bound digits
 
@@ -128,7 +128,7 @@ unfolding decimalFrom
 makes-by true digits n test deeper small = omega arith
 makes-by false digits n test deeper small = omega (arith, decimalFrom-last (digitsOf digits (n / 10)) 0 (48 + n % 10), deeper (omega arith))
 
-digitsOf-makes : (digits n : ℕ) → n < bound digits → decimalFrom 0 (digitsOf digits n) ≡ n
+pub digitsOf-makes : (digits n : ℕ) → n < bound digits → decimalFrom 0 (digitsOf digits n) ≡ n
 unfolding digitsOf
 digitsOf-makes zero n small = unfold decimalFrom in omega arith
 digitsOf-makes (suc digits) n small = makes-by (ltb n 10) digits n refl (digitsOf-makes digits (n / 10)) small
@@ -183,7 +183,7 @@ plain-by false digits n test some deeper =
     let large : 10 ≤ n = ltb-false n 10 test in
     noLeadingZero-append (digitsOf digits (n / 10)) (48 + n % 10) some (deeper (omega arith))
 
-digitsOf-plain : (digits n : ℕ) → n < bound (suc (suc digits)) → noLeadingZero (digitsOf (suc (suc digits)) n) ≡ true
+pub digitsOf-plain : (digits n : ℕ) → n < bound (suc (suc digits)) → noLeadingZero (digitsOf (suc (suc digits)) n) ≡ true
 unfolding digitsOf
 digitsOf-plain digits n small = plain-by (ltb n 10) (suc digits) n refl (digitsOf-some digits (n / 10)) (λ more. digitsOf-first digits (n / 10) more (omega arith))
 
