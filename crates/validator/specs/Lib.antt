@@ -10,3 +10,4 @@ pub mod SeenTagsLaws
 pub mod MessagePromises
 pub mod MessageTurnLaws
 pub mod MissingLaws
+pub mod MessageCallLaws

@@ -4,16 +4,18 @@
 -- `Refusal.antt` of texts. Assumes nothing.
 --
 --   neededFor events                   "space for a walk's events is five words each"
+--   mostWords words rows               as many words as a walk over so many fields can need
 --   spaceAnswer, spaceWith events space   13, or the answer and the words written
 --   walkedOf dictionary words fields message space   what the call answers
 --   eventsIn dictionary words fields message space   what the event space holds afterwards
-use Prim.Native.Nat.{ℕ, _*_}
+use Prim.Native.Nat.{ℕ, _+_, _*_}
 use mathlib.Core.List.{List, _++_}
 use lib.ListN.{length, drop}
 use Rattle.ascii.specs.Notation.{_≤ᵇ_, if_then_else_}
 use Rattle.texts.specs.declared.refusal.Refusal.the-variants.{UnknownForm, RuleBroken, BadField, SpaceShort}
 use Rattle.dictionary.specs.DictionaryCheck.{isDictionary}
 use Rattle.layouts.specs.Limits.{gateLimits}
+use Rattle.layouts.specs.LayoutWords.{levelRequired, levelCountTags}
 use Rattle.layouts.specs.LayoutCheck.{isLayout}
 use Rattle.walk.specs.declared.field_table.TableCheck.{TableCheck}
 use Rattle.walk.specs.declared.field_table.TableCheck.the-variants as table
@@ -26,6 +28,10 @@ use Rattle.validator.specs.MessageWords.{walkOf}
 
 abbrev pub neededFor : List Event → ℕ
 neededFor events = 5 * length events
+
+-- 5 N events of the loop over N fields, and one for each required tag and each group of the top
+abbrev pub mostWords : List ℕ → ℕ → ℕ
+mostWords words rows = 5 * (5 * rows + length (levelRequired words 0) + length (levelCountTags words 0))
 
 -- 13, or the answer
 abbrev pub spaceAnswer : List Event → List ℕ → WalkedMessage

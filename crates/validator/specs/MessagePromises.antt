@@ -2,6 +2,7 @@
 -- of words. Assumes nothing.
 --
 --   Lent defined words fields message   layout words that passed the check, an accepted field table, and the ascending tags of a dictionary
+--   Accepted dictionary words fields message   the same with the words of the dictionary
 --   SeenWords defined seen   words for a set of these tags
 --   PlaceAsks, Placed   `walk_place`: the group that begins at a field, or foreign
 --   TurnAsks, Turned    `walk_field`: a turn of the loop
@@ -14,6 +15,7 @@ use mathlib.Core.Bool.{true}
 use mathlib.Core.List.{List}
 use lib.ListN.{length}
 use Rattle.sorting.specs.Search.{StrictlyAscending}
+use Rattle.dictionary.specs.DictionaryCheck.{isDictionary}
 use Rattle.layouts.specs.Limits.{gateLimits}
 use Rattle.layouts.specs.LayoutWords.{groupCount}
 use Rattle.layouts.specs.LayoutCheckFacts.{Passed}
@@ -28,6 +30,13 @@ use Rattle.validator.specs.SeenTags.{seenWords, SeenTags}
 pub record Lent (defined words fields message : List ℕ) : Type 0 where
   pub ascends : StrictlyAscending defined
   pub few-tags : length defined ≤ 10922
+  pub passed : Passed gateLimits words
+  pub few-groups : groupCount words < 4294967296
+  pub table : AcceptedTable fields (length message)
+
+-- what a call is lent, once it is checked
+pub record Accepted (dictionary words fields message : List ℕ) : Type 0 where
+  pub defines : isDictionary dictionary ≡ true
   pub passed : Passed gateLimits words
   pub few-groups : groupCount words < 4294967296
   pub table : AcceptedTable fields (length message)
