@@ -25,7 +25,7 @@ use Rattle.dictionary.specs.DictionaryWords.{isOf, nameOf, namesOf, plac
 use Rattle.dictionary.specs.DictionaryCheck.{linesFrom, accepts, countOf, standsAt, standsEach, isIndex, isDictionary}
 use Rattle.dictionary.specs.Definitions.{recordIn, definitionOf, componentOf}
 
-abbrev small : List Line
+abbrev pub small : List Line
 small =
     Def 35 14
     ∷ BeginHeader
@@ -37,15 +37,15 @@ small =
     ∷ End (Number 7) (Letters 922746880)
     ∷ []
 
-abbrev four : ℕ → ℕ → ℕ → ℕ → List ℕ
+abbrev pub four : ℕ → ℕ → ℕ → ℕ → List ℕ
 four kind first second third = kind ∷ first ∷ second ∷ third ∷ replicate 6 0
 
-abbrev smallRecords : List ℕ
+abbrev pub smallRecords : List ℕ
 smallRecords =
     four 1 35 14 0
     ++ (four 3 0 0 0 ++ (four 7 35 1 0 ++ (four 10 0 0 0 ++ (four 4 0 0 0 ++ (four 11 0 0 0 ++ (four 5 7 0 0 ++ four 12 922746880 0 0))))))
 
-abbrev smallWords : List ℕ
+abbrev pub smallWords : List ℕ
 smallWords = 8 ∷ 1 ∷ 1 ∷ 0 ∷ (smallRecords ++ (35 ∷ 0 ∷ 7 ∷ 6 ∷ []))
 
 -- two definitions of tag 35

@@ -1,13 +1,14 @@
--- Laws of `DictionaryCheck.antt`: its loops, turn by turn. Assumes nothing.
-use mathlib.Core.Path.{_≡_, refl, _∙_}
+-- Laws of `DictionaryCheck.antt`: its loops, turn by turn, and its tests, one by one. Assumes nothing.
+use mathlib.Core.Path.{_≡_, refl, sym, _∙_}
 use Prim.Native.Nat.{ℕ, suc, _+_, _*_, _-_, _≤_, _<_}
-use mathlib.Core.Bool.{true, false}
+use mathlib.Core.Bool.{Bool, true, false}
 use mathlib.Core.List.{List, _∷_}
 use native.Mathlib.Omega.{arith}
-use lib.ListN.{getD, take, drop}
+use lib.ListN.{length, getD, take, drop}
 use lib.Seq.{drop-drop, getD-drop}
 use borrow.Author.Tests.{le-leb, lt-leb, eq-eqb, ne-eqb}
 use Rattle.ascii.specs.Notation.{isBetween}
+use Rattle.sorting.specs.Search.{isStrictlyAscending}
 use Rattle.texts.specs.declared.refusal.Refusal.{Refusal}
 use Rattle.texts.specs.declared.line.Line.{Line}
 use Rattle.texts.specs.declared.dictionary_order.State.{State}
@@ -17,7 +18,7 @@ use Rattle.texts.specs.DictionaryOrder.{start, stepOf, behindTrailer, behindMes
 use Rattle.texts.specs.DictionaryOrderLaws.{step-depth}
 use Rattle.dictionary.specs.Records.{lineFrom}
 use Rattle.dictionary.specs.LineTexts.{lengthOf}
-use Rattle.dictionary.specs.DictionaryCheck.{linesFrom, accepts, countOf, standsAt, standsEach}
+use Rattle.dictionary.specs.DictionaryCheck.{linesFrom, accepts, countOf, standsAt, standsEach, isIndex, tagsAt, componentsAt, messagesAt, sizeOf, isDictionary}
 
 -- ---- linesFrom
 
@@ -145,7 +146,55 @@ module _ (kind count at : ℕ) (words : List ℕ) (place : ℕ) (so-far : Stands
         let more : at + count - place ≡ suc (at + count - (place + 1)) = omega arith in
         record { from = omega (arith, so-far .from); within = omega arith; rest = so-far .rest ∙ rw (more, stands) }
 
--- ---- isIndex: the names that `&words[at..past]` lends
+-- ---- isIndex: the tests of `is_index`
 
-pub part-of-count : (words : List ℕ) (at count : ℕ) → take (at + count - at) (drop at words) ≡ take count (drop at words)
-part-of-count words at count = let same : at + count - at ≡ count = omega arith in rw same
+module _ (kind at count : ℕ) (words : List ℕ) (counted : ℕ) (counts : counted ≡ countOf kind (getD words 0 0) (drop 4 words)) where
+  pub index-miscounted : (counted ≡ count → ⊥) → isIndex kind at count words ≡ false
+  unfolding isIndex
+  index-miscounted other = rw (← counts, ne-eqb counted count other)
+
+  -- `&words[at..past]` lends the names
+  module _ (same : counted ≡ count) (ascends : Bool) (tests : ascends ≡ isStrictlyAscending (take (at + count - at) (drop at words))) where
+    tested : isStrictlyAscending (take count (drop at words)) ≡ ascends
+    tested = let part : at + count - at ≡ count = omega arith in sym (rw part at tests)
+
+    pub index-unordered : ascends ≡ false → isIndex kind at count words ≡ false
+    unfolding isIndex
+    index-unordered fails = rw (← counts, eq-eqb counted count same, tested, fails)
+
+    pub index-ordered : ascends ≡ true → isIndex kind at count words ≡ standsEach kind count at count words
+    unfolding isIndex
+    index-ordered holds = rw (← counts, eq-eqb counted count same, tested, holds)
+
+-- ---- isDictionary: the tests of `is_dictionary`
+
+module _ (words : List ℕ) where
+  pub dictionary-headless : length words < 4 → isDictionary words ≡ false
+  unfolding isDictionary
+  dictionary-headless few = rw (lt-leb 4 (length words) few)
+
+  module _ (headed : 4 ≤ length words) where
+    pub dictionary-short : length words < sizeOf words → isDictionary words ≡ false
+    unfolding isDictionary
+    dictionary-short few = rw (le-leb 4 (length words) headed, lt-leb (sizeOf words) (length words) few)
+
+    module _ (whole : sizeOf words ≤ length words) (order : Bool) (orders : order ≡ accepts start 1 0 (linesFrom (getD words 0 0) (drop 4 words))) where
+      pub dictionary-disordered : order ≡ false → isDictionary words ≡ false
+      unfolding isDictionary
+      dictionary-disordered fails = rw (le-leb 4 (length words) headed, le-leb (sizeOf words) (length words) whole, ← orders, fails)
+
+      module _ (ordered : order ≡ true) (tags : Bool) (tag-tests : tags ≡ isIndex 1 (tagsAt words) (getD words 1 0) words) where
+        pub dictionary-tags : tags ≡ false → isDictionary words ≡ false
+        unfolding isDictionary
+        dictionary-tags fails = rw (le-leb 4 (length words) headed, le-leb (sizeOf words) (length words) whole, ← orders, ordered, ← tag-tests, fails)
+
+        module _ (tagged : tags ≡ true) (components : Bool) (component-tests : components ≡ isIndex 5 (componentsAt words) (getD words 2 0) words) where
+          pub dictionary-components : components ≡ false → isDictionary words ≡ false
+          unfolding isDictionary
+          dictionary-components fails =
+              rw (le-leb 4 (length words) headed, le-leb (sizeOf words) (length words) whole, ← orders, ordered, ← tag-tests, tagged, ← component-tests, fails)
+
+          pub dictionary-messages : components ≡ true → isDictionary words ≡ isIndex 6 (messagesAt words) (getD words 3 0) words
+          unfolding isDictionary
+          dictionary-messages holds =
+              rw (le-leb 4 (length words) headed, le-leb (sizeOf words) (length words) whole, ← orders, ordered, ← tag-tests, tagged, ← component-tests, holds)

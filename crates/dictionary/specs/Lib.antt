@@ -24,4 +24,5 @@ pub mod DefinedTagsLaws
 pub mod IndexWords
 pub mod IndexWordsLaws
 pub mod ReadDictionary
+pub mod ReadDictionaryCases
 pub mod ReadDictionaryLaws
