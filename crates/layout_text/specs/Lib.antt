@@ -7,5 +7,8 @@ pub mod InOrder
 pub mod LayoutOfTextLaws
 pub mod FirstBroken
 pub mod FirstBrokenLaws
+pub mod OpenBlocks
+pub mod OpenBlocksLaws
+pub mod RulesLoop
 pub mod ReadLayout
 pub mod ReadLayoutCases

@@ -14,6 +14,14 @@ pub fn wide(word: u32) -> usize
     word as usize
 }
 
+// A number of words or a place among them, as a word.
+pub fn narrow(number: usize) -> u32
+    requires { ⌜ number < 4294967296 ⌝ }
+    ensures { λ word. ⌜ word ≡ number ⌝ }
+{
+    number as u32
+}
+
 // The stretch of the words from the place that stands at `place` up to the one that stands behind it: a part of the words.
 pub fn stretch_at(words: &[u32], place: usize) -> &[u32]
     requires { ⌜ StretchInside (now words) place ⌝ }

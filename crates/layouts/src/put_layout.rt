@@ -1,4 +1,5 @@
 // Writing the words of a layout (docs/ARRANGEMENT.md) from its parts, gathered level by level (specs/GatheredLayout.antt).
+use crate::layout_words::narrow;
 use crate::layout_words::wide;
 ghost use mathlib.Core.Path.{_≡_};
 ghost use mathlib.Core.List.{_∷_};
@@ -7,14 +8,6 @@ ghost use lib.ListN.{length, getD};
 ghost use lib.Seq.{sets};
 ghost use Rattle.layouts.specs.LayoutWords.{firstMember};
 ghost use Rattle.layouts.specs.GatheredLayout.{column, shifted, gatheredWords, RowsInside};
-
-// A number of words or a place among them, as a word.
-fn narrow(number: usize) -> u32
-    requires { ⌜ number < 4294967296 ⌝ }
-    ensures { λ word. ⌜ word ≡ number ⌝ }
-{
-    number as u32
-}
 
 // Writes a column of the rows from `to` on.
 fn put_column(words: &mut [u32], to: usize, rows: &[u32], field: usize, count: usize)
