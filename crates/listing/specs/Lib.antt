@@ -3,6 +3,8 @@
 pub mod ListLines
 pub mod ListLinesLaws
 pub mod ListLinesCases
+pub mod ListText
+pub mod ListTextLaws
 pub mod MessageText
 pub mod MessageTextLaws
 pub mod MessageTextCases
