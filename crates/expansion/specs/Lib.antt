@@ -12,6 +12,8 @@ pub mod SeenLaws
 pub mod Retained
 pub mod RetainedLaws
 pub mod FillLaws
+pub mod ExpansionPromises
+pub mod ExpansionPromisesLaws
 pub mod ExpansionInduction
 pub mod ExpansionLaws
 pub mod ExpansionRules

@@ -109,8 +109,17 @@ Adds change builder before (Done next) trace =
 Adds change builder before (Refused refusal) trace =
     (frame : Frame) (outer : List Frame) → InWork builder before frame outer → First refusal (change (workOf builder (frame .level)) .builder)
 
+-- a node more, and a word of the trace more
+abbrev pub nodeMore : Code.Builder → Code.Builder
+nodeMore builder = record { nodes = builder .nodes + 1; members = builder .members; required = builder .required; len = builder .len }
+
+abbrev pub wordMore : Code.Builder → Code.Builder
+wordMore builder = record { nodes = builder .nodes; members = builder .members; required = builder .required; len = builder .len + 1 }
+
 unfoldable pub SpendsNode : Code.Builder → ℕ → ℕ → Added → Type 0
-SpendsNode builder name depthLeft (Done next) = (level : OpenLevel) → spend gateLimits name depthLeft (workOf builder level) ≡ Granted (workOf next level)
+SpendsNode builder name depthLeft (Done next) =
+    (next ≡ nodeMore builder)
+    × ((level : OpenLevel) → spend gateLimits name depthLeft (workOf builder level) ≡ Granted (workOf next level))
 SpendsNode builder name depthLeft (Refused refusal) =
     (level : OpenLevel) → spend gateLimits name depthLeft (workOf builder level) ≡ Denied (noted refusal (workOf builder level))
 

@@ -16,7 +16,7 @@ use Rattle.expansion.specs.declared.builder.Added.{Added}
 use Rattle.expansion.specs.declared.builder.Added.the-variants.{Done, Refused}
 use Rattle.expansion.specs.Expansion.{Builder, Work, noted, ranOut, pushMember, pushRequired, addMember, addRequired, addField, spend, openEntry, emptyLevel}
 use Rattle.expansion.specs.ExpansionLaws.{keeps-addMember, keeps-addRequired}
-use Rattle.expansion.specs.Trace.{Frame, withLevel, withMember, withRequired, after, run, atStart, builderOf, workOf, First, Adds, SpendsNode, Fits, Grown, Grows, Entering, Enters, Leaves, left}
+use Rattle.expansion.specs.Trace.{Frame, withLevel, withMember, withRequired, after, run, atStart, builderOf, workOf, First, Adds, nodeMore, wordMore, SpendsNode, Fits, Grown, Grows, Entering, Enters, Leaves, left}
 
 -- ---- run, after
 
@@ -67,7 +67,7 @@ first-required limits refusal tag work first =
 -- ---- Adds: one change and then another
 
 -- where a change met no error, it is known from its level
-same-work : (next : Code.Builder) (work : Work) → work .builder ≡ builderOf next → work ≡ workOf next (work .level)
+pub same-work : (next : Code.Builder) (work : Work) → work .builder ≡ builderOf next → work ≡ workOf next (work .level)
 same-work next work same = ap {B = Work} (λ (shared : Builder). record { builder = shared; level = work .level }) same
 
 module _ (earlier later : Work → Work) (builder : Code.Builder) (before middle : List ℕ) where
@@ -197,10 +197,10 @@ module _ (builder : Code.Builder) (name : ℕ) where
   spends-deep (suc depth) none level = absurd (omega arith)
 
   pub spends-node : (depthLeft : ℕ) → (depthLeft ≡ 0 → ⊥) → builder .nodes < 4096
-      → SpendsNode builder name depthLeft (Done (record { nodes = builder .nodes + 1; members = builder .members; required = builder .required; len = builder .len }))
+      → SpendsNode builder name depthLeft (Done (nodeMore builder))
   unfolding spend SpendsNode
-  spends-node zero some room level = absurd (some refl)
-  spends-node (suc depth) some room level = rw (lt-ltb (builder .nodes) 4096 room, add-one)
+  spends-node zero some room = absurd (some refl)
+  spends-node (suc depth) some room = (refl, λ level. rw (lt-ltb (builder .nodes) 4096 room, add-one))
 
   pub spends-over : (depthLeft : ℕ) → (depthLeft ≡ 0 → ⊥) → 4096 ≤ builder .nodes → SpendsNode builder name depthLeft (Refused (OutOfNodes name))
   unfolding spend ranOut SpendsNode
@@ -208,7 +208,7 @@ module _ (builder : Code.Builder) (name : ℕ) where
   spends-over (suc depth) some over level = rw (le-ltb (builder .nodes) 4096 over)
 
   pub node-grows : Fits builder → builder .nodes < 4096
-      → Grown builder (record { nodes = builder .nodes + 1; members = builder .members; required = builder .required; len = builder .len })
+      → Grown builder (nodeMore builder)
   node-grows fits room = record {
     fits = record { nodes = omega arith; members = fits .members; required = fits .required; len = omega (arith, fits .len) };
     slack = omega arith;
@@ -282,10 +282,7 @@ module _ (builder : Code.Builder) (trace : List ℕ) (count : ℕ) (required : B
 -- ---- leave_group
 
 module _ (builder : Code.Builder) (trace : List ℕ) (delimiter : ℕ) (narrow : delimiter < 4294967296) (size : 14336 ≤ length trace) (fits : Fits builder) (room : builder .len < builder .members + builder .required + builder .nodes) where
-  abbrev pub wordMore : Code.Builder
-  wordMore = record { nodes = builder .nodes; members = builder .members; required = builder .required; len = builder .len + 1 }
-
-  pub leaves : Leaves delimiter builder trace wordMore (set trace (builder .len) (delimiter * 4 + 3))
+  pub leaves : Leaves delimiter builder trace (wordMore builder) (set trace (builder .len) (delimiter * 4 + 3))
   unfolding Leaves
   leaves = λ entry around outer stands.
       let within : builder .len < length trace = omega (arith, fits .nodes, fits .members, fits .required) in (
@@ -293,5 +290,5 @@ module _ (builder : Code.Builder) (trace : List ℕ) (delimiter : ℕ) (narrow :
         refl,
       )
 
-  pub leave-fits : Fits wordMore
+  pub leave-fits : Fits (wordMore builder)
   leave-fits = record { nodes = fits .nodes; members = fits .members; required = fits .required; len = omega arith }

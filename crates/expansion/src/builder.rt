@@ -1,11 +1,12 @@
 // Adding to the level in work. The Rust's `ScopeBuilder` and `Level`: what is added is written down in a trace, a word for each step, and
 // read from there when the levels are put in order. So a refusal leaves nothing behind, and a level needs no memory of its own.
 use texts::refusal::Refusal;
+ghost use mathlib.Core.Path.{_≡_};
 ghost use Prim.Native.Nat.{_+_, _≤_, _<_};
 ghost use lib.ListN.{length};
 ghost use Rattle.layouts.specs.Limits.{gateLimits};
 ghost use Rattle.expansion.specs.Expansion.{addMember, addRequired, addField};
-ghost use Rattle.expansion.specs.Trace.{Fits, Adds, SpendsNode, Grows, Entering, Enters, Leaves};
+ghost use Rattle.expansion.specs.Trace.{Fits, Adds, wordMore, SpendsNode, Grows, Entering, Enters, Leaves};
 
 // Document 01: "one of 4,096 nodes", "members of all levels may number 8,192 and the entries of all required lists 2,048".
 pub const NODES: usize = 4096;
@@ -146,6 +147,7 @@ pub fn enter_group(
 pub fn leave_group(trace: &mut [u64], builder: Builder, delimiter: u32) -> Builder
     requires { ⌜ Fits builder × (builder .len < builder .members + builder .required + builder .nodes) × (14336 ≤ length (now trace)) ⌝ }
     ensures change { λ next. ⌜ Leaves delimiter builder (now (trace .entry)) next (now (trace .exit)) ⌝ }
+    ensures counts { λ next. ⌜ next ≡ wordMore builder ⌝ }
     ensures fits { λ next. ⌜ Fits next ⌝ }
 {
     let len = builder.len;

@@ -1,0 +1,72 @@
+-- What the functions of src/expansion.rt ask and promise: a body, a group or a use is added as the definition adds it (`Expansion.antt`), told by the trace
+-- (`Adds`, Trace.antt), and a body is walked from its first line to behind its end. Assumes nothing.
+--
+--   openNames path            the names of the components that are open, the one opened last first
+--   groupAt words group       the group of the tree that a group's line begins
+--   fillAt words depth path collect place work   what is left of the body that is open at the place, added to the level in work
+--   outcomeOf filled          what was added, without the place
+--   Asks words depth path builder trace     dictionary words that passed, a path that has room for the depths left, and a trace with room for all words
+--   Fills change words place builder before filled after   the change is told by the trace, and the place that is given is behind the body at `place`
+--   Uses change builder before added after  the same for a use, which gives no place
+use mathlib.Core.Path.{_≡_}
+use Prim.Native.Nat.{ℕ, _≤_, _<_}
+use mathlib.Core.Bool.{Bool, true}
+use mathlib.Core.List.{List}
+use lib.ListN.{length, getD, drop}
+use Rattle.layouts.specs.Limits.{gateLimits}
+use Rattle.dictionary.specs.RecordsLaws.{Words32}
+use Rattle.dictionary.specs.DictionaryCheck.{isDictionary}
+use Rattle.expansion.specs.declared.builder.Builder.{Builder}
+use Rattle.expansion.specs.declared.builder.Added.{Added}
+use Rattle.expansion.specs.declared.builder.Added.the-variants.{Done, Refused}
+use Rattle.expansion.specs.declared.expansion.Path.{Path}
+use Rattle.expansion.specs.declared.expansion.Filled.{Filled}
+use Rattle.expansion.specs.declared.expansion.Filled.the-variants.{UpTo, Stopped}
+use Rattle.expansion.specs.declared.expansion.GroupLine.{GroupLine}
+use Rattle.expansion.specs.Dictionary.{GroupDef, group-def}
+use Rattle.expansion.specs.DictionaryPlaces.{openAt}
+use Rattle.expansion.specs.DictionaryLookups.{wordLines, dictionaryIn, bodyAt, aroundAt, BodyAt}
+use Rattle.expansion.specs.Expansion.{Work, fillBody, addGroup, addComponent}
+use Rattle.expansion.specs.Trace.{Adds, Fits, Grows}
+
+abbrev pub openNames : Path → List ℕ
+openNames path = drop (path .first) (path .names)
+
+abbrev pub groupAt : List ℕ → GroupLine → GroupDef
+groupAt words group = group-def (group .count) (group .delimiter) (group .required) (bodyAt (wordLines words) (group .first))
+
+abbrev pub fillAt : List ℕ → ℕ → List ℕ → Bool → ℕ → Work → Work
+fillAt words depth path collect place =
+    fillBody gateLimits
+    (addGroup gateLimits (dictionaryIn words) depth path collect)
+    (addComponent gateLimits (dictionaryIn words) depth path collect)
+    collect
+    (bodyAt (wordLines words) place)
+
+abbrev pub outcomeOf : Filled → Added
+outcomeOf (UpTo place next) = Done next
+outcomeOf (Stopped refusal) = Refused refusal
+
+pub record Asks (words : List ℕ) (depth : ℕ) (path : Path) (builder : Builder) (trace : List ℕ) : Type 0 where
+  pub small : Words32 words
+  pub passed : isDictionary words ≡ true
+  pub deep : depth ≤ path .first
+  pub names : path .first ≤ 33
+  pub fits : Fits builder
+  pub size : 14336 ≤ length trace
+
+-- the place is behind the end of the body that was open at `place`
+abbrev pub Ends : List ℕ → ℕ → Filled → Type 0
+Ends words place (UpTo behind next) =
+    (place < behind)
+    × ((behind ≤ getD words 0 0) × (openAt (wordLines words) behind ≡ aroundAt (wordLines words) place))
+Ends words place (Stopped refusal) = Unit
+
+pub record Fills (change : Work → Work) (words : List ℕ) (place : ℕ) (builder : Builder) (before : List ℕ) (filled : Filled) (after : List ℕ) : Type 0 where
+  pub adds : Adds change builder before (outcomeOf filled) after
+  pub grows : Grows builder (outcomeOf filled)
+  pub ends : Ends words place filled
+
+pub record Uses (change : Work → Work) (builder : Builder) (before : List ℕ) (added : Added) (after : List ℕ) : Type 0 where
+  pub adds : Adds change builder before added after
+  pub grows : Grows builder added

@@ -1,0 +1,399 @@
+-- Laws of `ExpansionPromises.antt`, in its order, and the steps of the functions of src/expansion.rt: a group, a use, and a body line by line.
+-- Assumes nothing.
+--
+--   BodySoFar ..     a body was walked from its first line up to `at`: what is left of it decides what is added
+use mathlib.Core.Path.{_≡_, refl, sym, ap, _∙_}
+use Prim.Native.Nat.{ℕ, zero, suc, _+_, _-_, _≤_, _<_}
+use mathlib.Core.Bool.{Bool, true, false, _&&_}
+use mathlib.Core.List.{List, [], _∷_}
+use native.Mathlib.Omega.{arith}
+use native.Mathlib.Numerals.{add-one}
+use lib.ListN.{length, getD, take, drop, set, length-set, length-drop}
+use lib.Seq.{take-all, drop-cons, drop-set-lt, getD-set-same}
+use Rattle.texts.specs.declared.refusal.Refusal.{Refusal}
+use Rattle.texts.specs.declared.refusal.Refusal.the-variants.{ComponentNotDefined}
+use Rattle.texts.specs.declared.line.Line.{Line}
+use Rattle.texts.specs.declared.line.Line.the-variants.{Def, Value, BeginHeader, BeginTrailer, EndHeader, EndTrailer, Component, Message, Field, Group, Use, End, Member, RequiredTag, Unknown}
+use Rattle.layouts.specs.Limits.{gateLimits}
+use Rattle.sorting.specs.Sort.{isIn}
+use Rattle.dictionary.specs.RecordsLaws.{Words32}
+use Rattle.dictionary.specs.DictionaryCheck.{isDictionary}
+use Rattle.expansion.specs.declared.builder.Builder as Code
+use Rattle.expansion.specs.declared.builder.Added.{Added}
+use Rattle.expansion.specs.declared.builder.Added.the-variants.{Done, Refused}
+use Rattle.expansion.specs.declared.expansion.Filled.{Filled}
+use Rattle.expansion.specs.declared.expansion.Filled.the-variants.{UpTo, Stopped}
+use Rattle.expansion.specs.Dictionary.{FieldRef, ComponentRef, Body, GroupDef, Dictionary, Found, NotFound, group-def, emptyBody, withField, withGroup, withUse, innermost, aroundIt, componentOf, fieldsOf, delimiterOf, countTagOf}
+use Rattle.expansion.specs.DictionaryPlaces.{openAt, InOrder, OnlyUses, IsOther, inside-body, at-field, at-group, at-use, at-end}
+use Rattle.expansion.specs.DictionaryLookups.{wordLines, dictionaryIn, bodyAt, aroundAt, BodyAt, body-there, lines-counted, line-at, lines-in-order}
+use Rattle.expansion.specs.Expansion.{OpenLevel, Work, Granted, Denied, Spent, onGranted, spend, noted, addMember, addField, openEntry, closeGroup, fillBody, addGroup, addComponent}
+use Rattle.expansion.specs.Trace.{Frame, First, InWork, withLevel, builderOf, workOf, nodeMore, wordMore, Adds, SpendsNode, Fits, Grown, Grows, Enters, Leaves, entered, left}
+use Rattle.expansion.specs.TraceLaws.{same-work, adds-then, adds-stops, grown-then, grows-then, grown-grows, done-grown, refused-grows}
+use Rattle.expansion.specs.FillLaws.{fill-field, fill-group, fill-use, fill-end, first-fill, adds-same}
+use Rattle.expansion.specs.ExpansionPromises.{fillAt, outcomeOf, Asks, Ends, Fills, Uses}
+
+-- ---- openNames
+
+module _ (names : List ℕ) (size : length names ≡ 33) where
+  -- the part of the names that is looked through
+  pub names-part : (first : ℕ) → take (33 - first) (drop first names) ≡ drop first names
+  names-part first = take-all (33 - first) (drop first names) (omega (arith, length-drop first names))
+
+  pub names-longer : (first name : ℕ) → 0 < first → first ≤ 33 → drop (first - 1) (set names (first - 1) name) ≡ name ∷ drop first names
+  names-longer first name some few =
+      let next : suc (first - 1) ≡ first = omega arith in
+      let inside : first - 1 < length names = omega arith in
+      let stored : first - 1 < length (set names (first - 1) name) = omega (arith, length-set names (first - 1) name) in
+      drop-cons (set names (first - 1) name) (first - 1) 0 stored
+      ∙ ap (λ (word : ℕ). word ∷ drop (suc (first - 1)) (set names (first - 1) name)) (getD-set-same names (first - 1) name 0 inside)
+      ∙ ap (λ (rest : List ℕ). name ∷ rest) (drop-set-lt (suc (first - 1)) names (first - 1) name (omega arith))
+      ∙ ap (λ (place : ℕ). name ∷ drop place names) next
+
+-- ---- a node
+
+-- a node that is granted leaves a depth
+pub spent-deep : (builder next : Code.Builder) (name depth : ℕ) → SpendsNode builder name depth (Done next) → 0 < depth
+unfolding SpendsNode spend
+spent-deep builder next name zero spent =
+    let granted = spent .1 (record { members = []; required = []; groups = [] }) in
+    let never : _≡_ {A = ℕ} 0 1 = cc in
+    absurd (omega arith)
+spent-deep builder next name (suc depth) spent = omega arith
+
+pub spent-room : (builder next : Code.Builder) (name depth : ℕ) → SpendsNode builder name depth (Done next)
+    → next .len + suc (builder .members + builder .required + builder .nodes) ≤ builder .len + (next .members + next .required + next .nodes)
+unfolding SpendsNode
+spent-room builder next name depth spent =
+    let same = spent .0 in
+    rw same (omega arith)
+
+-- the node is no word of the trace
+spent-stands : (builder node : Code.Builder) (name depth : ℕ) (trace : List ℕ) (frame : Frame) (outer : List Frame)
+    → SpendsNode builder name depth (Done node)
+    → InWork builder trace frame outer
+    → InWork node trace frame outer
+unfolding SpendsNode
+spent-stands builder node name depth trace frame outer spent stands = rw (spent .0) stands
+
+-- ---- add_group
+
+module _ (dictionary : Dictionary) (path : List ℕ) (collect : Bool) (count delimiter : ℕ) (required : Bool) (inner : Body) (depth less : ℕ) (same-depth : depth ≡ suc less)
+    (builder : Code.Builder) (before : List ℕ) where
+  abbrev addsGroup : Work → Work
+  addsGroup = addGroup gateLimits dictionary depth path collect (group-def count delimiter required inner)
+
+  -- the entry level, filled
+  abbrev fillsEntry : Work → Work
+  fillsEntry = fillBody gateLimits (addGroup gateLimits dictionary less path true) (addComponent gateLimits dictionary less path true) true inner
+
+  module _ (node : Code.Builder) (spent : SpendsNode builder count depth (Done node)) where
+    group-is : (level : OpenLevel)
+        → addsGroup (workOf builder level)
+        ≡ closeGroup (group-def count delimiter required inner) (required && collect) (addMember gateLimits count (workOf node level))
+        (fillsEntry (entered count delimiter (workOf node level)))
+    unfolding addGroup SpendsNode
+    group-is level =
+        let granted : spend gateLimits count (suc less) (workOf builder level) ≡ Granted (workOf node level) = rw same-depth at (spent .1 level) in
+        rw (same-depth, granted) refl
+
+    pub group-added : (entry filled last : Code.Builder) (middle inside after : List ℕ)
+        → Enters count (required && collect) delimiter node before (Done entry) middle
+        → Adds fillsEntry entry middle (Done filled) inside
+        → Leaves delimiter filled inside last after
+        → Adds addsGroup builder before (Done last) after
+    unfolding Adds Enters Leaves
+    group-added entry filled last middle inside after enters fills leaves = λ frame outer stands.
+        let begun = workOf node (frame .level) in
+        let around = addMember gateLimits count begun in
+        let one = enters frame outer (spent-stands builder node count depth before frame outer spent stands) in
+        let entry-frame : Frame = record { countTag = count; needed = required && collect; level = entered count delimiter begun .level } in
+        let two = fills entry-frame (withLevel (around .level) frame ∷ outer) (one .0) in
+        let equal = same-work entry (entered count delimiter begun) (one .1) in
+        let full = fillsEntry (workOf entry (entered count delimiter begun .level)) in
+        let three = leaves (withLevel (full .level) entry-frame) (withLevel (around .level) frame) outer (two .0) in
+        rw (group-is (frame .level), equal) (three .0, two .1 ∙ sym (three .1))
+
+    pub group-entry-over : (refusal : Refusal) (middle after : List ℕ)
+        → Enters count (required && collect) delimiter node before (Refused refusal) middle
+        → Adds addsGroup builder before (Refused refusal) after
+    unfolding Adds Enters
+    group-entry-over refusal middle after enters = λ frame outer stands.
+        let first = enters frame outer (spent-stands builder node count depth before frame outer spent stands) in
+        rw (group-is (frame .level))
+        (first-fill gateLimits refusal dictionary less path true true inner (entered count delimiter (workOf node (frame .level))) first)
+
+    pub group-body-over : (entry : Code.Builder) (refusal : Refusal) (middle inside after : List ℕ)
+        → Enters count (required && collect) delimiter node before (Done entry) middle
+        → Adds fillsEntry entry middle (Refused refusal) inside
+        → Adds addsGroup builder before (Refused refusal) after
+    unfolding Adds Enters
+    group-body-over entry refusal middle inside after enters fills = λ frame outer stands.
+        let begun = workOf node (frame .level) in
+        let one = enters frame outer (spent-stands builder node count depth before frame outer spent stands) in
+        let equal = same-work entry (entered count delimiter begun) (one .1) in
+        let entry-frame : Frame = record { countTag = count; needed = required && collect; level = entered count delimiter begun .level } in
+        let first = fills entry-frame (withLevel (addMember gateLimits count begun .level) frame ∷ outer) (one .0) in
+        rw (group-is (frame .level), equal) first
+
+module _ (dictionary : Dictionary) (path : List ℕ) (collect : Bool) (depth : ℕ) (builder : Code.Builder) (refusal : Refusal) (before after : List ℕ) where
+  pub group-denied : (group : GroupDef) → SpendsNode builder (countTagOf group) depth (Refused refusal)
+      → Adds (addGroup gateLimits dictionary depth path collect group) builder before (Refused refusal) after
+  group-denied group spent = denied depth spent
+    where
+      denied : (depth : ℕ) → SpendsNode builder (countTagOf group) depth (Refused refusal)
+          → Adds (addGroup gateLimits dictionary depth path collect group) builder before (Refused refusal) after
+      denied zero spent = unfold addGroup Adds SpendsNode in λ frame outer stands. rw (spent (frame .level)) ([], refl)
+      denied (suc left) spent = unfold addGroup Adds SpendsNode in λ frame outer stands. rw (spent (frame .level)) ([], refl)
+
+-- ---- add_component
+
+module _ (dictionary : Dictionary) (path : List ℕ) (collect : Bool) (component : ComponentRef) (depth less : ℕ) (same-depth : depth ≡ suc less)
+    (builder node : Code.Builder) (before : List ℕ) (spent : SpendsNode builder (component .name) depth (Done node)) where
+  abbrev addsComponent : Work → Work
+  addsComponent = addComponent gateLimits dictionary depth path collect component
+
+  component-granted : (level : OpenLevel) → spend gateLimits (component .name) (suc less) (workOf builder level) ≡ Granted (workOf node level)
+  unfolding SpendsNode
+  component-granted level = rw same-depth at (spent .1 level)
+
+  pub component-undefined : (after : List ℕ) → componentOf dictionary (component .name) ≡ NotFound
+      → Adds addsComponent builder before (Refused (ComponentNotDefined (component .name))) after
+  unfolding addComponent Adds
+  component-undefined after missing = λ frame outer stands. rw (same-depth, component-granted (frame .level), missing) ([], refl)
+
+  module _ (body : Body) (found : componentOf dictionary (component .name) ≡ Found body) where
+    pub component-open : isIn (component .name) path ≡ true → Adds addsComponent builder before (Done node) before
+    unfolding addComponent Adds
+    component-open again = λ frame outer stands.
+        rw (same-depth, component-granted (frame .level), found, again) (spent-stands builder node (component .name) depth before frame outer spent stands, refl)
+
+    pub component-added : (names : List ℕ) (needed : Bool) (added : Added) (after : List ℕ)
+        → isIn (component .name) path ≡ false
+        → names ≡ component .name ∷ path
+        → needed ≡ (collect && component .required)
+        → Adds (fillBody gateLimits (addGroup gateLimits dictionary less names needed) (addComponent gateLimits dictionary less names needed) needed body) node before added after
+        → Adds addsComponent builder before added after
+    unfolding addComponent Adds
+    component-added names needed (Done next) after new longer same adds = λ frame outer stands.
+        let one = adds frame outer (spent-stands builder node (component .name) depth before frame outer spent stands) in
+        rw (same-depth, component-granted (frame .level), found, new, ← longer, ← same) one
+    component-added names needed (Refused refusal) after new longer same adds = λ frame outer stands.
+        let one = adds frame outer (spent-stands builder node (component .name) depth before frame outer spent stands) in
+        rw (same-depth, component-granted (frame .level), found, new, ← longer, ← same) one
+
+module _ (dictionary : Dictionary) (path : List ℕ) (collect : Bool) (builder : Code.Builder) (refusal : Refusal) (before after : List ℕ) where
+  pub component-denied : (depth : ℕ) (component : ComponentRef) → SpendsNode builder (component .name) depth (Refused refusal)
+      → Adds (addComponent gateLimits dictionary depth path collect component) builder before (Refused refusal) after
+  unfolding addComponent Adds SpendsNode
+  component-denied zero component spent = λ frame outer stands. rw (spent (frame .level)) ([], refl)
+  component-denied (suc left) component spent = λ frame outer stands. rw (spent (frame .level)) ([], refl)
+
+-- ---- add_body: the loop over the lines of a body
+
+pub record BodySoFar (words : List ℕ) (depth : ℕ) (path : List ℕ) (collect : Bool) (place : ℕ) (builder : Code.Builder) (before : List ℕ) (at : ℕ) (so-far : Code.Builder) (now′ : List ℕ) : Type 0 where
+  pub there : BodyAt (wordLines words) at
+  pub around : aroundAt (wordLines words) at ≡ aroundAt (wordLines words) place
+  pub from : place ≤ at
+  pub grown : Grown builder so-far
+  pub size : length now′ ≡ length before
+  pub rest : (added : Added) (after : List ℕ)
+      → Adds (fillAt words depth path collect at) so-far now′ added after
+      → Adds (fillAt words depth path collect place) builder before added after
+
+pub body-begins : (words : List ℕ) (depth : ℕ) (path : List ℕ) (collect : Bool) (place : ℕ) (builder : Code.Builder) (before : List ℕ)
+    → BodyAt (wordLines words) place
+    → Fits builder
+    → BodySoFar words depth path collect place builder before place builder before
+body-begins words depth path collect place builder before there fits = record {
+  there = there;
+  around = refl;
+  from = omega arith;
+  grown = record { fits = fits; slack = omega arith };
+  size = refl;
+  rest = λ added after adds. adds;
+}
+
+-- nothing is added where nothing is left
+adds-none : (builder : Code.Builder) (trace : List ℕ) (change : Work → Work) → ((work : Work) → change work ≡ work) → Adds change builder trace (Done builder) trace
+unfolding Adds
+adds-none builder trace change none = λ frame outer stands. rw (none (workOf builder (frame .level))) (stands, refl)
+
+module _ (words : List ℕ) (small : Words32 words) (passed : isDictionary words ≡ true) (depth : ℕ) (path : List ℕ) (collect : Bool) (place : ℕ)
+    (builder : Code.Builder) (before : List ℕ) (at : ℕ) (so-far : Code.Builder) (now′ : List ℕ) (soFar : BodySoFar words depth path collect place builder before at so-far now′) where
+  abbrev lines : List Line
+  lines = wordLines words
+
+  -- there is a line where a body is open
+  pub body-inside : at < getD words 0 0
+  body-inside =
+      let over = inside-body lines at (bodyAt lines at) (aroundAt lines at) (soFar .there) in
+      omega (arith, lines-counted words, over)
+
+  line-inside : at < length lines
+  line-inside = omega (arith, lines-counted words, body-inside)
+
+  abbrev groups : GroupDef → Work → Work
+  groups = addGroup gateLimits (dictionaryIn words) depth path collect
+
+  abbrev uses : ComponentRef → Work → Work
+  uses = addComponent gateLimits (dictionaryIn words) depth path collect
+
+  -- the line at `at` makes this change, and this is left of the body behind it
+  abbrev Splits : (Work → Work) → Body → Type 0
+  Splits change left = (work : Work) → fillAt words depth path collect at work ≡ fillBody gateLimits groups uses collect left (change work)
+
+  goes-on : (change : Work → Work) (left : Body) (further : ℕ) (next : Code.Builder) (after : List ℕ)
+      → Splits change left
+      → at ≤ further
+      → openAt lines further ≡ left ∷ aroundAt lines at
+      → Adds change so-far now′ (Done next) after
+      → Grown so-far next
+      → length after ≡ length now′
+      → BodySoFar words depth path collect place builder before further next after
+  goes-on change left further next after splits order open-there changed grows kept = record {
+    there = body-there (openAt lines further) left (aroundAt lines at) open-there;
+    around = ap aroundIt open-there ∙ soFar .around;
+    from = omega (arith, soFar .from, order);
+    grown = grown-then builder so-far next (soFar .grown) grows;
+    size = kept ∙ soFar .size;
+    rest = λ added end adds.
+        soFar .rest added end
+        (adds-same (λ work. fillAt words depth path collect further (change work)) (fillAt words depth path collect at) so-far now′ added end
+        (λ work. ap (λ (body : Body). fillBody gateLimits groups uses collect body (change work)) (ap innermost open-there) ∙ sym (splits work))
+        (adds-then change (fillAt words depth path collect further) so-far now′ after next added end changed adds));
+  }
+
+  stops : (change : Work → Work) (left : Body) (refusal : Refusal) (after end : List ℕ)
+      → Splits change left
+      → Adds change so-far now′ (Refused refusal) after
+      → Fills (fillAt words depth path collect place) words place builder before (Stopped refusal) end
+  stops change left refusal after end splits changed =
+      let fill : Work → Work = λ work. fillBody gateLimits groups uses collect left work in
+      record {
+        adds =
+            soFar .rest (Refused refusal) end
+            (adds-same (λ work. fill (change work)) (fillAt words depth path collect at) so-far now′ (Refused refusal) end
+            (λ work. sym (splits work))
+            (adds-stops change fill so-far now′ after refusal end changed
+            (λ work first. first-fill gateLimits refusal (dictionaryIn words) depth path collect collect left work first)));
+        grows = refused-grows builder refusal;
+        ends = tt;
+      }
+
+  -- a line `field=TAG,R`
+  module _ (tag : ℕ) (required needed : Bool) (line : getD lines at Unknown ≡ Field tag required) (same : needed ≡ (collect && required)) where
+    abbrev fieldParts : (rest : Body)
+        × ((openAt lines (at + 1) ≡ rest ∷ aroundAt lines at) × (bodyAt lines at ≡ withField (record { tag = tag; required = required }) rest))
+    fieldParts = at-field lines at line-inside (lines-in-order words small passed) (bodyAt lines at) (aroundAt lines at) (soFar .there) tag required line
+
+    field-splits : Splits (addField gateLimits tag needed) (fieldParts .0)
+    field-splits work =
+        ap (λ (body : Body). fillBody gateLimits groups uses collect body work) (fieldParts .1 .1)
+        ∙ fill-field gateLimits groups uses collect work (record { tag = tag; required = required }) (fieldParts .0)
+        ∙ ap (λ (flag : Bool). fillBody gateLimits groups uses collect (fieldParts .0) (addField gateLimits tag flag work)) (sym same)
+
+    pub body-field : (next : Code.Builder) (after : List ℕ)
+        → Adds (addField gateLimits tag needed) so-far now′ (Done next) after
+        → Grows so-far (Done next)
+        → length after ≡ length now′
+        → BodySoFar words depth path collect place builder before (at + 1) next after
+    body-field next after changed grows kept =
+        goes-on (addField gateLimits tag needed) (fieldParts .0) (at + 1) next after field-splits (omega arith) (fieldParts .1 .0) changed (done-grown so-far next grows) kept
+
+    pub body-field-over : (refusal : Refusal) (after end : List ℕ)
+        → Adds (addField gateLimits tag needed) so-far now′ (Refused refusal) after
+        → Fills (fillAt words depth path collect place) words place builder before (Stopped refusal) end
+    body-field-over refusal after end changed = stops (addField gateLimits tag needed) (fieldParts .0) refusal after end field-splits changed
+
+  -- a line `group=COUNT,DELIMITER,R`
+  module _ (count delimiter : ℕ) (required : Bool) (line : getD lines at Unknown ≡ Group count delimiter required) where
+    abbrev groupThere : GroupDef
+    groupThere = group-def count delimiter required (bodyAt lines (at + 1))
+
+    abbrev groupParts : (inner : Body)
+        × ((rest : Body)
+        × ((openAt lines (at + 1) ≡ inner ∷ rest ∷ aroundAt lines at)
+        × ((bodyAt lines at ≡ withGroup (group-def count delimiter required inner) rest) × (fieldsOf rest ≡ []))))
+    groupParts = at-group lines at line-inside (lines-in-order words small passed) (bodyAt lines at) (aroundAt lines at) (soFar .there) count delimiter required line
+
+    -- the body of the group is open behind its line
+    pub group-there : BodyAt lines (at + 1)
+    group-there = body-there (openAt lines (at + 1)) (groupParts .0) (groupParts .1 .0 ∷ aroundAt lines at) (groupParts .1 .1 .0)
+
+    group-splits : Splits (groups groupThere) (groupParts .1 .0)
+    group-splits work =
+        ap (λ (body : Body). fillBody gateLimits groups uses collect body work) (groupParts .1 .1 .1 .0)
+        ∙ fill-group gateLimits groups uses collect work (group-def count delimiter required (groupParts .0)) (groupParts .1 .0) (groupParts .1 .1 .1 .1)
+        ∙ ap (λ (body : Body). fillBody gateLimits groups uses collect (groupParts .1 .0) (groups (group-def count delimiter required body) work))
+        (sym (ap innermost (groupParts .1 .1 .0)))
+
+    pub body-group : (behind : ℕ) (next : Code.Builder) (after : List ℕ)
+        → Fills (groups groupThere) words (at + 1) so-far now′ (UpTo behind next) after
+        → length after ≡ length now′
+        → BodySoFar words depth path collect place builder before behind next after
+    body-group behind next after fills kept =
+        goes-on (groups groupThere) (groupParts .1 .0) behind next after group-splits (omega (arith, fills .ends .0))
+        (fills .ends .1 .1 ∙ ap aroundIt (groupParts .1 .1 .0))
+        (fills .adds)
+        (done-grown so-far next (fills .grows))
+        kept
+
+    pub body-group-over : (refusal : Refusal) (after end : List ℕ)
+        → Fills (groups groupThere) words (at + 1) so-far now′ (Stopped refusal) after
+        → Fills (fillAt words depth path collect place) words place builder before (Stopped refusal) end
+    body-group-over refusal after end fills = stops (groups groupThere) (groupParts .1 .0) refusal after end group-splits (fills .adds)
+
+  -- a line `use=N,R`
+  module _ (name : ℕ) (required : Bool) (line : getD lines at Unknown ≡ Use name required) where
+    abbrev useThere : ComponentRef
+    useThere = record { name = name; required = required }
+
+    abbrev useParts : (rest : Body) × ((openAt lines (at + 1) ≡ rest ∷ aroundAt lines at) × ((bodyAt lines at ≡ withUse useThere rest) × OnlyUses rest))
+    useParts = at-use lines at line-inside (lines-in-order words small passed) (bodyAt lines at) (aroundAt lines at) (soFar .there) name required line
+
+    use-splits : Splits (uses useThere) (useParts .0)
+    use-splits work =
+        ap (λ (body : Body). fillBody gateLimits groups uses collect body work) (useParts .1 .1 .0)
+        ∙ fill-use gateLimits groups uses collect work useThere (useParts .0) (useParts .1 .1 .1)
+
+    pub body-use : (next : Code.Builder) (after : List ℕ)
+        → Uses (uses useThere) so-far now′ (Done next) after
+        → length after ≡ length now′
+        → BodySoFar words depth path collect place builder before (at + 1) next after
+    body-use next after changed kept =
+        goes-on (uses useThere) (useParts .0) (at + 1) next after use-splits (omega arith) (useParts .1 .0) (changed .adds) (done-grown so-far next (changed .grows)) kept
+
+    pub body-use-over : (refusal : Refusal) (after end : List ℕ)
+        → Uses (uses useThere) so-far now′ (Refused refusal) after
+        → Fills (fillAt words depth path collect place) words place builder before (Stopped refusal) end
+    body-use-over refusal after end changed = stops (uses useThere) (useParts .0) refusal after end use-splits (changed .adds)
+
+  -- any other line ends the body
+  pub body-ends : (line : Line)
+      → getD lines at Unknown ≡ line
+      → IsOther line
+      → Fills (fillAt words depth path collect place) words place builder before (UpTo (at + 1) so-far) now′
+  body-ends line same other =
+      let parts = at-end lines at line-inside (lines-in-order words small passed) (bodyAt lines at) (aroundAt lines at) (soFar .there) line same other in
+      record {
+        adds =
+            soFar .rest (Done so-far) now′
+            (adds-none so-far now′ (fillAt words depth path collect at)
+            (λ work.
+            ap (λ (body : Body). fillBody gateLimits groups uses collect body work) (parts .0)
+            ∙ fill-end gateLimits groups uses collect work));
+        grows = grown-grows builder so-far (soFar .grown);
+        ends = (omega (arith, soFar .from), (omega (arith, body-inside), parts .1 ∙ soFar .around));
+      }
+
+-- ---- the word that leaves a group has its place: the group's node
+
+module _ (builder node entry filled : Code.Builder) (name depth : ℕ) (spent : SpendsNode builder name depth (Done node)) (enters : Grown node entry) (fills : Grown entry filled) where
+  pub group-room : Fits builder → filled .len < filled .members + filled .required + filled .nodes
+  group-room fits = omega (arith, fits .len, spent-room builder node name depth spent, enters .slack, fills .slack)
+
+  pub group-grown : (last : Code.Builder) → last ≡ wordMore filled → Fits last → Grown builder last
+  group-grown last same fits = record {
+    fits = fits;
+    slack = rw same (omega (arith, spent-room builder node name depth spent, enters .slack, fills .slack));
+  }

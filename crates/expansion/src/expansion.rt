@@ -1,0 +1,228 @@
+// The expansion of a message type. The Rust's `add_group` and `add_component` (scope.rs), which call each other by way of the body that both add; each
+// goes one depth down, and the proof that they end falls on the depths left.
+//
+// A body is walked by its lines: a place is the number of a line among the dictionary's lines, from 0. What is added goes into the trace
+// (builder.rt), so that a level needs no memory of its own.
+use crate::builder::Added;
+use crate::builder::Builder;
+use crate::builder::add_field;
+use crate::builder::enter_group;
+use crate::builder::leave_group;
+use crate::builder::spend;
+use crate::seen::contains;
+use dictionary::definitions::component_of;
+use dictionary::definitions::line_numbered;
+use sorting::search::Found;
+use texts::line::Line;
+use texts::refusal::Refusal;
+ghost use mathlib.Core.Path.{_≡_};
+ghost use mathlib.Core.Bool.{_&&_};
+ghost use mathlib.Core.List.{_∷_};
+ghost use Prim.Native.Nat.{_-_, _≤_, _<_};
+ghost use Rattle.layouts.specs.Limits.{gateLimits};
+ghost use Rattle.sorting.specs.Sort.{isIn};
+ghost use Rattle.expansion.specs.DictionaryLookups.{wordLines, dictionaryIn, BodyAt};
+ghost use Rattle.expansion.specs.Expansion.{addGroup, addComponent};
+ghost use Rattle.expansion.specs.ExpansionPromises.{openNames, groupAt, fillAt, outcomeOf, Asks, Fills, Uses};
+
+// The names of the open components, the one opened last first: those from `first` on. The Rust's HashSet of the path.
+pub struct Path {
+    pub names: [u32; 33],
+    pub first: usize,
+}
+
+// A line `group=COUNT,DELIMITER,R`, and the place of the first line of its body.
+pub struct GroupLine {
+    pub count: u32,
+    pub delimiter: u32,
+    pub required: bool,
+    pub first: usize,
+}
+
+// The place behind the end of a body that was added, and what is spent and added then; or the first error met.
+pub enum Filled {
+    UpTo(usize, Builder),
+    Stopped(Refusal),
+}
+
+fn outcome(filled: Filled) -> Added
+    ensures { λ added. ⌜ added ≡ outcomeOf filled ⌝ }
+{
+    match filled {
+        Filled::UpTo(_, builder) => Added::Done(builder),
+        Filled::Stopped(refusal) => Added::Refused(refusal),
+    }
+}
+
+fn both(one: bool, other: bool) -> bool
+    ensures { λ answer. ⌜ answer ≡ one && other ⌝ }
+{
+    one && other
+}
+
+// The component is open on the path.
+fn is_open(path: Path, name: u32) -> bool
+    requires { ⌜ path .first ≤ 33 ⌝ }
+    ensures { λ answer. ⌜ answer ≡ isIn name (openNames path) ⌝ }
+{
+    let first = path.first;
+    let names = path.names;
+    contains(&names[first..33], name)
+}
+
+// The path with one more open component.
+fn opened(path: Path, name: u32) -> Path
+    requires { ⌜ (0 < path .first) × (path .first ≤ 33) ⌝ }
+    ensures names { λ longer. ⌜ openNames longer ≡ name ∷ openNames path ⌝ }
+    ensures first { λ longer. ⌜ longer .first ≡ path .first - 1 ⌝ }
+{
+    let mut names = path.names;
+    let first = path.first - 1;
+    names[first] = name;
+    Path { names, first }
+}
+
+// Adds what is left of the body that is open at `place`, a line at a time: fields, groups and uses.
+pub fn add_body(
+    words: &[u32],
+    place: usize,
+    depth_left: usize,
+    path: Path,
+    collect: bool,
+    trace: &mut [u64],
+    builder: Builder,
+) -> Filled
+    requires { ⌜ Asks (now words) «depth_left» path builder (now trace) × BodyAt (wordLines (now words)) place ⌝ }
+    ensures { λ filled. ⌜ Fills (fillAt (now (words .entry)) «depth_left» (openNames path) collect place) (now (words .entry)) place
+        builder (now (trace .entry)) filled (now (trace .exit)) ⌝ }
+{
+    let mut at = place;
+    let mut so_far = builder;
+    loop {
+        match line_numbered(words, at) {
+            Line::Field(tag, required) => {
+                let needed = both(collect, required);
+                match add_field(trace, so_far, tag, needed) {
+                    Added::Done(next) => {
+                        so_far = next;
+                        at += 1;
+                    }
+                    Added::Refused(refusal) => {
+                        return Filled::Stopped(refusal);
+                    }
+                }
+            }
+            Line::Group(count, delimiter, required) => {
+                let first = at + 1;
+                let group = GroupLine {
+                    count,
+                    delimiter,
+                    required,
+                    first,
+                };
+                match add_group(words, group, depth_left, path, collect, trace, so_far) {
+                    Filled::UpTo(behind, next) => {
+                        at = behind;
+                        so_far = next;
+                    }
+                    Filled::Stopped(refusal) => {
+                        return Filled::Stopped(refusal);
+                    }
+                }
+            }
+            Line::Use(name, required) => {
+                match add_component(
+                    words,
+                    name,
+                    required,
+                    depth_left,
+                    path,
+                    collect,
+                    trace,
+                    so_far,
+                ) {
+                    Added::Done(next) => {
+                        so_far = next;
+                        at += 1;
+                    }
+                    Added::Refused(refusal) => {
+                        return Filled::Stopped(refusal);
+                    }
+                }
+            }
+            _ => {
+                let behind = at + 1;
+                return Filled::UpTo(behind, so_far);
+            }
+        }
+    }
+}
+
+// Adds a group to the level in work, with the level formed by one entry.
+fn add_group(
+    words: &[u32],
+    group: GroupLine,
+    depth_left: usize,
+    path: Path,
+    collect: bool,
+    trace: &mut [u64],
+    builder: Builder,
+) -> Filled
+    requires { ⌜ Asks (now words) «depth_left» path builder (now trace) × BodyAt (wordLines (now words)) (group .first) ⌝ }
+    ensures { λ filled. ⌜ Fills (addGroup gateLimits (dictionaryIn (now (words .entry))) «depth_left» (openNames path) collect (groupAt (now (words .entry)) group))
+        (now (words .entry)) (group .first) builder (now (trace .entry)) filled (now (trace .exit)) ⌝ }
+{
+    match spend(builder, group.count, depth_left) {
+        Added::Refused(refusal) => Filled::Stopped(refusal),
+        Added::Done(node) => {
+            let required = both(group.required, collect);
+            match enter_group(trace, node, group.count, required, group.delimiter) {
+                Added::Refused(refusal) => Filled::Stopped(refusal),
+                Added::Done(entry) => {
+                    let below = depth_left - 1;
+                    match add_body(words, group.first, below, path, true, trace, entry) {
+                        Filled::Stopped(refusal) => Filled::Stopped(refusal),
+                        Filled::UpTo(behind, filled) => {
+                            let last = leave_group(trace, filled, group.delimiter);
+                            Filled::UpTo(behind, last)
+                        }
+                    }
+                }
+            }
+        }
+    }
+}
+
+// Expands a component reference into the level in work.
+fn add_component(
+    words: &[u32],
+    name: u32,
+    required: bool,
+    depth_left: usize,
+    path: Path,
+    collect: bool,
+    trace: &mut [u64],
+    builder: Builder,
+) -> Added
+    requires { ⌜ Asks (now words) «depth_left» path builder (now trace) ⌝ }
+    ensures { λ added. ⌜ Uses (addComponent gateLimits (dictionaryIn (now (words .entry))) «depth_left» (openNames path) collect (record { name = name; required = required }))
+        builder (now (trace .entry)) added (now (trace .exit)) ⌝ }
+{
+    match spend(builder, name, depth_left) {
+        Added::Refused(refusal) => Added::Refused(refusal),
+        Added::Done(node) => {
+            let Found::At(number) = component_of(words, name) else {
+                return Added::Refused(Refusal::ComponentNotDefined(name));
+            };
+            if is_open(path, name) {
+                return Added::Done(node);
+            }
+            let inside = opened(path, name);
+            let needed = both(collect, required);
+            let first = number + 1;
+            let below = depth_left - 1;
+            let filled = add_body(words, first, below, inside, needed, trace, node);
+            outcome(filled)
+        }
+    }
+}
