@@ -1,0 +1,3 @@
+-- Definitions of the crate `gate`: what its calls answer.
+pub mod Outcome
+pub mod OutcomeLaws

@@ -1,0 +1,41 @@
+-- Laws of `Outcome.antt`: what the code of a call makes is the outcome, and the members handed out are the part of the words that it names.
+-- Assumes nothing.
+use mathlib.Core.Path.{_≡_, refl, ap, _∙_}
+use Prim.Native.Nat.{ℕ, _+_}
+use mathlib.Core.List.{List}
+use lib.ListN.{length, getD, take, drop}
+use Rattle.texts.specs.declared.refusal.Refusal.{Refusal}
+use Rattle.texts.specs.Refusal.{refusalNumber, refusalPlace}
+use Rattle.layouts.specs.declared.members.LevelOutcome.the-variants.{Reached, Refused}
+use Rattle.layouts.specs.Limits.{gateLimits}
+use Rattle.layouts.specs.LayoutWords.{stretch}
+use Rattle.layouts.specs.LayoutWordsLaws.{length-stretch, stretch-part}
+use Rattle.layouts.specs.Members.{levelOutcome, levelPart}
+use Rattle.layouts.specs.MembersLaws.{reached-inside, levelPart-reached, levelPart-refused}
+use Rattle.gate.specs.declared.outcome.Outcome.{Outcome}
+use Rattle.gate.specs.Outcome.{refusedWith, answeredWith, membersOutcome}
+
+pub refused-with : (refusal : Refusal) (number place : ℕ) → number ≡ refusalNumber refusal → place ≡ refusalPlace refusal
+    → _≡_ {A = Outcome} (record { refusal = number; place = place; words = 0; extra = 0 }) (refusedWith refusal)
+refused-with refusal number place numbered placed = rw (numbered, placed)
+
+module _ (words path : List ℕ) where
+  -- the outcome of `gate_level_members`, and the part of the words that it names
+  abbrev pub HandsOut : Outcome → Type 0
+  HandsOut outcome = (outcome ≡ membersOutcome words path) × (take (outcome .words) (drop (outcome .extra) words) ≡ levelPart gateLimits words path)
+
+  pub hands-out-members : (members : List ℕ) (number first : ℕ) → levelOutcome gateLimits words path ≡ Reached number
+      → members ≡ stretch words (1 + number) → first ≡ getD words (1 + number) 0
+      → HandsOut (answeredWith (length members) first)
+  unfolding membersOutcome
+  hands-out-members members number first reached read placed = (
+    rw (reached, read, placed),
+    rw (read, placed)
+        (ap (λ (size : ℕ). take size (drop (getD words (1 + number) 0) words)) (length-stretch words (1 + number) (reached-inside gateLimits words path number reached))
+        ∙ stretch-part words (1 + number) _ _ refl refl
+        ∙ rw (levelPart-reached gateLimits words path number reached)),
+  )
+
+  pub hands-out-none : (refusal : Refusal) (outcome : Outcome) → levelOutcome gateLimits words path ≡ Refused refusal → outcome ≡ refusedWith refusal → HandsOut outcome
+  unfolding membersOutcome
+  hands-out-none refusal outcome refused same = rw same (rw refused, rw (levelPart-refused gateLimits words path refusal refused))
