@@ -41,7 +41,7 @@ loop-less : tie.Need-loop-less Inv-loop μ-loop
 loop-less c = search needs
 
 loop-again : tie.Need-loop-again Inv-loop μ-loop
-loop-again c = written-goes-on _ _ _ _ _ _ _ (c .before .before .before .loop .inv) _ _ (c .before .before .loop-test .taken) (c .before .verdict-at .ensures) (c .verdict-word .ensures)
+loop-again c = written-goes-on _ _ _ _ _ _ _ (c .before .before .before .loop .inv) _ _ (omega (arith, c .before .before .loop-test .taken)) (c .before .verdict-at .ensures) (c .verdict-word .ensures)
 
 -- fn write_verdicts(
 same-length : tie.Need-same-length Inv-loop μ-loop
