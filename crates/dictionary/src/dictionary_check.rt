@@ -85,7 +85,7 @@ fn count_of(words: &[u32], lines: usize, kind: u32) -> usize
 }
 
 // The record with this number is of this kind and has this name.
-fn stands_at(words: &[u32], kind: u32, name: u32, number: u32) -> bool
+pub fn stands_at(words: &[u32], kind: u32, name: u32, number: u32) -> bool
     requires { ⌜ (4 ≤ length (now words)) × (4 + 10 * getD (now words) 0 0 ≤ length (now words)) ⌝ }
     ensures { λ answer. ⌜ answer ≡ standsAt kind name number (now (words .entry)) ⌝ }
 {

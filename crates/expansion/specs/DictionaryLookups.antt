@@ -36,11 +36,11 @@ use Rattle.texts.specs.DictionaryOrder.{start}
 use Rattle.dictionary.specs.Records.{recordOf, lineFrom}
 use Rattle.dictionary.specs.RecordsLaws.{Words32}
 use Rattle.dictionary.specs.DictionaryWords.{isOf, nameOf, namesOf, placeOf, recordsOf, indexOf}
-use Rattle.dictionary.specs.DictionaryCheck.{linesFrom, isIndex, tagsAt, componentsAt, messagesAt, sizeOf, isDictionary}
+use Rattle.dictionary.specs.DictionaryCheck.{linesFrom, standsAt, isIndex, tagsAt, componentsAt, messagesAt, sizeOf, isDictionary}
 use Rattle.dictionary.specs.Definitions as Words
 use Rattle.dictionary.specs.DefinitionsLaws.{isDictionary-parts}
 use Rattle.dictionary.specs.DefinitionsLaws as Passed
-use Rattle.dictionary.specs.IndexLaws.{getD-any, index-count, index-words}
+use Rattle.dictionary.specs.IndexLaws.{record-word, record-behind, getD-any, index-count, index-words}
 use Rattle.dictionary.specs.PassAccepted.{accepts-records}
 use Rattle.expansion.specs.Dictionary.{Body, Blocks, Dictionary, FoundBody, nothingRead, usesOf, innermost, aroundIt, before, blocksOf, dictionaryOf, bodyCalled, componentOf, messageOf}
 use Rattle.expansion.specs.Dictionary as Tree
@@ -408,6 +408,21 @@ pub record Begins (words : List ℕ) (place : ℕ) : Type 0 where
   pub inside : place < getD words 0 0
   pub there : BodyAt (wordLines words) (place + 1)
 
+-- a word of the record of a line, among the records of all lines
+record-word-at : (lines : List Line) (number place : ℕ) → number < length lines
+    → place < 10
+    → getD (recordsOf lines) (10 * number + place) 0 ≡ getD (recordOf (getD lines number Unknown)) place 0
+unfolding recordsOf
+record-word-at [] number place inside few = absurd (omega arith)
+record-word-at (line ∷ rest) zero place inside few =
+    let here : 10 * 0 + place ≡ place = omega arith in
+    ap (λ (at : ℕ). getD (recordOf line ++ recordsOf rest) at 0) here ∙ record-word line (recordsOf rest) place few
+record-word-at (line ∷ rest) (suc number) place inside few =
+    let behind : 10 * suc number + place ≡ 10 + (10 * number + place) = omega arith in
+    ap (λ (at : ℕ). getD (recordOf line ++ recordsOf rest) at 0) behind
+    ∙ record-behind line (recordsOf rest) (10 * number + place)
+    ∙ record-word-at rest number place (omega arith) few
+
 module _ (words : List ℕ) (small : Words32 words) (passes : isDictionary words ≡ true) where
   abbrev lines : List Line
   lines = wordLines words
@@ -425,6 +440,28 @@ module _ (words : List ℕ) (small : Words32 words) (passes : isDictionary words
 
   whole : 4 + 10 * length lines ≤ length words
   whole = omega (arith, lines-counted words, known .fits)
+
+  word-at : (number place : ℕ) → number < getD words 0 0
+      → place < 10
+      → getD words (4 + 10 * number + place) 0 ≡ getD (recordOf (getD lines number Unknown)) place 0
+  word-at number place inside few =
+      let counted = lines-counted words in
+      let shift : 4 + 10 * number + place ≡ 4 + (10 * number + place) = omega arith in
+      ap (λ (at : ℕ). getD words at 0) shift
+      ∙ sym (getD-drop 4 words (10 * number + place) 0)
+      ∙ sym (getD-take (10 * length lines) (drop 4 words) (10 * number + place) 0 (omega arith))
+      ∙ ap (λ (each : List ℕ). getD each (10 * number + place) 0) (sym records)
+      ∙ record-word-at lines number place (omega arith) few
+
+  -- the record with a number is that of the line at this place
+  pub stands-line : (kind name number : ℕ) → number < getD words 0 0
+      → standsAt kind name number words ≡ (isOf kind (getD (wordLines words) number Unknown) && eqb (nameOf (getD (wordLines words) number Unknown)) name)
+  unfolding standsAt isOf nameOf
+  stands-line kind name number inside =
+      let same : 4 + 10 * number + 0 ≡ 4 + 10 * number = omega arith in
+      let first : getD words (4 + 10 * number) 0 ≡ getD (recordOf (getD lines number Unknown)) 0 0 =
+      ap (λ (at : ℕ). getD words at 0) (sym same) ∙ word-at number 0 inside (omega arith) in
+      rw (lt-ltb number (getD words 0 0) inside, first, word-at number 1 inside (omega arith)) refl
 
   begins : (kind name : ℕ) → 3 ≤ kind → kind ≤ 6 → placeOf kind name lines < length lines → BodyAt lines (placeOf kind name lines + 1)
   begins kind name from to inside =
@@ -509,6 +546,12 @@ module _ (words : List ℕ) (small : Words32 words) (passes : isDictionary words
         decided-outside 6 letters (λ tree. messageOf tree letters) Tree.Found (messages-first letters) lines (missing-at 6 letters messageIn message-placed missing)
 
   -- the header and the trailer begin behind the first line of their kind, and have no use
+  pub header-comes : placeOf 3 0 (wordLines words) < getD words 0 0
+  header-comes = omega (arith, accepted-header lines (known .accepted), lines-counted words)
+
+  pub trailer-comes : placeOf 4 0 (wordLines words) < getD words 0 0
+  trailer-comes = omega (arith, accepted-trailer lines (known .accepted), lines-counted words)
+
   pub header-begins : (place : ℕ)
       → place ≡ placeOf 3 0 (wordLines words)
       → Begins words place

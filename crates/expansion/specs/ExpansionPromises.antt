@@ -14,7 +14,6 @@ use mathlib.Core.Bool.{Bool, true}
 use mathlib.Core.List.{List}
 use lib.ListN.{length, getD, drop}
 use Rattle.layouts.specs.Limits.{gateLimits}
-use Rattle.dictionary.specs.RecordsLaws.{Words32}
 use Rattle.dictionary.specs.DictionaryCheck.{isDictionary}
 use Rattle.expansion.specs.declared.builder.Builder.{Builder}
 use Rattle.expansion.specs.declared.builder.Added.{Added}
@@ -48,7 +47,6 @@ outcomeOf (UpTo place next) = Done next
 outcomeOf (Stopped refusal) = Refused refusal
 
 pub record Asks (words : List ℕ) (depth : ℕ) (path : Path) (builder : Builder) (trace : List ℕ) : Type 0 where
-  pub small : Words32 words
   pub passed : isDictionary words ≡ true
   pub deep : depth ≤ path .first
   pub names : path .first ≤ 33

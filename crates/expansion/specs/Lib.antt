@@ -14,6 +14,8 @@ pub mod RetainedLaws
 pub mod FillLaws
 pub mod ExpansionPromises
 pub mod ExpansionPromisesLaws
+pub mod BuildPromises
+pub mod BuildPromisesLaws
 pub mod ExpansionInduction
 pub mod ExpansionLaws
 pub mod ExpansionRules

@@ -45,7 +45,7 @@ pub enum Filled {
     Stopped(Refusal),
 }
 
-fn outcome(filled: Filled) -> Added
+pub fn outcome(filled: Filled) -> Added
     ensures { λ added. ⌜ added ≡ outcomeOf filled ⌝ }
 {
     match filled {

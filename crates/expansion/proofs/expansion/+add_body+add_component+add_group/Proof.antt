@@ -93,7 +93,7 @@ add-body-loop-holds t c = body-begins _ _ _ _ _ _ _ (c .before .before .pre .1 .
 
 -- match line_numbered(words, at) {
 add-body-line-numbered-requires : (t : ℕ) → add-body-lts.Need-line-numbered-requires (add-body-claims t) (add-body-at t) add-body.Post add-body-Inv-loop add-body-μ-loop
-add-body-line-numbered-requires t c κs = (c .before .before .before .pre .1 .0 .passed, body-inside (c .before .before .before .args .words .now) (c .before .before .before .pre .1 .0 .small) (c .before .before .before .pre .1 .0 .passed) (c .before .before .before .args .depth-left) (openNames (c .before .before .before .args .path)) (c .before .before .before .args .collect) (c .before .before .before .args .place) (c .before .before .before .args .builder) (c .before .before .before .args .trace .now) (c .loop .at) (c .loop .so-far) _ (c .loop .inv))
+add-body-line-numbered-requires t c κs = (c .before .before .before .pre .1 .0 .passed, body-inside (c .before .before .before .args .words .now) (λ place. (c .before .before .shared-slice-known .given place) .fits) (c .before .before .before .pre .1 .0 .passed) (c .before .before .before .args .depth-left) (openNames (c .before .before .before .args .path)) (c .before .before .before .args .collect) (c .before .before .before .args .place) (c .before .before .before .args .builder) (c .before .before .before .args .trace .now) (c .loop .at) (c .loop .so-far) _ (c .loop .inv))
 
 -- Line::Field(tag, required) => {
 add-body-enum-known-tag : (t : ℕ) → add-body-lts.Need-enum-known-tag (add-body-claims t) (add-body-at t) add-body.Post add-body-Inv-loop add-body-μ-loop
@@ -113,14 +113,14 @@ add-body-enum-known-next t c = search needs
 
 -- at += 1;
 add-body-add-at : (t : ℕ) → add-body-lts.Need-add-at (add-body-claims t) (add-body-at t) add-body.Post add-body-Inv-loop add-body-μ-loop
-add-body-add-at t c = omega (arith, body-inside (c .before .before .before .before .before .before .before .before .before .before .before .before .before .before .before .args .words .now) (c .before .before .before .before .before .before .before .before .before .before .before .before .before .before .before .pre .1 .0 .small) (c .before .before .before .before .before .before .before .before .before .before .before .before .before .before .before .pre .1 .0 .passed) (c .before .before .before .before .before .before .before .before .before .before .before .before .before .before .before .args .depth-left) (openNames (c .before .before .before .before .before .before .before .before .before .before .before .before .before .before .before .args .path)) (c .before .before .before .before .before .before .before .before .before .before .before .before .before .before .before .args .collect) (c .before .before .before .before .before .before .before .before .before .before .before .before .before .before .before .args .place) (c .before .before .before .before .before .before .before .before .before .before .before .before .before .before .before .args .builder) (c .before .before .before .before .before .before .before .before .before .before .before .before .before .before .before .args .trace .now) (c .before .before .before .before .before .before .before .before .before .before .before .before .loop .at) (c .before .before .before .before .before .before .before .before .before .before .before .before .loop .so-far) _ (c .before .before .before .before .before .before .before .before .before .before .before .before .loop .inv), isDictionary-parts (c .before .before .before .before .before .before .before .before .before .before .before .before .before .before .before .args .words .now) (c .before .before .before .before .before .before .before .before .before .before .before .before .before .before .before .pre .1 .0 .passed) .fits)
+add-body-add-at t c = omega (arith, body-inside (c .before .before .before .before .before .before .before .before .before .before .before .before .before .before .before .args .words .now) (λ place. (c .before .before .before .before .before .before .before .before .before .before .before .before .before .before .shared-slice-known .given place) .fits) (c .before .before .before .before .before .before .before .before .before .before .before .before .before .before .before .pre .1 .0 .passed) (c .before .before .before .before .before .before .before .before .before .before .before .before .before .before .before .args .depth-left) (openNames (c .before .before .before .before .before .before .before .before .before .before .before .before .before .before .before .args .path)) (c .before .before .before .before .before .before .before .before .before .before .before .before .before .before .before .args .collect) (c .before .before .before .before .before .before .before .before .before .before .before .before .before .before .before .args .place) (c .before .before .before .before .before .before .before .before .before .before .before .before .before .before .before .args .builder) (c .before .before .before .before .before .before .before .before .before .before .before .before .before .before .before .args .trace .now) (c .before .before .before .before .before .before .before .before .before .before .before .before .loop .at) (c .before .before .before .before .before .before .before .before .before .before .before .before .loop .so-far) _ (c .before .before .before .before .before .before .before .before .before .before .before .before .loop .inv), isDictionary-parts (c .before .before .before .before .before .before .before .before .before .before .before .before .before .before .before .args .words .now) (c .before .before .before .before .before .before .before .before .before .before .before .before .before .before .before .pre .1 .0 .passed) .fits)
 
 -- loop {
 add-body-loop-less : (t : ℕ) → add-body-lts.Need-loop-less (add-body-claims t) (add-body-at t) add-body.Post add-body-Inv-loop add-body-μ-loop
-add-body-loop-less t c = omega (arith, body-inside (c .before .before .before .before .before .before .before .before .before .before .before .before .before .before .before .args .words .now) (c .before .before .before .before .before .before .before .before .before .before .before .before .before .before .before .pre .1 .0 .small) (c .before .before .before .before .before .before .before .before .before .before .before .before .before .before .before .pre .1 .0 .passed) (c .before .before .before .before .before .before .before .before .before .before .before .before .before .before .before .args .depth-left) (openNames (c .before .before .before .before .before .before .before .before .before .before .before .before .before .before .before .args .path)) (c .before .before .before .before .before .before .before .before .before .before .before .before .before .before .before .args .collect) (c .before .before .before .before .before .before .before .before .before .before .before .before .before .before .before .args .place) (c .before .before .before .before .before .before .before .before .before .before .before .before .before .before .before .args .builder) (c .before .before .before .before .before .before .before .before .before .before .before .before .before .before .before .args .trace .now) (c .before .before .before .before .before .before .before .before .before .before .before .before .loop .at) (c .before .before .before .before .before .before .before .before .before .before .before .before .loop .so-far) _ (c .before .before .before .before .before .before .before .before .before .before .before .before .loop .inv))
+add-body-loop-less t c = omega (arith, body-inside (c .before .before .before .before .before .before .before .before .before .before .before .before .before .before .before .args .words .now) (λ place. (c .before .before .before .before .before .before .before .before .before .before .before .before .before .before .shared-slice-known .given place) .fits) (c .before .before .before .before .before .before .before .before .before .before .before .before .before .before .before .pre .1 .0 .passed) (c .before .before .before .before .before .before .before .before .before .before .before .before .before .before .before .args .depth-left) (openNames (c .before .before .before .before .before .before .before .before .before .before .before .before .before .before .before .args .path)) (c .before .before .before .before .before .before .before .before .before .before .before .before .before .before .before .args .collect) (c .before .before .before .before .before .before .before .before .before .before .before .before .before .before .before .args .place) (c .before .before .before .before .before .before .before .before .before .before .before .before .before .before .before .args .builder) (c .before .before .before .before .before .before .before .before .before .before .before .before .before .before .before .args .trace .now) (c .before .before .before .before .before .before .before .before .before .before .before .before .loop .at) (c .before .before .before .before .before .before .before .before .before .before .before .before .loop .so-far) _ (c .before .before .before .before .before .before .before .before .before .before .before .before .loop .inv))
 
 add-body-loop-again : (t : ℕ) → add-body-lts.Need-loop-again (add-body-claims t) (add-body-at t) add-body.Post add-body-Inv-loop add-body-μ-loop
-add-body-loop-again t c = body-field (c .before .before .before .before .before .before .before .before .before .before .before .before .before .before .before .args .words .now) (c .before .before .before .before .before .before .before .before .before .before .before .before .before .before .before .pre .1 .0 .small) (c .before .before .before .before .before .before .before .before .before .before .before .before .before .before .before .pre .1 .0 .passed) (c .before .before .before .before .before .before .before .before .before .before .before .before .before .before .before .args .depth-left) (openNames (c .before .before .before .before .before .before .before .before .before .before .before .before .before .before .before .args .path)) (c .before .before .before .before .before .before .before .before .before .before .before .before .before .before .before .args .collect) (c .before .before .before .before .before .before .before .before .before .before .before .before .before .before .before .args .place) (c .before .before .before .before .before .before .before .before .before .before .before .before .before .before .before .args .builder) (c .before .before .before .before .before .before .before .before .before .before .before .before .before .before .before .args .trace .now) (c .before .before .before .before .before .before .before .before .before .before .before .before .loop .at) (c .before .before .before .before .before .before .before .before .before .before .before .before .loop .so-far) _ (c .before .before .before .before .before .before .before .before .before .before .before .before .loop .inv) _ _ _ (sym (line-at (c .before .before .before .before .before .before .before .before .before .before .before .before .before .before .before .args .words .now) (c .before .before .before .before .before .before .before .before .before .before .before .before .loop .at) (body-inside (c .before .before .before .before .before .before .before .before .before .before .before .before .before .before .before .args .words .now) (c .before .before .before .before .before .before .before .before .before .before .before .before .before .before .before .pre .1 .0 .small) (c .before .before .before .before .before .before .before .before .before .before .before .before .before .before .before .pre .1 .0 .passed) (c .before .before .before .before .before .before .before .before .before .before .before .before .before .before .before .args .depth-left) (openNames (c .before .before .before .before .before .before .before .before .before .before .before .before .before .before .before .args .path)) (c .before .before .before .before .before .before .before .before .before .before .before .before .before .before .before .args .collect) (c .before .before .before .before .before .before .before .before .before .before .before .before .before .before .before .args .place) (c .before .before .before .before .before .before .before .before .before .before .before .before .before .before .before .args .builder) (c .before .before .before .before .before .before .before .before .before .before .before .before .before .before .before .args .trace .now) (c .before .before .before .before .before .before .before .before .before .before .before .before .loop .at) (c .before .before .before .before .before .before .before .before .before .before .before .before .loop .so-far) _ (c .before .before .before .before .before .before .before .before .before .before .before .before .loop .inv))) ∙ sym (c .before .before .before .before .before .before .before .before .before .before .before .line-numbered .ensures) ∙ c .before .before .before .before .before .before .before .before .before .tag .given .1) (c .before .before .before .before .before .before .before .both .ensures) _ _ (rw (c .before .next .given .1) at (c .before .before .before .before .before .add-field .ensures .0)) (rw (c .before .next .given .1) at (c .before .before .before .before .before .add-field .ensures .1)) (c .before .before .before .before .before .add-field .kept .0)
+add-body-loop-again t c = body-field (c .before .before .before .before .before .before .before .before .before .before .before .before .before .before .before .args .words .now) (λ place. (c .before .before .before .before .before .before .before .before .before .before .before .before .before .before .shared-slice-known .given place) .fits) (c .before .before .before .before .before .before .before .before .before .before .before .before .before .before .before .pre .1 .0 .passed) (c .before .before .before .before .before .before .before .before .before .before .before .before .before .before .before .args .depth-left) (openNames (c .before .before .before .before .before .before .before .before .before .before .before .before .before .before .before .args .path)) (c .before .before .before .before .before .before .before .before .before .before .before .before .before .before .before .args .collect) (c .before .before .before .before .before .before .before .before .before .before .before .before .before .before .before .args .place) (c .before .before .before .before .before .before .before .before .before .before .before .before .before .before .before .args .builder) (c .before .before .before .before .before .before .before .before .before .before .before .before .before .before .before .args .trace .now) (c .before .before .before .before .before .before .before .before .before .before .before .before .loop .at) (c .before .before .before .before .before .before .before .before .before .before .before .before .loop .so-far) _ (c .before .before .before .before .before .before .before .before .before .before .before .before .loop .inv) _ _ _ (sym (line-at (c .before .before .before .before .before .before .before .before .before .before .before .before .before .before .before .args .words .now) (c .before .before .before .before .before .before .before .before .before .before .before .before .loop .at) (body-inside (c .before .before .before .before .before .before .before .before .before .before .before .before .before .before .before .args .words .now) (λ place. (c .before .before .before .before .before .before .before .before .before .before .before .before .before .before .shared-slice-known .given place) .fits) (c .before .before .before .before .before .before .before .before .before .before .before .before .before .before .before .pre .1 .0 .passed) (c .before .before .before .before .before .before .before .before .before .before .before .before .before .before .before .args .depth-left) (openNames (c .before .before .before .before .before .before .before .before .before .before .before .before .before .before .before .args .path)) (c .before .before .before .before .before .before .before .before .before .before .before .before .before .before .before .args .collect) (c .before .before .before .before .before .before .before .before .before .before .before .before .before .before .before .args .place) (c .before .before .before .before .before .before .before .before .before .before .before .before .before .before .before .args .builder) (c .before .before .before .before .before .before .before .before .before .before .before .before .before .before .before .args .trace .now) (c .before .before .before .before .before .before .before .before .before .before .before .before .loop .at) (c .before .before .before .before .before .before .before .before .before .before .before .before .loop .so-far) _ (c .before .before .before .before .before .before .before .before .before .before .before .before .loop .inv))) ∙ sym (c .before .before .before .before .before .before .before .before .before .before .before .line-numbered .ensures) ∙ c .before .before .before .before .before .before .before .before .before .tag .given .1) (c .before .before .before .before .before .before .before .both .ensures) _ _ (rw (c .before .next .given .1) at (c .before .before .before .before .before .add-field .ensures .0)) (rw (c .before .next .given .1) at (c .before .before .before .before .before .add-field .ensures .1)) (c .before .before .before .before .before .add-field .kept .0)
 
 -- Added::Refused(refusal) => {
 add-body-enum-known-refusal : (t : ℕ) → add-body-lts.Need-enum-known-refusal (add-body-claims t) (add-body-at t) add-body.Post add-body-Inv-loop add-body-μ-loop
@@ -131,7 +131,7 @@ add-body-same-length : (t : ℕ) → add-body-lts.Need-same-length (add-body-cla
 add-body-same-length t c = c .before .before .before .before .before .add-field .kept .0 ∙ c .before .before .before .before .before .before .before .before .before .before .before .before .loop .inv .size
 
 add-body-returns : (t : ℕ) → add-body-lts.Need-returns (add-body-claims t) (add-body-at t) add-body.Post add-body-Inv-loop add-body-μ-loop
-add-body-returns t c = body-field-over (c .before .before .before .before .before .before .before .before .before .before .before .before .before .before .before .args .words .now) (c .before .before .before .before .before .before .before .before .before .before .before .before .before .before .before .pre .1 .0 .small) (c .before .before .before .before .before .before .before .before .before .before .before .before .before .before .before .pre .1 .0 .passed) (c .before .before .before .before .before .before .before .before .before .before .before .before .before .before .before .args .depth-left) (openNames (c .before .before .before .before .before .before .before .before .before .before .before .before .before .before .before .args .path)) (c .before .before .before .before .before .before .before .before .before .before .before .before .before .before .before .args .collect) (c .before .before .before .before .before .before .before .before .before .before .before .before .before .before .before .args .place) (c .before .before .before .before .before .before .before .before .before .before .before .before .before .before .before .args .builder) (c .before .before .before .before .before .before .before .before .before .before .before .before .before .before .before .args .trace .now) (c .before .before .before .before .before .before .before .before .before .before .before .before .loop .at) (c .before .before .before .before .before .before .before .before .before .before .before .before .loop .so-far) _ (c .before .before .before .before .before .before .before .before .before .before .before .before .loop .inv) _ _ _ (sym (line-at (c .before .before .before .before .before .before .before .before .before .before .before .before .before .before .before .args .words .now) (c .before .before .before .before .before .before .before .before .before .before .before .before .loop .at) (body-inside (c .before .before .before .before .before .before .before .before .before .before .before .before .before .before .before .args .words .now) (c .before .before .before .before .before .before .before .before .before .before .before .before .before .before .before .pre .1 .0 .small) (c .before .before .before .before .before .before .before .before .before .before .before .before .before .before .before .pre .1 .0 .passed) (c .before .before .before .before .before .before .before .before .before .before .before .before .before .before .before .args .depth-left) (openNames (c .before .before .before .before .before .before .before .before .before .before .before .before .before .before .before .args .path)) (c .before .before .before .before .before .before .before .before .before .before .before .before .before .before .before .args .collect) (c .before .before .before .before .before .before .before .before .before .before .before .before .before .before .before .args .place) (c .before .before .before .before .before .before .before .before .before .before .before .before .before .before .before .args .builder) (c .before .before .before .before .before .before .before .before .before .before .before .before .before .before .before .args .trace .now) (c .before .before .before .before .before .before .before .before .before .before .before .before .loop .at) (c .before .before .before .before .before .before .before .before .before .before .before .before .loop .so-far) _ (c .before .before .before .before .before .before .before .before .before .before .before .before .loop .inv))) ∙ sym (c .before .before .before .before .before .before .before .before .before .before .before .line-numbered .ensures) ∙ c .before .before .before .before .before .before .before .before .before .tag .given .1) (c .before .before .before .before .before .before .before .both .ensures) _ _ _ (rw (c .before .refusal .given .1) at (c .before .before .before .before .before .add-field .ensures .0))
+add-body-returns t c = body-field-over (c .before .before .before .before .before .before .before .before .before .before .before .before .before .before .before .args .words .now) (λ place. (c .before .before .before .before .before .before .before .before .before .before .before .before .before .before .shared-slice-known .given place) .fits) (c .before .before .before .before .before .before .before .before .before .before .before .before .before .before .before .pre .1 .0 .passed) (c .before .before .before .before .before .before .before .before .before .before .before .before .before .before .before .args .depth-left) (openNames (c .before .before .before .before .before .before .before .before .before .before .before .before .before .before .before .args .path)) (c .before .before .before .before .before .before .before .before .before .before .before .before .before .before .before .args .collect) (c .before .before .before .before .before .before .before .before .before .before .before .before .before .before .before .args .place) (c .before .before .before .before .before .before .before .before .before .before .before .before .before .before .before .args .builder) (c .before .before .before .before .before .before .before .before .before .before .before .before .before .before .before .args .trace .now) (c .before .before .before .before .before .before .before .before .before .before .before .before .loop .at) (c .before .before .before .before .before .before .before .before .before .before .before .before .loop .so-far) _ (c .before .before .before .before .before .before .before .before .before .before .before .before .loop .inv) _ _ _ (sym (line-at (c .before .before .before .before .before .before .before .before .before .before .before .before .before .before .before .args .words .now) (c .before .before .before .before .before .before .before .before .before .before .before .before .loop .at) (body-inside (c .before .before .before .before .before .before .before .before .before .before .before .before .before .before .before .args .words .now) (λ place. (c .before .before .before .before .before .before .before .before .before .before .before .before .before .before .shared-slice-known .given place) .fits) (c .before .before .before .before .before .before .before .before .before .before .before .before .before .before .before .pre .1 .0 .passed) (c .before .before .before .before .before .before .before .before .before .before .before .before .before .before .before .args .depth-left) (openNames (c .before .before .before .before .before .before .before .before .before .before .before .before .before .before .before .args .path)) (c .before .before .before .before .before .before .before .before .before .before .before .before .before .before .before .args .collect) (c .before .before .before .before .before .before .before .before .before .before .before .before .before .before .before .args .place) (c .before .before .before .before .before .before .before .before .before .before .before .before .before .before .before .args .builder) (c .before .before .before .before .before .before .before .before .before .before .before .before .before .before .before .args .trace .now) (c .before .before .before .before .before .before .before .before .before .before .before .before .loop .at) (c .before .before .before .before .before .before .before .before .before .before .before .before .loop .so-far) _ (c .before .before .before .before .before .before .before .before .before .before .before .before .loop .inv))) ∙ sym (c .before .before .before .before .before .before .before .before .before .before .before .line-numbered .ensures) ∙ c .before .before .before .before .before .before .before .before .before .tag .given .1) (c .before .before .before .before .before .before .before .both .ensures) _ _ _ (rw (c .before .refusal .given .1) at (c .before .before .before .before .before .add-field .ensures .0))
 
 -- Line::Group(count, delimiter, required) => {
 add-body-enum-known-count : (t : ℕ) → add-body-lts.Need-enum-known-count (add-body-claims t) (add-body-at t) add-body.Post add-body-Inv-loop add-body-μ-loop
@@ -139,11 +139,11 @@ add-body-enum-known-count t c = search needs
 
 -- let first = at + 1;
 add-body-add-first : (t : ℕ) → add-body-lts.Need-add-first (add-body-claims t) (add-body-at t) add-body.Post add-body-Inv-loop add-body-μ-loop
-add-body-add-first t c = omega (arith, body-inside (c .before .before .before .before .before .before .before .args .words .now) (c .before .before .before .before .before .before .before .pre .1 .0 .small) (c .before .before .before .before .before .before .before .pre .1 .0 .passed) (c .before .before .before .before .before .before .before .args .depth-left) (openNames (c .before .before .before .before .before .before .before .args .path)) (c .before .before .before .before .before .before .before .args .collect) (c .before .before .before .before .before .before .before .args .place) (c .before .before .before .before .before .before .before .args .builder) (c .before .before .before .before .before .before .before .args .trace .now) (c .before .before .before .before .loop .at) (c .before .before .before .before .loop .so-far) _ (c .before .before .before .before .loop .inv), isDictionary-parts (c .before .before .before .before .before .before .before .args .words .now) (c .before .before .before .before .before .before .before .pre .1 .0 .passed) .fits)
+add-body-add-first t c = omega (arith, body-inside (c .before .before .before .before .before .before .before .args .words .now) (λ place. (c .before .before .before .before .before .before .shared-slice-known .given place) .fits) (c .before .before .before .before .before .before .before .pre .1 .0 .passed) (c .before .before .before .before .before .before .before .args .depth-left) (openNames (c .before .before .before .before .before .before .before .args .path)) (c .before .before .before .before .before .before .before .args .collect) (c .before .before .before .before .before .before .before .args .place) (c .before .before .before .before .before .before .before .args .builder) (c .before .before .before .before .before .before .before .args .trace .now) (c .before .before .before .before .loop .at) (c .before .before .before .before .loop .so-far) _ (c .before .before .before .before .loop .inv), isDictionary-parts (c .before .before .before .before .before .before .before .args .words .now) (c .before .before .before .before .before .before .before .pre .1 .0 .passed) .fits)
 
 -- match add_group(words, group, depth_left, path, collect, trace, so_far) {
 add-body-add-group-requires : (t : ℕ) → add-body-lts.Need-add-group-requires (add-body-claims t) (add-body-at t) add-body.Post add-body-Inv-loop add-body-μ-loop
-add-body-add-group-requires t c κs = (omega (arith, c .before .before .before .before .before .before .before .before .pre .0), (record { small = c .before .before .before .before .before .before .before .before .pre .1 .0 .small; passed = c .before .before .before .before .before .before .before .before .pre .1 .0 .passed; deep = c .before .before .before .before .before .before .before .before .pre .1 .0 .deep; names = c .before .before .before .before .before .before .before .before .pre .1 .0 .names; fits = c .before .before .before .before .before .loop .inv .grown .fits; size = omega (arith, c .before .before .before .before .before .loop .inv .size, c .before .before .before .before .before .before .before .before .pre .1 .0 .size) }, group-there (c .before .before .before .before .before .before .before .before .args .words .now) (c .before .before .before .before .before .before .before .before .pre .1 .0 .small) (c .before .before .before .before .before .before .before .before .pre .1 .0 .passed) (c .before .before .before .before .before .before .before .before .args .depth-left) (openNames (c .before .before .before .before .before .before .before .before .args .path)) (c .before .before .before .before .before .before .before .before .args .collect) (c .before .before .before .before .before .before .before .before .args .place) (c .before .before .before .before .before .before .before .before .args .builder) (c .before .before .before .before .before .before .before .before .args .trace .now) (c .before .before .before .before .before .loop .at) (c .before .before .before .before .before .loop .so-far) _ (c .before .before .before .before .before .loop .inv) _ _ _ (sym (line-at (c .before .before .before .before .before .before .before .before .args .words .now) (c .before .before .before .before .before .loop .at) (body-inside (c .before .before .before .before .before .before .before .before .args .words .now) (c .before .before .before .before .before .before .before .before .pre .1 .0 .small) (c .before .before .before .before .before .before .before .before .pre .1 .0 .passed) (c .before .before .before .before .before .before .before .before .args .depth-left) (openNames (c .before .before .before .before .before .before .before .before .args .path)) (c .before .before .before .before .before .before .before .before .args .collect) (c .before .before .before .before .before .before .before .before .args .place) (c .before .before .before .before .before .before .before .before .args .builder) (c .before .before .before .before .before .before .before .before .args .trace .now) (c .before .before .before .before .before .loop .at) (c .before .before .before .before .before .loop .so-far) _ (c .before .before .before .before .before .loop .inv))) ∙ sym (c .before .before .before .before .line-numbered .ensures) ∙ c .before .before .count .given .1)))
+add-body-add-group-requires t c κs = (omega (arith, c .before .before .before .before .before .before .before .before .pre .0), (record { passed = c .before .before .before .before .before .before .before .before .pre .1 .0 .passed; deep = c .before .before .before .before .before .before .before .before .pre .1 .0 .deep; names = c .before .before .before .before .before .before .before .before .pre .1 .0 .names; fits = c .before .before .before .before .before .loop .inv .grown .fits; size = omega (arith, c .before .before .before .before .before .loop .inv .size, c .before .before .before .before .before .before .before .before .pre .1 .0 .size) }, group-there (c .before .before .before .before .before .before .before .before .args .words .now) (λ place. (c .before .before .before .before .before .before .before .shared-slice-known .given place) .fits) (c .before .before .before .before .before .before .before .before .pre .1 .0 .passed) (c .before .before .before .before .before .before .before .before .args .depth-left) (openNames (c .before .before .before .before .before .before .before .before .args .path)) (c .before .before .before .before .before .before .before .before .args .collect) (c .before .before .before .before .before .before .before .before .args .place) (c .before .before .before .before .before .before .before .before .args .builder) (c .before .before .before .before .before .before .before .before .args .trace .now) (c .before .before .before .before .before .loop .at) (c .before .before .before .before .before .loop .so-far) _ (c .before .before .before .before .before .loop .inv) _ _ _ (sym (line-at (c .before .before .before .before .before .before .before .before .args .words .now) (c .before .before .before .before .before .loop .at) (body-inside (c .before .before .before .before .before .before .before .before .args .words .now) (λ place. (c .before .before .before .before .before .before .before .shared-slice-known .given place) .fits) (c .before .before .before .before .before .before .before .before .pre .1 .0 .passed) (c .before .before .before .before .before .before .before .before .args .depth-left) (openNames (c .before .before .before .before .before .before .before .before .args .path)) (c .before .before .before .before .before .before .before .before .args .collect) (c .before .before .before .before .before .before .before .before .args .place) (c .before .before .before .before .before .before .before .before .args .builder) (c .before .before .before .before .before .before .before .before .args .trace .now) (c .before .before .before .before .before .loop .at) (c .before .before .before .before .before .loop .so-far) _ (c .before .before .before .before .before .loop .inv))) ∙ sym (c .before .before .before .before .line-numbered .ensures) ∙ c .before .before .count .given .1)))
 
 -- Filled::UpTo(behind, next) => {
 add-body-enum-known-behind : (t : ℕ) → add-body-lts.Need-enum-known-behind (add-body-claims t) (add-body-at t) add-body.Post add-body-Inv-loop add-body-μ-loop
@@ -154,7 +154,7 @@ add-body-loop-less-2 : (t : ℕ) → add-body-lts.Need-loop-less-2 (add-body-cla
 add-body-loop-less-2 t c = let moved = (rw (c .before .behind .given .1) at (c .before .before .before .before .before .add-group .ensures)) .ends in omega (arith, moved .0, moved .1 .0)
 
 add-body-loop-again-2 : (t : ℕ) → add-body-lts.Need-loop-again-2 (add-body-claims t) (add-body-at t) add-body.Post add-body-Inv-loop add-body-μ-loop
-add-body-loop-again-2 t c = body-group (c .before .before .before .before .before .before .before .before .before .before .before .before .before .before .args .words .now) (c .before .before .before .before .before .before .before .before .before .before .before .before .before .before .pre .1 .0 .small) (c .before .before .before .before .before .before .before .before .before .before .before .before .before .before .pre .1 .0 .passed) (c .before .before .before .before .before .before .before .before .before .before .before .before .before .before .args .depth-left) (openNames (c .before .before .before .before .before .before .before .before .before .before .before .before .before .before .args .path)) (c .before .before .before .before .before .before .before .before .before .before .before .before .before .before .args .collect) (c .before .before .before .before .before .before .before .before .before .before .before .before .before .before .args .place) (c .before .before .before .before .before .before .before .before .before .before .before .before .before .before .args .builder) (c .before .before .before .before .before .before .before .before .before .before .before .before .before .before .args .trace .now) (c .before .before .before .before .before .before .before .before .before .before .before .loop .at) (c .before .before .before .before .before .before .before .before .before .before .before .loop .so-far) _ (c .before .before .before .before .before .before .before .before .before .before .before .loop .inv) _ _ _ (sym (line-at (c .before .before .before .before .before .before .before .before .before .before .before .before .before .before .args .words .now) (c .before .before .before .before .before .before .before .before .before .before .before .loop .at) (body-inside (c .before .before .before .before .before .before .before .before .before .before .before .before .before .before .args .words .now) (c .before .before .before .before .before .before .before .before .before .before .before .before .before .before .pre .1 .0 .small) (c .before .before .before .before .before .before .before .before .before .before .before .before .before .before .pre .1 .0 .passed) (c .before .before .before .before .before .before .before .before .before .before .before .before .before .before .args .depth-left) (openNames (c .before .before .before .before .before .before .before .before .before .before .before .before .before .before .args .path)) (c .before .before .before .before .before .before .before .before .before .before .before .before .before .before .args .collect) (c .before .before .before .before .before .before .before .before .before .before .before .before .before .before .args .place) (c .before .before .before .before .before .before .before .before .before .before .before .before .before .before .args .builder) (c .before .before .before .before .before .before .before .before .before .before .before .before .before .before .args .trace .now) (c .before .before .before .before .before .before .before .before .before .before .before .loop .at) (c .before .before .before .before .before .before .before .before .before .before .before .loop .so-far) _ (c .before .before .before .before .before .before .before .before .before .before .before .loop .inv))) ∙ sym (c .before .before .before .before .before .before .before .before .before .before .line-numbered .ensures) ∙ c .before .before .before .before .before .before .before .before .count .given .1) _ _ _ (rw (c .before .behind .given .1) at (c .before .before .before .before .before .add-group .ensures)) (c .before .before .before .before .before .add-group .kept .1 .1 .1 .1 .1 .0)
+add-body-loop-again-2 t c = body-group (c .before .before .before .before .before .before .before .before .before .before .before .before .before .before .args .words .now) (λ place. (c .before .before .before .before .before .before .before .before .before .before .before .before .before .shared-slice-known .given place) .fits) (c .before .before .before .before .before .before .before .before .before .before .before .before .before .before .pre .1 .0 .passed) (c .before .before .before .before .before .before .before .before .before .before .before .before .before .before .args .depth-left) (openNames (c .before .before .before .before .before .before .before .before .before .before .before .before .before .before .args .path)) (c .before .before .before .before .before .before .before .before .before .before .before .before .before .before .args .collect) (c .before .before .before .before .before .before .before .before .before .before .before .before .before .before .args .place) (c .before .before .before .before .before .before .before .before .before .before .before .before .before .before .args .builder) (c .before .before .before .before .before .before .before .before .before .before .before .before .before .before .args .trace .now) (c .before .before .before .before .before .before .before .before .before .before .before .loop .at) (c .before .before .before .before .before .before .before .before .before .before .before .loop .so-far) _ (c .before .before .before .before .before .before .before .before .before .before .before .loop .inv) _ _ _ (sym (line-at (c .before .before .before .before .before .before .before .before .before .before .before .before .before .before .args .words .now) (c .before .before .before .before .before .before .before .before .before .before .before .loop .at) (body-inside (c .before .before .before .before .before .before .before .before .before .before .before .before .before .before .args .words .now) (λ place. (c .before .before .before .before .before .before .before .before .before .before .before .before .before .shared-slice-known .given place) .fits) (c .before .before .before .before .before .before .before .before .before .before .before .before .before .before .pre .1 .0 .passed) (c .before .before .before .before .before .before .before .before .before .before .before .before .before .before .args .depth-left) (openNames (c .before .before .before .before .before .before .before .before .before .before .before .before .before .before .args .path)) (c .before .before .before .before .before .before .before .before .before .before .before .before .before .before .args .collect) (c .before .before .before .before .before .before .before .before .before .before .before .before .before .before .args .place) (c .before .before .before .before .before .before .before .before .before .before .before .before .before .before .args .builder) (c .before .before .before .before .before .before .before .before .before .before .before .before .before .before .args .trace .now) (c .before .before .before .before .before .before .before .before .before .before .before .loop .at) (c .before .before .before .before .before .before .before .before .before .before .before .loop .so-far) _ (c .before .before .before .before .before .before .before .before .before .before .before .loop .inv))) ∙ sym (c .before .before .before .before .before .before .before .before .before .before .line-numbered .ensures) ∙ c .before .before .before .before .before .before .before .before .count .given .1) _ _ _ (rw (c .before .behind .given .1) at (c .before .before .before .before .before .add-group .ensures)) (c .before .before .before .before .before .add-group .kept .1 .1 .1 .1 .1 .0)
 
 -- Filled::Stopped(refusal) => {
 add-body-enum-known-refusal-2 : (t : ℕ) → add-body-lts.Need-enum-known-refusal-2 (add-body-claims t) (add-body-at t) add-body.Post add-body-Inv-loop add-body-μ-loop
@@ -165,7 +165,7 @@ add-body-same-length-2 : (t : ℕ) → add-body-lts.Need-same-length-2 (add-body
 add-body-same-length-2 t c = c .before .before .before .before .before .add-group .kept .1 .1 .1 .1 .1 .0 ∙ c .before .before .before .before .before .before .before .before .before .before .before .loop .inv .size
 
 add-body-returns-2 : (t : ℕ) → add-body-lts.Need-returns-2 (add-body-claims t) (add-body-at t) add-body.Post add-body-Inv-loop add-body-μ-loop
-add-body-returns-2 t c = body-group-over (c .before .before .before .before .before .before .before .before .before .before .before .before .before .before .args .words .now) (c .before .before .before .before .before .before .before .before .before .before .before .before .before .before .pre .1 .0 .small) (c .before .before .before .before .before .before .before .before .before .before .before .before .before .before .pre .1 .0 .passed) (c .before .before .before .before .before .before .before .before .before .before .before .before .before .before .args .depth-left) (openNames (c .before .before .before .before .before .before .before .before .before .before .before .before .before .before .args .path)) (c .before .before .before .before .before .before .before .before .before .before .before .before .before .before .args .collect) (c .before .before .before .before .before .before .before .before .before .before .before .before .before .before .args .place) (c .before .before .before .before .before .before .before .before .before .before .before .before .before .before .args .builder) (c .before .before .before .before .before .before .before .before .before .before .before .before .before .before .args .trace .now) (c .before .before .before .before .before .before .before .before .before .before .before .loop .at) (c .before .before .before .before .before .before .before .before .before .before .before .loop .so-far) _ (c .before .before .before .before .before .before .before .before .before .before .before .loop .inv) _ _ _ (sym (line-at (c .before .before .before .before .before .before .before .before .before .before .before .before .before .before .args .words .now) (c .before .before .before .before .before .before .before .before .before .before .before .loop .at) (body-inside (c .before .before .before .before .before .before .before .before .before .before .before .before .before .before .args .words .now) (c .before .before .before .before .before .before .before .before .before .before .before .before .before .before .pre .1 .0 .small) (c .before .before .before .before .before .before .before .before .before .before .before .before .before .before .pre .1 .0 .passed) (c .before .before .before .before .before .before .before .before .before .before .before .before .before .before .args .depth-left) (openNames (c .before .before .before .before .before .before .before .before .before .before .before .before .before .before .args .path)) (c .before .before .before .before .before .before .before .before .before .before .before .before .before .before .args .collect) (c .before .before .before .before .before .before .before .before .before .before .before .before .before .before .args .place) (c .before .before .before .before .before .before .before .before .before .before .before .before .before .before .args .builder) (c .before .before .before .before .before .before .before .before .before .before .before .before .before .before .args .trace .now) (c .before .before .before .before .before .before .before .before .before .before .before .loop .at) (c .before .before .before .before .before .before .before .before .before .before .before .loop .so-far) _ (c .before .before .before .before .before .before .before .before .before .before .before .loop .inv))) ∙ sym (c .before .before .before .before .before .before .before .before .before .before .line-numbered .ensures) ∙ c .before .before .before .before .before .before .before .before .count .given .1) _ _ _ (rw (c .before .refusal2 .given .1) at (c .before .before .before .before .before .add-group .ensures))
+add-body-returns-2 t c = body-group-over (c .before .before .before .before .before .before .before .before .before .before .before .before .before .before .args .words .now) (λ place. (c .before .before .before .before .before .before .before .before .before .before .before .before .before .shared-slice-known .given place) .fits) (c .before .before .before .before .before .before .before .before .before .before .before .before .before .before .pre .1 .0 .passed) (c .before .before .before .before .before .before .before .before .before .before .before .before .before .before .args .depth-left) (openNames (c .before .before .before .before .before .before .before .before .before .before .before .before .before .before .args .path)) (c .before .before .before .before .before .before .before .before .before .before .before .before .before .before .args .collect) (c .before .before .before .before .before .before .before .before .before .before .before .before .before .before .args .place) (c .before .before .before .before .before .before .before .before .before .before .before .before .before .before .args .builder) (c .before .before .before .before .before .before .before .before .before .before .before .before .before .before .args .trace .now) (c .before .before .before .before .before .before .before .before .before .before .before .loop .at) (c .before .before .before .before .before .before .before .before .before .before .before .loop .so-far) _ (c .before .before .before .before .before .before .before .before .before .before .before .loop .inv) _ _ _ (sym (line-at (c .before .before .before .before .before .before .before .before .before .before .before .before .before .before .args .words .now) (c .before .before .before .before .before .before .before .before .before .before .before .loop .at) (body-inside (c .before .before .before .before .before .before .before .before .before .before .before .before .before .before .args .words .now) (λ place. (c .before .before .before .before .before .before .before .before .before .before .before .before .before .shared-slice-known .given place) .fits) (c .before .before .before .before .before .before .before .before .before .before .before .before .before .before .pre .1 .0 .passed) (c .before .before .before .before .before .before .before .before .before .before .before .before .before .before .args .depth-left) (openNames (c .before .before .before .before .before .before .before .before .before .before .before .before .before .before .args .path)) (c .before .before .before .before .before .before .before .before .before .before .before .before .before .before .args .collect) (c .before .before .before .before .before .before .before .before .before .before .before .before .before .before .args .place) (c .before .before .before .before .before .before .before .before .before .before .before .before .before .before .args .builder) (c .before .before .before .before .before .before .before .before .before .before .before .before .before .before .args .trace .now) (c .before .before .before .before .before .before .before .before .before .before .before .loop .at) (c .before .before .before .before .before .before .before .before .before .before .before .loop .so-far) _ (c .before .before .before .before .before .before .before .before .before .before .before .loop .inv))) ∙ sym (c .before .before .before .before .before .before .before .before .before .before .line-numbered .ensures) ∙ c .before .before .before .before .before .before .before .before .count .given .1) _ _ _ (rw (c .before .refusal2 .given .1) at (c .before .before .before .before .before .add-group .ensures))
 
 -- Line::Use(name, required) => {
 add-body-enum-known-name : (t : ℕ) → add-body-lts.Need-enum-known-name (add-body-claims t) (add-body-at t) add-body.Post add-body-Inv-loop add-body-μ-loop
@@ -173,7 +173,7 @@ add-body-enum-known-name t c = search needs
 
 -- match add_component(
 add-body-add-component-requires : (t : ℕ) → add-body-lts.Need-add-component-requires (add-body-claims t) (add-body-at t) add-body.Post add-body-Inv-loop add-body-μ-loop
-add-body-add-component-requires t c κs = (omega (arith, c .before .before .before .before .before .before .before .before .pre .0), record { small = c .before .before .before .before .before .before .before .before .pre .1 .0 .small; passed = c .before .before .before .before .before .before .before .before .pre .1 .0 .passed; deep = c .before .before .before .before .before .before .before .before .pre .1 .0 .deep; names = c .before .before .before .before .before .before .before .before .pre .1 .0 .names; fits = c .before .before .before .before .before .loop .inv .grown .fits; size = omega (arith, c .before .before .before .before .before .loop .inv .size, c .before .before .before .before .before .before .before .before .pre .1 .0 .size) })
+add-body-add-component-requires t c κs = (omega (arith, c .before .before .before .before .before .before .before .before .pre .0), record { passed = c .before .before .before .before .before .before .before .before .pre .1 .0 .passed; deep = c .before .before .before .before .before .before .before .before .pre .1 .0 .deep; names = c .before .before .before .before .before .before .before .before .pre .1 .0 .names; fits = c .before .before .before .before .before .loop .inv .grown .fits; size = omega (arith, c .before .before .before .before .before .loop .inv .size, c .before .before .before .before .before .before .before .before .pre .1 .0 .size) })
 
 -- Added::Done(next) => {
 add-body-enum-known-next-2 : (t : ℕ) → add-body-lts.Need-enum-known-next-2 (add-body-claims t) (add-body-at t) add-body.Post add-body-Inv-loop add-body-μ-loop
@@ -181,14 +181,14 @@ add-body-enum-known-next-2 t c = search needs
 
 -- at += 1;
 add-body-add-at-2 : (t : ℕ) → add-body-lts.Need-add-at-2 (add-body-claims t) (add-body-at t) add-body.Post add-body-Inv-loop add-body-μ-loop
-add-body-add-at-2 t c = omega (arith, body-inside (c .before .before .before .before .before .before .before .before .before .before .before .before .before .before .args .words .now) (c .before .before .before .before .before .before .before .before .before .before .before .before .before .before .pre .1 .0 .small) (c .before .before .before .before .before .before .before .before .before .before .before .before .before .before .pre .1 .0 .passed) (c .before .before .before .before .before .before .before .before .before .before .before .before .before .before .args .depth-left) (openNames (c .before .before .before .before .before .before .before .before .before .before .before .before .before .before .args .path)) (c .before .before .before .before .before .before .before .before .before .before .before .before .before .before .args .collect) (c .before .before .before .before .before .before .before .before .before .before .before .before .before .before .args .place) (c .before .before .before .before .before .before .before .before .before .before .before .before .before .before .args .builder) (c .before .before .before .before .before .before .before .before .before .before .before .before .before .before .args .trace .now) (c .before .before .before .before .before .before .before .before .before .before .before .loop .at) (c .before .before .before .before .before .before .before .before .before .before .before .loop .so-far) _ (c .before .before .before .before .before .before .before .before .before .before .before .loop .inv), isDictionary-parts (c .before .before .before .before .before .before .before .before .before .before .before .before .before .before .args .words .now) (c .before .before .before .before .before .before .before .before .before .before .before .before .before .before .pre .1 .0 .passed) .fits)
+add-body-add-at-2 t c = omega (arith, body-inside (c .before .before .before .before .before .before .before .before .before .before .before .before .before .before .args .words .now) (λ place. (c .before .before .before .before .before .before .before .before .before .before .before .before .before .shared-slice-known .given place) .fits) (c .before .before .before .before .before .before .before .before .before .before .before .before .before .before .pre .1 .0 .passed) (c .before .before .before .before .before .before .before .before .before .before .before .before .before .before .args .depth-left) (openNames (c .before .before .before .before .before .before .before .before .before .before .before .before .before .before .args .path)) (c .before .before .before .before .before .before .before .before .before .before .before .before .before .before .args .collect) (c .before .before .before .before .before .before .before .before .before .before .before .before .before .before .args .place) (c .before .before .before .before .before .before .before .before .before .before .before .before .before .before .args .builder) (c .before .before .before .before .before .before .before .before .before .before .before .before .before .before .args .trace .now) (c .before .before .before .before .before .before .before .before .before .before .before .loop .at) (c .before .before .before .before .before .before .before .before .before .before .before .loop .so-far) _ (c .before .before .before .before .before .before .before .before .before .before .before .loop .inv), isDictionary-parts (c .before .before .before .before .before .before .before .before .before .before .before .before .before .before .args .words .now) (c .before .before .before .before .before .before .before .before .before .before .before .before .before .before .pre .1 .0 .passed) .fits)
 
 -- loop {
 add-body-loop-less-3 : (t : ℕ) → add-body-lts.Need-loop-less-3 (add-body-claims t) (add-body-at t) add-body.Post add-body-Inv-loop add-body-μ-loop
-add-body-loop-less-3 t c = omega (arith, body-inside (c .before .before .before .before .before .before .before .before .before .before .before .before .before .before .args .words .now) (c .before .before .before .before .before .before .before .before .before .before .before .before .before .before .pre .1 .0 .small) (c .before .before .before .before .before .before .before .before .before .before .before .before .before .before .pre .1 .0 .passed) (c .before .before .before .before .before .before .before .before .before .before .before .before .before .before .args .depth-left) (openNames (c .before .before .before .before .before .before .before .before .before .before .before .before .before .before .args .path)) (c .before .before .before .before .before .before .before .before .before .before .before .before .before .before .args .collect) (c .before .before .before .before .before .before .before .before .before .before .before .before .before .before .args .place) (c .before .before .before .before .before .before .before .before .before .before .before .before .before .before .args .builder) (c .before .before .before .before .before .before .before .before .before .before .before .before .before .before .args .trace .now) (c .before .before .before .before .before .before .before .before .before .before .before .loop .at) (c .before .before .before .before .before .before .before .before .before .before .before .loop .so-far) _ (c .before .before .before .before .before .before .before .before .before .before .before .loop .inv))
+add-body-loop-less-3 t c = omega (arith, body-inside (c .before .before .before .before .before .before .before .before .before .before .before .before .before .before .args .words .now) (λ place. (c .before .before .before .before .before .before .before .before .before .before .before .before .before .shared-slice-known .given place) .fits) (c .before .before .before .before .before .before .before .before .before .before .before .before .before .before .pre .1 .0 .passed) (c .before .before .before .before .before .before .before .before .before .before .before .before .before .before .args .depth-left) (openNames (c .before .before .before .before .before .before .before .before .before .before .before .before .before .before .args .path)) (c .before .before .before .before .before .before .before .before .before .before .before .before .before .before .args .collect) (c .before .before .before .before .before .before .before .before .before .before .before .before .before .before .args .place) (c .before .before .before .before .before .before .before .before .before .before .before .before .before .before .args .builder) (c .before .before .before .before .before .before .before .before .before .before .before .before .before .before .args .trace .now) (c .before .before .before .before .before .before .before .before .before .before .before .loop .at) (c .before .before .before .before .before .before .before .before .before .before .before .loop .so-far) _ (c .before .before .before .before .before .before .before .before .before .before .before .loop .inv))
 
 add-body-loop-again-3 : (t : ℕ) → add-body-lts.Need-loop-again-3 (add-body-claims t) (add-body-at t) add-body.Post add-body-Inv-loop add-body-μ-loop
-add-body-loop-again-3 t c = body-use (c .before .before .before .before .before .before .before .before .before .before .before .before .before .before .args .words .now) (c .before .before .before .before .before .before .before .before .before .before .before .before .before .before .pre .1 .0 .small) (c .before .before .before .before .before .before .before .before .before .before .before .before .before .before .pre .1 .0 .passed) (c .before .before .before .before .before .before .before .before .before .before .before .before .before .before .args .depth-left) (openNames (c .before .before .before .before .before .before .before .before .before .before .before .before .before .before .args .path)) (c .before .before .before .before .before .before .before .before .before .before .before .before .before .before .args .collect) (c .before .before .before .before .before .before .before .before .before .before .before .before .before .before .args .place) (c .before .before .before .before .before .before .before .before .before .before .before .before .before .before .args .builder) (c .before .before .before .before .before .before .before .before .before .before .before .before .before .before .args .trace .now) (c .before .before .before .before .before .before .before .before .before .before .before .loop .at) (c .before .before .before .before .before .before .before .before .before .before .before .loop .so-far) _ (c .before .before .before .before .before .before .before .before .before .before .before .loop .inv) _ _ (sym (line-at (c .before .before .before .before .before .before .before .before .before .before .before .before .before .before .args .words .now) (c .before .before .before .before .before .before .before .before .before .before .before .loop .at) (body-inside (c .before .before .before .before .before .before .before .before .before .before .before .before .before .before .args .words .now) (c .before .before .before .before .before .before .before .before .before .before .before .before .before .before .pre .1 .0 .small) (c .before .before .before .before .before .before .before .before .before .before .before .before .before .before .pre .1 .0 .passed) (c .before .before .before .before .before .before .before .before .before .before .before .before .before .before .args .depth-left) (openNames (c .before .before .before .before .before .before .before .before .before .before .before .before .before .before .args .path)) (c .before .before .before .before .before .before .before .before .before .before .before .before .before .before .args .collect) (c .before .before .before .before .before .before .before .before .before .before .before .before .before .before .args .place) (c .before .before .before .before .before .before .before .before .before .before .before .before .before .before .args .builder) (c .before .before .before .before .before .before .before .before .before .before .before .before .before .before .args .trace .now) (c .before .before .before .before .before .before .before .before .before .before .before .loop .at) (c .before .before .before .before .before .before .before .before .before .before .before .loop .so-far) _ (c .before .before .before .before .before .before .before .before .before .before .before .loop .inv))) ∙ sym (c .before .before .before .before .before .before .before .before .before .before .line-numbered .ensures) ∙ c .before .before .before .before .before .before .before .before .name .given .1) _ _ (rw (c .before .next2 .given .1) at (c .before .before .before .before .before .add-component .ensures)) (c .before .before .before .before .before .add-component .kept .1 .1 .1 .1 .1 .1 .0)
+add-body-loop-again-3 t c = body-use (c .before .before .before .before .before .before .before .before .before .before .before .before .before .before .args .words .now) (λ place. (c .before .before .before .before .before .before .before .before .before .before .before .before .before .shared-slice-known .given place) .fits) (c .before .before .before .before .before .before .before .before .before .before .before .before .before .before .pre .1 .0 .passed) (c .before .before .before .before .before .before .before .before .before .before .before .before .before .before .args .depth-left) (openNames (c .before .before .before .before .before .before .before .before .before .before .before .before .before .before .args .path)) (c .before .before .before .before .before .before .before .before .before .before .before .before .before .before .args .collect) (c .before .before .before .before .before .before .before .before .before .before .before .before .before .before .args .place) (c .before .before .before .before .before .before .before .before .before .before .before .before .before .before .args .builder) (c .before .before .before .before .before .before .before .before .before .before .before .before .before .before .args .trace .now) (c .before .before .before .before .before .before .before .before .before .before .before .loop .at) (c .before .before .before .before .before .before .before .before .before .before .before .loop .so-far) _ (c .before .before .before .before .before .before .before .before .before .before .before .loop .inv) _ _ (sym (line-at (c .before .before .before .before .before .before .before .before .before .before .before .before .before .before .args .words .now) (c .before .before .before .before .before .before .before .before .before .before .before .loop .at) (body-inside (c .before .before .before .before .before .before .before .before .before .before .before .before .before .before .args .words .now) (λ place. (c .before .before .before .before .before .before .before .before .before .before .before .before .before .shared-slice-known .given place) .fits) (c .before .before .before .before .before .before .before .before .before .before .before .before .before .before .pre .1 .0 .passed) (c .before .before .before .before .before .before .before .before .before .before .before .before .before .before .args .depth-left) (openNames (c .before .before .before .before .before .before .before .before .before .before .before .before .before .before .args .path)) (c .before .before .before .before .before .before .before .before .before .before .before .before .before .before .args .collect) (c .before .before .before .before .before .before .before .before .before .before .before .before .before .before .args .place) (c .before .before .before .before .before .before .before .before .before .before .before .before .before .before .args .builder) (c .before .before .before .before .before .before .before .before .before .before .before .before .before .before .args .trace .now) (c .before .before .before .before .before .before .before .before .before .before .before .loop .at) (c .before .before .before .before .before .before .before .before .before .before .before .loop .so-far) _ (c .before .before .before .before .before .before .before .before .before .before .before .loop .inv))) ∙ sym (c .before .before .before .before .before .before .before .before .before .before .line-numbered .ensures) ∙ c .before .before .before .before .before .before .before .before .name .given .1) _ _ (rw (c .before .next2 .given .1) at (c .before .before .before .before .before .add-component .ensures)) (c .before .before .before .before .before .add-component .kept .1 .1 .1 .1 .1 .1 .0)
 
 -- Added::Refused(refusal) => {
 add-body-enum-known-refusal-3 : (t : ℕ) → add-body-lts.Need-enum-known-refusal-3 (add-body-claims t) (add-body-at t) add-body.Post add-body-Inv-loop add-body-μ-loop
@@ -199,11 +199,11 @@ add-body-same-length-3 : (t : ℕ) → add-body-lts.Need-same-length-3 (add-body
 add-body-same-length-3 t c = c .before .before .before .before .before .add-component .kept .1 .1 .1 .1 .1 .1 .0 ∙ c .before .before .before .before .before .before .before .before .before .before .before .loop .inv .size
 
 add-body-returns-3 : (t : ℕ) → add-body-lts.Need-returns-3 (add-body-claims t) (add-body-at t) add-body.Post add-body-Inv-loop add-body-μ-loop
-add-body-returns-3 t c = body-use-over (c .before .before .before .before .before .before .before .before .before .before .before .before .before .before .args .words .now) (c .before .before .before .before .before .before .before .before .before .before .before .before .before .before .pre .1 .0 .small) (c .before .before .before .before .before .before .before .before .before .before .before .before .before .before .pre .1 .0 .passed) (c .before .before .before .before .before .before .before .before .before .before .before .before .before .before .args .depth-left) (openNames (c .before .before .before .before .before .before .before .before .before .before .before .before .before .before .args .path)) (c .before .before .before .before .before .before .before .before .before .before .before .before .before .before .args .collect) (c .before .before .before .before .before .before .before .before .before .before .before .before .before .before .args .place) (c .before .before .before .before .before .before .before .before .before .before .before .before .before .before .args .builder) (c .before .before .before .before .before .before .before .before .before .before .before .before .before .before .args .trace .now) (c .before .before .before .before .before .before .before .before .before .before .before .loop .at) (c .before .before .before .before .before .before .before .before .before .before .before .loop .so-far) _ (c .before .before .before .before .before .before .before .before .before .before .before .loop .inv) _ _ (sym (line-at (c .before .before .before .before .before .before .before .before .before .before .before .before .before .before .args .words .now) (c .before .before .before .before .before .before .before .before .before .before .before .loop .at) (body-inside (c .before .before .before .before .before .before .before .before .before .before .before .before .before .before .args .words .now) (c .before .before .before .before .before .before .before .before .before .before .before .before .before .before .pre .1 .0 .small) (c .before .before .before .before .before .before .before .before .before .before .before .before .before .before .pre .1 .0 .passed) (c .before .before .before .before .before .before .before .before .before .before .before .before .before .before .args .depth-left) (openNames (c .before .before .before .before .before .before .before .before .before .before .before .before .before .before .args .path)) (c .before .before .before .before .before .before .before .before .before .before .before .before .before .before .args .collect) (c .before .before .before .before .before .before .before .before .before .before .before .before .before .before .args .place) (c .before .before .before .before .before .before .before .before .before .before .before .before .before .before .args .builder) (c .before .before .before .before .before .before .before .before .before .before .before .before .before .before .args .trace .now) (c .before .before .before .before .before .before .before .before .before .before .before .loop .at) (c .before .before .before .before .before .before .before .before .before .before .before .loop .so-far) _ (c .before .before .before .before .before .before .before .before .before .before .before .loop .inv))) ∙ sym (c .before .before .before .before .before .before .before .before .before .before .line-numbered .ensures) ∙ c .before .before .before .before .before .before .before .before .name .given .1) _ _ _ (rw (c .before .refusal3 .given .1) at (c .before .before .before .before .before .add-component .ensures))
+add-body-returns-3 t c = body-use-over (c .before .before .before .before .before .before .before .before .before .before .before .before .before .before .args .words .now) (λ place. (c .before .before .before .before .before .before .before .before .before .before .before .before .before .shared-slice-known .given place) .fits) (c .before .before .before .before .before .before .before .before .before .before .before .before .before .before .pre .1 .0 .passed) (c .before .before .before .before .before .before .before .before .before .before .before .before .before .before .args .depth-left) (openNames (c .before .before .before .before .before .before .before .before .before .before .before .before .before .before .args .path)) (c .before .before .before .before .before .before .before .before .before .before .before .before .before .before .args .collect) (c .before .before .before .before .before .before .before .before .before .before .before .before .before .before .args .place) (c .before .before .before .before .before .before .before .before .before .before .before .before .before .before .args .builder) (c .before .before .before .before .before .before .before .before .before .before .before .before .before .before .args .trace .now) (c .before .before .before .before .before .before .before .before .before .before .before .loop .at) (c .before .before .before .before .before .before .before .before .before .before .before .loop .so-far) _ (c .before .before .before .before .before .before .before .before .before .before .before .loop .inv) _ _ (sym (line-at (c .before .before .before .before .before .before .before .before .before .before .before .before .before .before .args .words .now) (c .before .before .before .before .before .before .before .before .before .before .before .loop .at) (body-inside (c .before .before .before .before .before .before .before .before .before .before .before .before .before .before .args .words .now) (λ place. (c .before .before .before .before .before .before .before .before .before .before .before .before .before .shared-slice-known .given place) .fits) (c .before .before .before .before .before .before .before .before .before .before .before .before .before .before .pre .1 .0 .passed) (c .before .before .before .before .before .before .before .before .before .before .before .before .before .before .args .depth-left) (openNames (c .before .before .before .before .before .before .before .before .before .before .before .before .before .before .args .path)) (c .before .before .before .before .before .before .before .before .before .before .before .before .before .before .args .collect) (c .before .before .before .before .before .before .before .before .before .before .before .before .before .before .args .place) (c .before .before .before .before .before .before .before .before .before .before .before .before .before .before .args .builder) (c .before .before .before .before .before .before .before .before .before .before .before .before .before .before .args .trace .now) (c .before .before .before .before .before .before .before .before .before .before .before .loop .at) (c .before .before .before .before .before .before .before .before .before .before .before .loop .so-far) _ (c .before .before .before .before .before .before .before .before .before .before .before .loop .inv))) ∙ sym (c .before .before .before .before .before .before .before .before .before .before .line-numbered .ensures) ∙ c .before .before .before .before .before .before .before .before .name .given .1) _ _ _ (rw (c .before .refusal3 .given .1) at (c .before .before .before .before .before .add-component .ensures))
 
 -- let behind = at + 1;
 add-body-add-behind : (t : ℕ) → add-body-lts.Need-add-behind (add-body-claims t) (add-body-at t) add-body.Post add-body-Inv-loop add-body-μ-loop
-add-body-add-behind t c = omega (arith, body-inside (c .before .before .before .before .before .args .words .now) (c .before .before .before .before .before .pre .1 .0 .small) (c .before .before .before .before .before .pre .1 .0 .passed) (c .before .before .before .before .before .args .depth-left) (openNames (c .before .before .before .before .before .args .path)) (c .before .before .before .before .before .args .collect) (c .before .before .before .before .before .args .place) (c .before .before .before .before .before .args .builder) (c .before .before .before .before .before .args .trace .now) (c .before .before .loop .at) (c .before .before .loop .so-far) _ (c .before .before .loop .inv), isDictionary-parts (c .before .before .before .before .before .args .words .now) (c .before .before .before .before .before .pre .1 .0 .passed) .fits)
+add-body-add-behind t c = omega (arith, body-inside (c .before .before .before .before .before .args .words .now) (λ place. (c .before .before .before .before .shared-slice-known .given place) .fits) (c .before .before .before .before .before .pre .1 .0 .passed) (c .before .before .before .before .before .args .depth-left) (openNames (c .before .before .before .before .before .args .path)) (c .before .before .before .before .before .args .collect) (c .before .before .before .before .before .args .place) (c .before .before .before .before .before .args .builder) (c .before .before .before .before .before .args .trace .now) (c .before .before .loop .at) (c .before .before .loop .so-far) _ (c .before .before .loop .inv), isDictionary-parts (c .before .before .before .before .before .args .words .now) (c .before .before .before .before .before .pre .1 .0 .passed) .fits)
 
 -- return Filled::UpTo(behind, so_far);
 add-body-same-length-4 : (t : ℕ) → add-body-lts.Need-same-length-4 (add-body-claims t) (add-body-at t) add-body.Post add-body-Inv-loop add-body-μ-loop
@@ -230,7 +230,7 @@ add-body-returns-4 t c =
       | RequiredTag tag ↦ λ key. tt
       | Unknown ↦ λ key. tt
     ] in
-    body-ends (c .before .before .before .before .before .args .words .now) (c .before .before .before .before .before .pre .1 .0 .small) (c .before .before .before .before .before .pre .1 .0 .passed) (c .before .before .before .before .before .args .depth-left) (openNames (c .before .before .before .before .before .args .path)) (c .before .before .before .before .before .args .collect) (c .before .before .before .before .before .args .place) (c .before .before .before .before .before .args .builder) (c .before .before .before .before .before .args .trace .now) (c .before .before .loop .at) (c .before .before .loop .so-far) _ (c .before .before .loop .inv) (c .before .line-numbered .result) (sym (line-at (c .before .before .before .before .before .args .words .now) (c .before .before .loop .at) (body-inside (c .before .before .before .before .before .args .words .now) (c .before .before .before .before .before .pre .1 .0 .small) (c .before .before .before .before .before .pre .1 .0 .passed) (c .before .before .before .before .before .args .depth-left) (openNames (c .before .before .before .before .before .args .path)) (c .before .before .before .before .before .args .collect) (c .before .before .before .before .before .args .place) (c .before .before .before .before .before .args .builder) (c .before .before .before .before .before .args .trace .now) (c .before .before .loop .at) (c .before .before .loop .so-far) _ (c .before .before .loop .inv))) ∙ sym (c .before .line-numbered .ensures)) (other (c .before .line-numbered .result) (c .match .keys4))
+    body-ends (c .before .before .before .before .before .args .words .now) (λ place. (c .before .before .before .before .shared-slice-known .given place) .fits) (c .before .before .before .before .before .pre .1 .0 .passed) (c .before .before .before .before .before .args .depth-left) (openNames (c .before .before .before .before .before .args .path)) (c .before .before .before .before .before .args .collect) (c .before .before .before .before .before .args .place) (c .before .before .before .before .before .args .builder) (c .before .before .before .before .before .args .trace .now) (c .before .before .loop .at) (c .before .before .loop .so-far) _ (c .before .before .loop .inv) (c .before .line-numbered .result) (sym (line-at (c .before .before .before .before .before .args .words .now) (c .before .before .loop .at) (body-inside (c .before .before .before .before .before .args .words .now) (λ place. (c .before .before .before .before .shared-slice-known .given place) .fits) (c .before .before .before .before .before .pre .1 .0 .passed) (c .before .before .before .before .before .args .depth-left) (openNames (c .before .before .before .before .before .args .path)) (c .before .before .before .before .before .args .collect) (c .before .before .before .before .before .args .place) (c .before .before .before .before .before .args .builder) (c .before .before .before .before .before .args .trace .now) (c .before .before .loop .at) (c .before .before .loop .so-far) _ (c .before .before .loop .inv))) ∙ sym (c .before .line-numbered .ensures)) (other (c .before .line-numbered .result) (c .match .keys4))
 
 abbrev add-component-claims : ℕ → add-component-lts.Claims
 add-component-claims t = (spend-reads.Asked, spend-reads.Learnt, component-of-reads.Asked, component-of-reads.Learnt, is-open-reads.Asked, is-open-reads.Learnt, opened-reads.Asked, opened-reads.Learnt, both-reads.Asked, both-reads.Learnt, add-body-below t, add-body.Post, outcome-reads.Asked, outcome-reads.Learnt)
@@ -259,7 +259,7 @@ add-component-enum-told : (t : ℕ) → add-component-lts.Need-enum-told (add-co
 add-component-enum-told t c = search needs
 
 add-component-returns : (t : ℕ) → add-component-lts.Need-returns (add-component-claims t) (add-component-at t) add-component.Post
-add-component-returns t c = record { adds = component-undefined (dictionaryIn (c .before .before .before .before .before .before .before .before .before .args .words .now)) (openNames (c .before .before .before .before .before .before .before .before .before .args .path)) (c .before .before .before .before .before .before .before .before .before .args .collect) (record { name = c .before .before .before .before .before .before .before .before .before .args .name; required = c .before .before .before .before .before .before .before .before .before .args .required }) (c .before .before .before .before .before .before .before .before .before .args .depth-left) (c .before .before .before .before .before .before .before .before .before .args .depth-left - 1) (let some = spent-deep _ _ _ _ (rw (c .before .before .before .before .node .given .1) at (c .before .before .before .before .before .before .spend .ensures .0)) in omega (arith, some)) (c .before .before .before .before .before .before .before .before .before .args .builder) _ (c .before .before .before .before .before .before .before .before .before .args .trace .now) (rw (c .before .before .before .before .node .given .1) at (c .before .before .before .before .before .before .spend .ensures .0)) _ (component-missing (c .before .before .before .before .before .before .before .before .before .args .words .now) (c .before .before .before .before .before .before .before .before .before .pre .1 .small) (c .before .before .before .before .before .before .before .before .before .pre .1 .passed) (c .before .before .before .before .before .before .before .before .before .args .name) (sym (c .before .before .component-of .ensures .0) ∙ c .enum-told .given .1)); grows = refused-grows _ _ }
+add-component-returns t c = record { adds = component-undefined (dictionaryIn (c .before .before .before .before .before .before .before .before .before .args .words .now)) (openNames (c .before .before .before .before .before .before .before .before .before .args .path)) (c .before .before .before .before .before .before .before .before .before .args .collect) (record { name = c .before .before .before .before .before .before .before .before .before .args .name; required = c .before .before .before .before .before .before .before .before .before .args .required }) (c .before .before .before .before .before .before .before .before .before .args .depth-left) (c .before .before .before .before .before .before .before .before .before .args .depth-left - 1) (let some = spent-deep _ _ _ _ (rw (c .before .before .before .before .node .given .1) at (c .before .before .before .before .before .before .spend .ensures .0)) in omega (arith, some)) (c .before .before .before .before .before .before .before .before .before .args .builder) _ (c .before .before .before .before .before .before .before .before .before .args .trace .now) (rw (c .before .before .before .before .node .given .1) at (c .before .before .before .before .before .before .spend .ensures .0)) _ (component-missing (c .before .before .before .before .before .before .before .before .before .args .words .now) (λ place. (c .before .before .before .before .before .before .before .before .shared-slice-known .given place) .fits) (c .before .before .before .before .before .before .before .before .before .pre .1 .passed) (c .before .before .before .before .before .before .before .before .before .args .name) (sym (c .before .before .component-of .ensures .0) ∙ c .enum-told .given .1)); grows = refused-grows _ _ }
 
 -- if is_open(path, name) {
 add-component-is-open-requires : (t : ℕ) → add-component-lts.Need-is-open-requires (add-component-claims t) (add-component-at t) add-component.Post
@@ -267,7 +267,7 @@ add-component-is-open-requires t c κs = c .before .before .before .before .befo
 
 -- return Added::Done(node);
 add-component-returns-2 : (t : ℕ) → add-component-lts.Need-returns-2 (add-component-claims t) (add-component-at t) add-component.Post
-add-component-returns-2 t c = record { adds = component-open (dictionaryIn (c .before .before .before .before .before .before .before .before .before .before .before .before .args .words .now)) (openNames (c .before .before .before .before .before .before .before .before .before .before .before .before .args .path)) (c .before .before .before .before .before .before .before .before .before .before .before .before .args .collect) (record { name = c .before .before .before .before .before .before .before .before .before .before .before .before .args .name; required = c .before .before .before .before .before .before .before .before .before .before .before .before .args .required }) (c .before .before .before .before .before .before .before .before .before .before .before .before .args .depth-left) (c .before .before .before .before .before .before .before .before .before .before .before .before .args .depth-left - 1) (let some = spent-deep _ _ _ _ (rw (c .before .before .before .before .before .before .before .node .given .1) at (c .before .before .before .before .before .before .before .before .before .spend .ensures .0)) in omega (arith, some)) (c .before .before .before .before .before .before .before .before .before .before .before .before .args .builder) _ (c .before .before .before .before .before .before .before .before .before .before .before .before .args .trace .now) (rw (c .before .before .before .before .before .before .before .node .given .1) at (c .before .before .before .before .before .before .before .before .before .spend .ensures .0)) _ (component-found (c .before .before .before .before .before .before .before .before .before .before .before .before .args .words .now) (c .before .before .before .before .before .before .before .before .before .before .before .before .pre .1 .small) (c .before .before .before .before .before .before .before .before .before .before .before .before .pre .1 .passed) (c .before .before .before .before .before .before .before .before .before .before .before .before .args .name) _ (sym (c .before .before .before .before .before .component-of .ensures .0) ∙ c .before .before .before .number .given .1) .1) (sym (c .before .is-open .ensures) ∙ c .if1 .taken); grows = grown-grows _ _ (done-grown _ _ (rw (c .before .before .before .before .before .before .before .node .given .1) at (c .before .before .before .before .before .before .before .before .before .spend .ensures .1))) }
+add-component-returns-2 t c = record { adds = component-open (dictionaryIn (c .before .before .before .before .before .before .before .before .before .before .before .before .args .words .now)) (openNames (c .before .before .before .before .before .before .before .before .before .before .before .before .args .path)) (c .before .before .before .before .before .before .before .before .before .before .before .before .args .collect) (record { name = c .before .before .before .before .before .before .before .before .before .before .before .before .args .name; required = c .before .before .before .before .before .before .before .before .before .before .before .before .args .required }) (c .before .before .before .before .before .before .before .before .before .before .before .before .args .depth-left) (c .before .before .before .before .before .before .before .before .before .before .before .before .args .depth-left - 1) (let some = spent-deep _ _ _ _ (rw (c .before .before .before .before .before .before .before .node .given .1) at (c .before .before .before .before .before .before .before .before .before .spend .ensures .0)) in omega (arith, some)) (c .before .before .before .before .before .before .before .before .before .before .before .before .args .builder) _ (c .before .before .before .before .before .before .before .before .before .before .before .before .args .trace .now) (rw (c .before .before .before .before .before .before .before .node .given .1) at (c .before .before .before .before .before .before .before .before .before .spend .ensures .0)) _ (component-found (c .before .before .before .before .before .before .before .before .before .before .before .before .args .words .now) (λ place. (c .before .before .before .before .before .before .before .before .before .before .before .shared-slice-known .given place) .fits) (c .before .before .before .before .before .before .before .before .before .before .before .before .pre .1 .passed) (c .before .before .before .before .before .before .before .before .before .before .before .before .args .name) _ (sym (c .before .before .before .before .before .component-of .ensures .0) ∙ c .before .before .before .number .given .1) .1) (sym (c .before .is-open .ensures) ∙ c .if1 .taken); grows = grown-grows _ _ (done-grown _ _ (rw (c .before .before .before .before .before .before .before .node .given .1) at (c .before .before .before .before .before .before .before .before .before .spend .ensures .1))) }
 
 -- let inside = opened(path, name);
 add-component-opened-requires : (t : ℕ) → add-component-lts.Need-opened-requires (add-component-claims t) (add-component-at t) add-component.Post
@@ -279,7 +279,7 @@ add-component-both-requires t c κs = search needs
 
 -- let first = number + 1;
 add-component-add-first : (t : ℕ) → add-component-lts.Need-add-first (add-component-claims t) (add-component-at t) add-component.Post
-add-component-add-first t c = omega (arith, component-found (c .before .before .before .before .before .before .before .before .before .before .before .before .before .before .args .words .now) (c .before .before .before .before .before .before .before .before .before .before .before .before .before .before .pre .1 .small) (c .before .before .before .before .before .before .before .before .before .before .before .before .before .before .pre .1 .passed) (c .before .before .before .before .before .before .before .before .before .before .before .before .before .before .args .name) _ (sym (c .before .before .before .before .before .before .before .component-of .ensures .0) ∙ c .before .before .before .before .before .number .given .1) .0 .inside, isDictionary-parts (c .before .before .before .before .before .before .before .before .before .before .before .before .before .before .args .words .now) (c .before .before .before .before .before .before .before .before .before .before .before .before .before .before .pre .1 .passed) .fits)
+add-component-add-first t c = omega (arith, component-found (c .before .before .before .before .before .before .before .before .before .before .before .before .before .before .args .words .now) (λ place. (c .before .before .before .before .before .before .before .before .before .before .before .before .before .shared-slice-known .given place) .fits) (c .before .before .before .before .before .before .before .before .before .before .before .before .before .before .pre .1 .passed) (c .before .before .before .before .before .before .before .before .before .before .before .before .before .before .args .name) _ (sym (c .before .before .before .before .before .before .before .component-of .ensures .0) ∙ c .before .before .before .before .before .number .given .1) .0 .inside, isDictionary-parts (c .before .before .before .before .before .before .before .before .before .before .before .before .before .before .args .words .now) (c .before .before .before .before .before .before .before .before .before .before .before .before .before .before .pre .1 .passed) .fits)
 
 -- let below = depth_left - 1;
 add-component-sub-below : (t : ℕ) → add-component-lts.Need-sub-below (add-component-claims t) (add-component-at t) add-component.Post
@@ -292,14 +292,13 @@ add-component-add-body-requires t c κs =
       omega (arith, c .before .before .before .before .before .before .before .before .before .before .before .before .before .before .before .pre .0, some),
       (
         record {
-          small = c .before .before .before .before .before .before .before .before .before .before .before .before .before .before .before .pre .1 .small;
           passed = c .before .before .before .before .before .before .before .before .before .before .before .before .before .before .before .pre .1 .passed;
           deep = omega (arith, c .before .before .opened .ensures .1, c .before .before .before .before .before .before .before .before .before .before .before .before .before .before .before .pre .1 .deep);
           names = omega (arith, c .before .before .opened .ensures .1, c .before .before .before .before .before .before .before .before .before .before .before .before .before .before .before .pre .1 .names);
           fits = (done-grown _ _ (rw (c .before .before .before .before .before .before .before .before .before .before .node .given .1) at (c .before .before .before .before .before .before .before .before .before .before .before .before .spend .ensures .1))) .fits;
           size = c .before .before .before .before .before .before .before .before .before .before .before .before .before .before .before .pre .1 .size;
         },
-        component-found (c .before .before .before .before .before .before .before .before .before .before .before .before .before .before .before .args .words .now) (c .before .before .before .before .before .before .before .before .before .before .before .before .before .before .before .pre .1 .small) (c .before .before .before .before .before .before .before .before .before .before .before .before .before .before .before .pre .1 .passed) (c .before .before .before .before .before .before .before .before .before .before .before .before .before .before .before .args .name) _ (sym (c .before .before .before .before .before .before .before .before .component-of .ensures .0) ∙ c .before .before .before .before .before .before .number .given .1) .0 .there,
+        component-found (c .before .before .before .before .before .before .before .before .before .before .before .before .before .before .before .args .words .now) (λ place. (c .before .before .before .before .before .before .before .before .before .before .before .before .before .before .shared-slice-known .given place) .fits) (c .before .before .before .before .before .before .before .before .before .before .before .before .before .before .before .pre .1 .passed) (c .before .before .before .before .before .before .before .before .before .before .before .before .before .before .before .args .name) _ (sym (c .before .before .before .before .before .before .before .before .component-of .ensures .0) ∙ c .before .before .before .before .before .before .number .given .1) .0 .there,
       ),
     )
 
@@ -316,7 +315,7 @@ add-component-same-length t c = c .before .before .before .add-body .kept .1 .1 
 
 add-component-returns-4 : (t : ℕ) → add-component-lts.Need-returns-4 (add-component-claims t) (add-component-at t) add-component.Post
 add-component-returns-4 t c = rw (c .outcome .ensures) (record {
-  adds = component-added (dictionaryIn (c .before .before .before .before .before .before .before .before .before .before .before .before .before .before .before .before .before .before .before .args .words .now)) (openNames (c .before .before .before .before .before .before .before .before .before .before .before .before .before .before .before .before .before .before .before .args .path)) (c .before .before .before .before .before .before .before .before .before .before .before .before .before .before .before .before .before .before .before .args .collect) (record { name = c .before .before .before .before .before .before .before .before .before .before .before .before .before .before .before .before .before .before .before .args .name; required = c .before .before .before .before .before .before .before .before .before .before .before .before .before .before .before .before .before .before .before .args .required }) (c .before .before .before .before .before .before .before .before .before .before .before .before .before .before .before .before .before .before .before .args .depth-left) (c .before .before .before .before .before .before .before .before .before .before .before .before .before .before .before .before .before .before .before .args .depth-left - 1) (let some = spent-deep _ _ _ _ (rw (c .before .before .before .before .before .before .before .before .before .before .before .before .before .before .node .given .1) at (c .before .before .before .before .before .before .before .before .before .before .before .before .before .before .before .before .spend .ensures .0)) in omega (arith, some)) (c .before .before .before .before .before .before .before .before .before .before .before .before .before .before .before .before .before .before .before .args .builder) _ (c .before .before .before .before .before .before .before .before .before .before .before .before .before .before .before .before .before .before .before .args .trace .now) (rw (c .before .before .before .before .before .before .before .before .before .before .before .before .before .before .node .given .1) at (c .before .before .before .before .before .before .before .before .before .before .before .before .before .before .before .before .spend .ensures .0)) _ (component-found (c .before .before .before .before .before .before .before .before .before .before .before .before .before .before .before .before .before .before .before .args .words .now) (c .before .before .before .before .before .before .before .before .before .before .before .before .before .before .before .before .before .before .before .pre .1 .small) (c .before .before .before .before .before .before .before .before .before .before .before .before .before .before .before .before .before .before .before .pre .1 .passed) (c .before .before .before .before .before .before .before .before .before .before .before .before .before .before .before .before .before .before .before .args .name) _ (sym (c .before .before .before .before .before .before .before .before .before .before .before .before .component-of .ensures .0) ∙ c .before .before .before .before .before .before .before .before .before .before .number .given .1) .1) _ _ _ _ (sym (c .before .before .before .before .before .before .before .before .is-open .ensures) ∙ c .before .before .before .before .before .before .before .if1 .left) (c .before .before .before .before .before .before .opened .ensures .0) (c .before .before .before .before .before .both .ensures) (c .before .before .before .add-body .ensures .adds);
+  adds = component-added (dictionaryIn (c .before .before .before .before .before .before .before .before .before .before .before .before .before .before .before .before .before .before .before .args .words .now)) (openNames (c .before .before .before .before .before .before .before .before .before .before .before .before .before .before .before .before .before .before .before .args .path)) (c .before .before .before .before .before .before .before .before .before .before .before .before .before .before .before .before .before .before .before .args .collect) (record { name = c .before .before .before .before .before .before .before .before .before .before .before .before .before .before .before .before .before .before .before .args .name; required = c .before .before .before .before .before .before .before .before .before .before .before .before .before .before .before .before .before .before .before .args .required }) (c .before .before .before .before .before .before .before .before .before .before .before .before .before .before .before .before .before .before .before .args .depth-left) (c .before .before .before .before .before .before .before .before .before .before .before .before .before .before .before .before .before .before .before .args .depth-left - 1) (let some = spent-deep _ _ _ _ (rw (c .before .before .before .before .before .before .before .before .before .before .before .before .before .before .node .given .1) at (c .before .before .before .before .before .before .before .before .before .before .before .before .before .before .before .before .spend .ensures .0)) in omega (arith, some)) (c .before .before .before .before .before .before .before .before .before .before .before .before .before .before .before .before .before .before .before .args .builder) _ (c .before .before .before .before .before .before .before .before .before .before .before .before .before .before .before .before .before .before .before .args .trace .now) (rw (c .before .before .before .before .before .before .before .before .before .before .before .before .before .before .node .given .1) at (c .before .before .before .before .before .before .before .before .before .before .before .before .before .before .before .before .spend .ensures .0)) _ (component-found (c .before .before .before .before .before .before .before .before .before .before .before .before .before .before .before .before .before .before .before .args .words .now) (λ place. (c .before .before .before .before .before .before .before .before .before .before .before .before .before .before .before .before .before .before .shared-slice-known .given place) .fits) (c .before .before .before .before .before .before .before .before .before .before .before .before .before .before .before .before .before .before .before .pre .1 .passed) (c .before .before .before .before .before .before .before .before .before .before .before .before .before .before .before .before .before .before .before .args .name) _ (sym (c .before .before .before .before .before .before .before .before .before .before .before .before .component-of .ensures .0) ∙ c .before .before .before .before .before .before .before .before .before .before .number .given .1) .1) _ _ _ _ (sym (c .before .before .before .before .before .before .before .before .is-open .ensures) ∙ c .before .before .before .before .before .before .before .if1 .left) (c .before .before .before .before .before .before .opened .ensures .0) (c .before .before .before .before .before .both .ensures) (c .before .before .before .add-body .ensures .adds);
   grows = grows-then _ _ _ (done-grown _ _ (rw (c .before .before .before .before .before .before .before .before .before .before .before .before .before .before .node .given .1) at (c .before .before .before .before .before .before .before .before .before .before .before .before .before .before .before .before .spend .ensures .1))) (c .before .before .before .add-body .ensures .grows);
 })
 
@@ -362,7 +361,6 @@ add-group-add-body-requires t c κs =
       omega (arith, c .before .before .before .before .before .before .before .before .before .before .before .before .before .before .before .pre .0, some),
       (
         record {
-          small = c .before .before .before .before .before .before .before .before .before .before .before .before .before .before .before .pre .1 .0 .small;
           passed = c .before .before .before .before .before .before .before .before .before .before .before .before .before .before .before .pre .1 .0 .passed;
           deep = omega (arith, c .before .before .before .before .before .before .before .before .before .before .before .before .before .before .before .pre .1 .0 .deep);
           names = c .before .before .before .before .before .before .before .before .before .before .before .before .before .before .before .pre .1 .0 .names;

@@ -1,0 +1,99 @@
+// The message level of an expansion: the Rust's `build` (scope.rs). Header and trailer, then the message's body, each added at the top with no component open.
+use crate::builder::Added;
+use crate::builder::Builder;
+use crate::expansion::Path;
+use crate::expansion::add_body;
+use crate::expansion::outcome;
+use dictionary::definitions::message_of;
+use dictionary::dictionary_check::stands_at;
+use sorting::search::Found;
+use texts::refusal::Refusal;
+ghost use mathlib.Core.Path.{_≡_};
+ghost use mathlib.Core.Bool.{true};
+ghost use mathlib.Core.List.{[]};
+ghost use Prim.Native.Nat.{_+_, _≤_, _<_};
+ghost use lib.ListN.{length, getD};
+ghost use Rattle.dictionary.specs.DictionaryWords.{placeOf};
+ghost use Rattle.dictionary.specs.DictionaryCheck.{isDictionary};
+ghost use Rattle.expansion.specs.DictionaryLookups.{wordLines, Begins};
+ghost use Rattle.expansion.specs.Trace.{Fits};
+ghost use Rattle.expansion.specs.ExpansionPromises.{openNames, fillAt, Uses};
+ghost use Rattle.expansion.specs.BuildPromises.{Built, Traced};
+
+// Document 01: "top 0; over 32 refuses". So 33 depths are left at the top.
+const DEPTHS: usize = 33;
+
+// The kinds of the records that open the header and the trailer.
+const BEGIN_HEADER: u32 = 3;
+
+const BEGIN_TRAILER: u32 = 4;
+
+// No component is open.
+fn nothing_open() -> Path
+    ensures names { λ path. ⌜ openNames path ≡ [] ⌝ }
+    ensures first { λ path. ⌜ path .first ≡ 33 ⌝ }
+{
+    let names = [0; 33];
+    Path {
+        names,
+        first: DEPTHS,
+    }
+}
+
+// The place of the first line of this kind, which has no name.
+fn block_of(words: &[u32], kind: u32) -> usize
+    requires { ⌜ (isDictionary (now words) ≡ true) × (placeOf kind 0 (wordLines (now words)) < getD (now words) 0 0) ⌝ }
+    ensures { λ place. ⌜ place ≡ placeOf kind 0 (wordLines (now (words .entry))) ⌝ }
+{
+    let mut at: u32 = 0;
+    loop {
+        if stands_at(words, kind, 0, at) {
+            return at as usize;
+        }
+        at += 1;
+    }
+}
+
+// Adds the body behind a line to the message level.
+fn add_top(words: &[u32], line: usize, trace: &mut [u64], builder: Builder) -> Added
+    requires { ⌜ (isDictionary (now words) ≡ true) × (Begins (now words) line × (Fits builder × (14336 ≤ length (now trace)))) ⌝ }
+    ensures { λ added. ⌜ Uses (fillAt (now (words .entry)) 33 [] true (line + 1)) builder (now (trace .entry)) added (now (trace .exit)) ⌝ }
+{
+    let path = nothing_open();
+    let first = line + 1;
+    let filled = add_body(words, first, DEPTHS, path, true, trace, builder);
+    outcome(filled)
+}
+
+// Builds the message level: header and trailer, then the fields, groups and uses of the message whose line is at this place.
+pub fn build(words: &[u32], message: usize, trace: &mut [u64]) -> Added
+    requires { ⌜ (isDictionary (now words) ≡ true) × (Begins (now words) message × (14336 ≤ length (now trace))) ⌝ }
+    ensures { λ added. ⌜ Built (now (words .entry)) message added (now (trace .exit)) ⌝ }
+{
+    let header = block_of(words, BEGIN_HEADER);
+    let trailer = block_of(words, BEGIN_TRAILER);
+    let nothing = Builder {
+        nodes: 0,
+        members: 0,
+        required: 0,
+        len: 0,
+    };
+    match add_top(words, header, trace, nothing) {
+        Added::Refused(refusal) => Added::Refused(refusal),
+        Added::Done(head) => match add_top(words, trailer, trace, head) {
+            Added::Refused(refusal) => Added::Refused(refusal),
+            Added::Done(envelope) => add_top(words, message, trace, envelope),
+        },
+    }
+}
+
+// Writes the trace of the expansion of the message type.
+pub fn expand(words: &[u32], value: &[u8], trace: &mut [u64]) -> Added
+    requires { ⌜ (isDictionary (now words) ≡ true) × (14336 ≤ length (now trace)) ⌝ }
+    ensures { λ added. ⌜ Traced (now (words .entry)) (now (value .entry)) added (now (trace .exit)) ⌝ }
+{
+    match message_of(words, value) {
+        Found::Nothing => Added::Refused(Refusal::TypeNotDefined),
+        Found::At(number) => build(words, number, trace),
+    }
+}
