@@ -7,6 +7,7 @@ mod lists;
 mod numbers;
 mod text_cases;
 mod value_cases;
+mod verdict_cases;
 mod walk_cases;
 
 use crate::cases::CaseList;
@@ -24,6 +25,8 @@ fn main() {
     print_tally(b"check_layout_text: ", layouts);
     let walks = walk_cases::replay_file(b"walk_group.cases");
     print_tally(b"walk_group: ", walks);
+    let verdicts = verdict_cases::replay_file(b"check_values.cases");
+    print_tally(b"check_values, plain and strict: ", verdicts);
 }
 
 // One line: the name of the call, the cases, those that differ and those whose line is of no known form.

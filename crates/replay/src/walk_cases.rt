@@ -18,7 +18,7 @@ use walk::walk_call::Walked;
 use walk::walk_call::walk_group;
 
 // What the event space holds where no walk wrote.
-const UNWRITTEN: u64 = 0x5a5a_5a5a_5a5a_5a5a;
+pub const UNWRITTEN: u64 = 0x5a5a_5a5a_5a5a_5a5a;
 
 // How many words of each buffer a block fills.
 pub struct Block {
@@ -135,7 +135,7 @@ fn replay_line(
 }
 
 // Where the line goes on behind its first word and a space.
-fn behind_word(line: &[u8]) -> usize
+pub fn behind_word(line: &[u8]) -> usize
     ensures { λ rest. ⌜ rest ≤ length (now (line .entry)) ⌝ }
 {
     let space = find(line, 0, b' ');
@@ -362,7 +362,7 @@ fn is_refused(walked: Walked, needed: usize) -> bool {
     words == needed as u64
 }
 
-fn same_words(events: &[u64], words: &[u64]) -> bool {
+pub fn same_words(events: &[u64], words: &[u64]) -> bool {
     if events.len() != words.len() {
         return false;
     }
@@ -376,7 +376,7 @@ fn same_words(events: &[u64], words: &[u64]) -> bool {
     true
 }
 
-fn is_unwritten(events: &[u64]) -> bool {
+pub fn is_unwritten(events: &[u64]) -> bool {
     let mut index: usize = 0;
     while index < events.len() {
         if events[index] != UNWRITTEN {
@@ -388,7 +388,7 @@ fn is_unwritten(events: &[u64]) -> bool {
 }
 
 // Makes the space as it was before a walk.
-fn clear(events: &mut [u64]) {
+pub fn clear(events: &mut [u64]) {
     let mut index: usize = 0;
     while index < events.len() {
         events[index] = UNWRITTEN;
