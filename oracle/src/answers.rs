@@ -286,13 +286,15 @@ fn verdict_answers(lines: &str) -> Result<String, String> {
 /// recording visitor knows a field by the address of its value, and rows may
 /// share their bytes.
 #[derive(Default)]
-struct Table {
+pub struct Table {
     bytes: Vec<u8>,
     rows: Vec<(u32, usize, usize)>,
 }
 
 impl Table {
-    fn new(words: &[u32], message: &[u8]) -> Result<Self, String> {
+    /// # Errors
+    /// The words are not in threes, or a row's bytes are not there.
+    pub fn new(words: &[u32], message: &[u8]) -> Result<Self, String> {
         let (rows, rest) = words.as_chunks::<3>();
         if !rest.is_empty() {
             return Err("fields are not in threes".to_string());
@@ -309,7 +311,8 @@ impl Table {
         Ok(table)
     }
 
-    fn fields(&self) -> Vec<FieldRef<'_>> {
+    /// The fields as the Rust has them.
+    pub fn fields(&self) -> Vec<FieldRef<'_>> {
         let rows = self.rows.iter();
         rows.map(|&(tag, first, end)| FieldRef {
             tag,

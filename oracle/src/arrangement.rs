@@ -60,12 +60,17 @@ fn places(first: usize, lengths: &[usize]) -> Vec<u32> {
 
 /// The layout whose words these are, if they are the words of one.
 pub fn layout(words: &[u32]) -> Option<PlainLevel> {
+    layout_at_start(words).filter(|top| self::words(top) == words)
+}
+
+/// The layout whose words these begin with, if they begin with those of one.
+pub fn layout_at_start(words: &[u32]) -> Option<PlainLevel> {
     let groups = usize::try_from(*words.first()?).ok()?;
     if words.len() < 7 || groups > (words.len() - 7) / 6 {
         return None;
     }
     let top = Arranged { words, groups }.level(0)?;
-    (self::words(&top) == words).then_some(top)
+    words.starts_with(&self::words(&top)).then_some(top)
 }
 
 struct Arranged<'w> {

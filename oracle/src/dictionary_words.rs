@@ -3,7 +3,8 @@
 //! messages; ten words a line; then an index for each of the three, the names
 //! ascending, then for each the number of its record.
 
-use crate::lines::DictionaryLine;
+use crate::lines::{DictionaryLine, TYPE_NAMES};
+use crate::reader;
 use crate::schema::{Dictionary, FieldDef, MessageCategory, Version};
 use crate::values::{self, FIELD_TYPES};
 use std::collections::HashMap;
@@ -124,4 +125,88 @@ pub fn definitions(words: &[u32]) -> Result<Dictionary, String> {
 fn value(record: &[u32; RECORD]) -> String {
     let bytes = record[2..].iter().flat_map(|word| word.to_be_bytes());
     bytes.take(record[1] as usize).map(char::from).collect()
+}
+
+/// Whether the words begin with the arrangement of an accepted text: the text
+/// of their records is made, read, and arranged anew.
+pub fn is_dictionary(lent: &[u32]) -> bool {
+    text_of(lent).is_some_and(|text| match reader::dictionary(&text) {
+        Ok(lines) => lent.starts_with(&words(&lines)),
+        Err(_) => false,
+    })
+}
+
+/// The text that the records tell. Records of no line end in nothing.
+fn text_of(words: &[u32]) -> Option<Vec<u8>> {
+    let lines = usize::try_from(*words.first()?).ok()?;
+    let records = words.get(HEAD..)?.as_chunks::<RECORD>().0.get(..lines)?;
+    let mut text = Vec::new();
+    for record in records {
+        text.extend(line_text(record)?);
+        text.push(b'\n');
+    }
+    Some(text)
+}
+
+fn line_text(record: &[u32; RECORD]) -> Option<Vec<u8>> {
+    let [kind, first, second, third, ..] = *record;
+    let text = match kind {
+        1 => format!("def={first},{}", TYPE_NAMES.get(second as usize)?),
+        2 => {
+            let bytes: Vec<u8> = record[2..].iter().flat_map(|word| word.to_be_bytes()).collect();
+            let value = bytes.get(..first as usize)?;
+            return Some([b"value=", value].concat());
+        }
+        3 => "begin=header".to_string(),
+        4 => "begin=trailer".to_string(),
+        5 => format!("component={first}"),
+        6 => {
+            let category = if second == 1 { "app" } else { "admin" };
+            return Some([b"message=", spelled(first).as_slice(), format!(",{category}").as_bytes()].concat());
+        }
+        7 => format!("field={first},{second}"),
+        8 => format!("group={first},{second},{third}"),
+        9 => format!("use={first},{second}"),
+        10 => "end=header".to_string(),
+        11 => "end=trailer".to_string(),
+        12 => return Some([b"end=", spelled(first).as_slice()].concat()),
+        13 => format!("end={first}"),
+        _ => return None,
+    };
+    Some(text.into_bytes())
+}
+
+/// The bytes of a word up to the first 0.
+fn spelled(word: u32) -> Vec<u8> {
+    word.to_be_bytes().into_iter().take_while(|byte| *byte != 0).collect()
+}
+
+#[cfg(test)]
+mod tests {
+    use super::*;
+
+    const TEXT: &[u8] = b"def=35,String\nbegin=header\nfield=35,1\nend=header\nbegin=trailer\nend=trailer\ncomponent=7\nend=7\n";
+
+    #[test]
+    fn the_example_of_the_arrangement() {
+        let words = words(&reader::dictionary(TEXT).expect("an accepted text"));
+        assert_eq!(words.len(), 88);
+        assert_eq!(words[..7], [8, 1, 1, 0, 1, 35, 14]);
+        assert_eq!(words[74..], [12, 922_746_880, 0, 0, 0, 0, 0, 0, 0, 0, 35, 0, 7, 6]);
+        assert!(is_dictionary(&words));
+        assert!(is_dictionary(&[words.as_slice(), &[9, 9]].concat()));
+    }
+
+    #[test]
+    fn other_words_are_no_dictionary() {
+        let words = words(&reader::dictionary(TEXT).expect("an accepted text"));
+        assert!(!is_dictionary(&[]));
+        assert!(!is_dictionary(&words[..87]));
+        for place in 0..88 {
+            let mut other = words.clone();
+            other[place] += 1;
+            // Another type, and another tag of the header's field, may stand there.
+            assert_eq!(is_dictionary(&other), [6, 25].contains(&place), "{place}");
+        }
+    }
 }

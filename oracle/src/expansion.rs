@@ -38,6 +38,21 @@ pub fn expand<'d>(
     }
 }
 
+/// The same without the Rust's word on how many nodes are spent, which costs
+/// two expansions more.
+///
+/// # Errors
+/// As above.
+pub fn expand_quickly<'d>(
+    dict: &'d Dictionary,
+    msg_type: &str,
+) -> Result<Result<(Expansion<'d>, usize), Refusal>, String> {
+    match (meet(dict, msg_type), layouts::expand(dict, msg_type)) {
+        (Ok(nodes), Ok(expansion)) => Ok(Ok((expansion, nodes))),
+        _ => expand(dict, msg_type),
+    }
+}
+
 /// Whether a refusal is the first error of the Rust's expansion. For refusal
 /// 9 the Rust gives no name.
 fn is_first_error(refusal: Refusal, refused: &Refused) -> bool {

@@ -675,7 +675,7 @@ fn random_dictionaries(cases: &mut Cases) {
     }
 }
 
-fn random_body(numbers: &mut Numbers, depth: u64, used: u64, uses: bool, text: &mut Vec<String>) {
+pub fn random_body(numbers: &mut Numbers, depth: u64, used: u64, uses: bool, text: &mut Vec<String>) {
     let tag = |numbers: &mut Numbers| 1 + numbers.below(14);
     let required = |numbers: &mut Numbers| u8::from(numbers.below(3) != 0);
     for _ in 0..numbers.below(4) {

@@ -234,7 +234,7 @@ fn whole_dictionaries(cases: &mut Cases) {
 
 /// The lines of the table of places: known ones at places where they may
 /// stand and where they may not, ends of each form, and lines of no form.
-const DICTIONARY_LINES: &[&str] = &[
+pub const DICTIONARY_LINES: &[&str] = &[
     "def=1,Int",
     "def=2,Int",
     "value=A",
@@ -859,7 +859,7 @@ fn long_dictionaries(cases: &mut Cases) {
 }
 
 /// The lines of a dictionary made up.
-fn random_dictionary(numbers: &mut Numbers) -> Vec<String> {
+pub fn random_dictionary(numbers: &mut Numbers) -> Vec<String> {
     let mut text = Vec::new();
     for _ in 0..numbers.below(4) {
         let name = numbers.pick(&["Int", "Char", "String", "UtcTimestamp"]);
@@ -927,7 +927,7 @@ fn random_dictionaries(cases: &mut Cases) {
 }
 
 /// One line out, in, twice, or changed for another.
-fn damage_lines(numbers: &mut Numbers, text: &mut Vec<String>, forms: &[&str]) {
+pub fn damage_lines(numbers: &mut Numbers, text: &mut Vec<String>, forms: &[&str]) {
     if text.is_empty() {
         return;
     }
@@ -967,7 +967,7 @@ fn whole_layouts(cases: &mut Cases) {
     cases.lines("member=1 group=1,2,0 member=2 required=2 required=9 required=9 end=1");
 }
 
-const LAYOUT_LINES: &[&str] = &[
+pub const LAYOUT_LINES: &[&str] = &[
     "member=1",
     "member=20",
     "member=4294967295",
@@ -1318,7 +1318,7 @@ fn members_of_size(size: usize) -> Vec<u8> {
 }
 
 /// The lines of a level: of few tags, ascending as a rule.
-fn random_level(numbers: &mut Numbers, depth: u64, text: &mut Vec<String>) {
+pub fn random_level(numbers: &mut Numbers, depth: u64, text: &mut Vec<String>) {
     let mut members: Vec<u64> = (1..=6).filter(|_| numbers.below(3) != 0).collect();
     if numbers.once_in(12) && members.len() > 1 {
         let place = numbers.place(members.len());

@@ -365,7 +365,7 @@ fn random_walks(blocks: &mut Vec<Block>) {
 
 /// A layout over tags 1 to `tags` that meets the rules and has a group at the
 /// top.
-fn random_layout(numbers: &mut Numbers, tags: u64, depth: u64) -> PlainLevel {
+pub fn random_layout(numbers: &mut Numbers, tags: u64, depth: u64) -> PlainLevel {
     loop {
         let top = random_level(numbers, tags, depth);
         if !top.groups.is_empty() {
@@ -399,10 +399,10 @@ fn random_level(numbers: &mut Numbers, tags: u64, depth: u64) -> PlainLevel {
     }
 }
 
-type Fields = Vec<(u32, Vec<u8>)>;
+pub type Fields = Vec<(u32, Vec<u8>)>;
 
 /// Fields of the top and readings of its groups, then up to three faults.
-fn random_message(numbers: &mut Numbers, top: &PlainLevel, tags: u64, size: usize) -> Fields {
+pub fn random_message(numbers: &mut Numbers, top: &PlainLevel, tags: u64, size: usize) -> Fields {
     let mut message = Vec::new();
     for _ in 0..=numbers.below(3) {
         if numbers.once_in(3) {
@@ -423,7 +423,7 @@ fn random_message(numbers: &mut Numbers, top: &PlainLevel, tags: u64, size: usiz
     message
 }
 
-fn random_field(numbers: &mut Numbers, tags: u64) -> (u32, Vec<u8>) {
+pub fn random_field(numbers: &mut Numbers, tags: u64) -> (u32, Vec<u8>) {
     let value = numbers.pick(&VALUES).as_bytes().to_vec();
     (numbers.below(tags + 2) as u32, value)
 }
@@ -462,7 +462,7 @@ fn item(numbers: &mut Numbers, group: &PlainGroup, tag: u32, size: usize, messag
 }
 
 /// One field out, in, twice, in another place, or with another tag or value.
-fn damage(numbers: &mut Numbers, tags: u64, message: &mut Fields) {
+pub fn damage(numbers: &mut Numbers, tags: u64, message: &mut Fields) {
     if message.is_empty() {
         message.push(random_field(numbers, tags));
         return;
