@@ -21,8 +21,3 @@ pub mod PassAccepted
 pub mod AcceptedPass
 pub mod DefinedTags
 pub mod DefinedTagsLaws
-pub mod IndexWords
-pub mod IndexWordsLaws
-pub mod ReadDictionary
-pub mod ReadDictionaryCases
-pub mod ReadDictionaryLaws

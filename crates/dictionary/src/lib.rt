@@ -2,7 +2,5 @@
 pub mod defined_tags;
 pub mod definitions;
 pub mod dictionary_check;
-pub mod index_words;
 pub mod line_texts;
-pub mod read_dictionary;
 pub mod records;

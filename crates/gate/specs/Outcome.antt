@@ -17,8 +17,8 @@ use Rattle.layouts.specs.declared.members.LevelOutcome.the-variants as level
 use Rattle.layouts.specs.Limits.{gateLimits}
 use Rattle.layouts.specs.LayoutWords.{memberPlaces, levelMembers}
 use Rattle.layouts.specs.Members.{levelOutcome}
-use Rattle.dictionary.specs.declared.read_dictionary.Read.{Read}
-use Rattle.dictionary.specs.declared.read_dictionary.Read.the-variants as read
+use Rattle.read_dictionary.specs.declared.read_dictionary.Read.{Read}
+use Rattle.read_dictionary.specs.declared.read_dictionary.Read.the-variants as read
 use Rattle.validator.specs.declared.message_call.WalkedMessage.{WalkedMessage}
 use Rattle.validator.specs.declared.message_call.WalkedMessage.the-variants as message
 use Rattle.verdicts.specs.declared.verdicts_call.Judged.{Judged}

@@ -1,11 +1,11 @@
 // Reading a dictionary text into lent words.
 use crate::outcome::Outcome;
 use crate::outcome::refused;
-use dictionary::read_dictionary::Read;
-use dictionary::read_dictionary::read_dictionary;
+use read_dictionary::read_dictionary::Read;
+use read_dictionary::read_dictionary::read_dictionary;
 ghost use mathlib.Core.Path.{_≡_};
 ghost use lib.ListN.{length};
-ghost use Rattle.dictionary.specs.ReadDictionary.{readOf, readIn};
+ghost use Rattle.read_dictionary.specs.ReadDictionary.{readOf, readIn};
 ghost use Rattle.gate.specs.Outcome.{readOutcome};
 
 // `words`: how many words the dictionary takes.

@@ -1,0 +1,4 @@
+// Reading a dictionary text into the words of a dictionary.
+pub mod index_words;
+pub mod read_dictionary;
+pub mod record_words;
