@@ -48,7 +48,7 @@ sizeListed size [] = 0
 sizeListed size (group ∷ rest) = sizeWith size group + sizeListed size rest
 
 module _ (size : Level → ℕ) where
-  sizeListed-append : (these those : List Group) → sizeListed size (these ++ those) ≡ sizeListed size these + sizeListed size those
+  pub sizeListed-append : (these those : List Group) → sizeListed size (these ++ those) ≡ sizeListed size these + sizeListed size those
   unfolding sizeListed
   sizeListed-append [] those = omega arith
   sizeListed-append (first ∷ rest) those = omega (arith, sizeListed-append rest those)
@@ -58,7 +58,7 @@ module _ (size : Level → ℕ) where
   sizeAmong-listed no-groups = refl
   sizeAmong-listed (group-and first others) = ap (λ (rest : ℕ). sizeWith size first + rest) (sizeAmong-listed others)
 
-  sizeBelow-listed : (level : Level) → sizeBelow size level ≡ size level + sizeListed size (groupsOf level)
+  pub sizeBelow-listed : (level : Level) → sizeBelow size level ≡ size level + sizeListed size (groupsOf level)
   unfolding sizeBelow sizeAmong sizeWith
   sizeBelow-listed (level-of members required groups) = ap (λ (rest : ℕ). size (level-of members required groups) + rest) (sizeAmong-listed groups)
 
@@ -133,7 +133,7 @@ module _ (size : Level → ℕ) where
   firsts-size [] = omega arith
   firsts-size (group ∷ rest) = omega (arith, firstsAfter-size (countTag group) rest)
 
-  finished-groups : (groups : List Group) → sizeListed size (listed (grouped (firstsOf (sortedGroups groups)))) ≤ sizeListed size groups
+  pub finished-groups : (groups : List Group) → sizeListed size (listed (grouped (firstsOf (sortedGroups groups)))) ≤ sizeListed size groups
   finished-groups groups =
       omega (arith, ap (sizeListed size) (listed-grouped (firstsOf (sortedGroups groups))), firsts-size (sortedGroups groups), sorted-size groups)
 
@@ -230,15 +230,15 @@ around elsewhere spent = record {
   required = elsewhere .required + (length (spent .level .required) + sizeListed requiredCount (spent .level .groups));
 }
 
-one-group : (size : Level → ℕ) (group : Group) → sizeListed size (group ∷ []) ≡ sizeWith size group
+pub one-group : (size : Level → ℕ) (group : Group) → sizeListed size (group ∷ []) ≡ sizeWith size group
 unfolding sizeListed
 one-group size group = omega arith
 
-no-group : (size : Level → ℕ) → sizeListed size [] ≡ 0
+pub no-group : (size : Level → ℕ) → sizeListed size [] ≡ 0
 unfolding sizeListed
 no-group size = refl
 
-group-size : (size : Level → ℕ) (tag first : ℕ) (needed : Bool) (inner : Level) → sizeWith size (group-of tag first needed inner) ≡ sizeBelow size inner
+pub group-size : (size : Level → ℕ) (tag first : ℕ) (needed : Bool) (inner : Level) → sizeWith size (group-of tag first needed inner) ≡ sizeBelow size inner
 unfolding sizeBelow sizeAmong sizeWith
 group-size size tag first needed inner = refl
 

@@ -20,7 +20,3 @@ pub mod ExpansionInduction
 pub mod ExpansionLaws
 pub mod ExpansionRules
 pub mod ExpansionLimits
-pub mod ArrangeTrace
-pub mod ArrangeTraceLaws
-pub mod ArrangeGroups
-pub mod ArrangeGroupsLaws

@@ -6,6 +6,7 @@
 --   Own                            what a level has of its own: members and required tags as added, the groups, and the delimiter where it is left
 --   told place depth words own     what a level has, with `own` told before `place`, where the words from there on are these and so many
 --                                  groups inside are open
+--   finishAt place delimiter level    the level finished, and keptRequired its required list: the top keeps it, an entry drops from it
 --   ownAt trace place              what the level has that begins at the place
 --   levelAt trace place            this level, with the groups that stand in it finished
 --   groupAt trace start            the group that begins there
@@ -16,8 +17,8 @@ use mathlib.Core.List.{List, [], _∷_, _++_, map}
 use lib.ListN.{length, drop}
 use Rattle.ascii.specs.Notation.{_≡ᵇ_, if_then_else_}
 use Rattle.layouts.specs.Layout.{Level, Group, group-of}
-use Rattle.expansion.specs.Expansion.{OpenLevel, emptyLevel, finish, finishEntry}
+use Rattle.expansion.specs.Expansion.{OpenLevel, emptyLevel, finish, retained, finishEntry}
 use Rattle.expansion.specs.Trace.{tagIn, countTagIn}
 
 pub record Start : Type 0 where
   pub countTag : ℕ
@@ -66,9 +67,15 @@ told place (suc depth) (word ∷ words) own =
     else if word % 4 ≡ᵇ 3 then told (place + 1) depth words own
     else told (place + 1) (suc depth) words own
 
--- the top keeps its required list, an entry drops from it
 abbrev pub finishAt : ℕ → ℕ → OpenLevel → Level
 finishAt place delimiter level = if place ≡ᵇ 0 then finish level else finishEntry delimiter level
+
+-- the required list of the level that begins at the place, and what memory holds where it was put in order
+abbrev pub keptRequired : ℕ → ℕ → List ℕ → List ℕ
+keptRequired place delimiter required = if place ≡ᵇ 0 then required else retained delimiter [] required
+
+unfoldable pub keptIn : ℕ → ℕ → List ℕ → List ℕ
+keptIn place delimiter words = keptRequired place delimiter words ++ drop (length (keptRequired place delimiter words)) words
 
 module _ (trace : List ℕ) where
   abbrev pub ownAt : ℕ → Own

@@ -17,9 +17,9 @@ use lib.Seq.{drop-drop}
 use borrow.Author.Tests.{eqb-true, eqb-false, eq-eqb, ne-eqb}
 use Rattle.layouts.specs.Layout.{Group, group-of}
 use Rattle.layouts.specs.LayoutLaws.{map-append}
 use Rattle.expansion.specs.Expansion.{OpenLevel, emptyLevel, finish, finishEntry}
 use Rattle.expansion.specs.Trace.{Frame, withLevel, withMember, withRequired, left, tagIn, countTagIn, after, run, atStart}
-use Rattle.expansion.specs.ArrangeTrace.{Start, Own, nothingOwn, ownMember, ownRequired, startOf, ownGroup, ownLeft, told, finishAt, ownAt, groupWith, withGroups, levelWithin, levelAt, groupAt}
+use Rattle.expand.specs.ArrangeTrace.{Start, Own, nothingOwn, ownMember, ownRequired, startOf, ownGroup, ownLeft, told, finishAt, ownAt, groupWith, withGroups, levelWithin, levelAt, groupAt}
 
 -- ---- the four steps
 
@@ -87,16 +87,16 @@ unfoldable pub AllBehind : ℕ → List Start → Type 0
 AllBehind place [] = Unit
 AllBehind place (start ∷ rest) = (place < start .first) × AllBehind place rest
 
-behind-more : (place : ℕ) (starts : List Start) (start : Start) → AllBehind place starts → place < start .first → AllBehind place (starts ++ (start ∷ []))
+pub behind-more : (place : ℕ) (starts : List Start) (start : Start) → AllBehind place starts → place < start .first → AllBehind place (starts ++ (start ∷ []))
 unfolding AllBehind
 behind-more place [] start all later = (later, tt)
 behind-more place (first ∷ rest) start all later = (all .0, behind-more place rest start (all .1) later)
 
-behind-nothing : (place : ℕ) → AllBehind place []
+pub behind-nothing : (place : ℕ) → AllBehind place []
 unfolding AllBehind
 behind-nothing place = tt
 
-told-behind : (low place depth : ℕ) (words : List ℕ) (own : Own) → low ≤ place → AllBehind low (own .starts) → AllBehind low (told place depth words own .starts)
+pub told-behind : (low place depth : ℕ) (words : List ℕ) (own : Own) → low ≤ place → AllBehind low (own .starts) → AllBehind low (told place depth words own .starts)
 told-behind low place depth [] own from all = rw (told-ends place depth own) all
 told-behind low place zero (word ∷ words) own from all =
     elim (stepOf word) [
@@ -121,7 +121,7 @@ own-behind trace place = told-behind place place 0 (drop place trace) nothingOwn
 -- ---- levelWithin: enough turns are enough
 
 -- what is told from behind the trace is nothing
-own-past : (trace : List ℕ) (place : ℕ) → length trace ≤ place → ownAt trace place ≡ nothingOwn
+pub own-past : (trace : List ℕ) (place : ℕ) → length trace ≤ place → ownAt trace place ≡ nothingOwn
 own-past trace place past = rw (drop-of-length-le trace {i = place} past) (told-ends place 0 nothingOwn)
 
 module _ (trace : List ℕ) where
