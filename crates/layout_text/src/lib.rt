@@ -1,4 +1,3 @@
-// Hand-made layout texts: the layout that a text tells, its rules, and its words.
+// Hand-made layout texts: the layout that a text tells, and its rules.
 pub mod layout_rules;
 pub mod level_line;
-pub mod read_layout;

@@ -17,11 +17,11 @@ use Rattle.texts.specs.LineForms.{fieldOf, groupRest, groupOf, endOf, blockLine
 use Rattle.texts.specs.LayoutText.{levelStepOf, layoutOrderFrom, layoutOrderOf, layoutTextOf}
 use Rattle.layouts.specs.Layout.{level-of, no-groups, group-and, group-of, groupsBelow, levelOrder, allGroups, joined}
 use Rattle.layouts.specs.LayoutWords.{placesFrom, arrangedParts, arranged}
-use Rattle.layout_text.specs.declared.read_layout.ReadLayout.the-variants.{Written, Refused}
+use Rattle.read_layout.specs.declared.read_layout.ReadLayout.the-variants.{Written, Refused}
 use Rattle.layout_text.specs.LevelLines.{levelLineOf, linesIn}
 use Rattle.layout_text.specs.LayoutOfText.{levelFrom, layoutOf}
 use Rattle.layout_text.specs.FirstBroken.{ownBroken, topBroken, firstBelow, firstBroken}
-use Rattle.layout_text.specs.ReadLayout.{layoutOutcome, readOutcome, readWords}
+use Rattle.read_layout.specs.ReadLayout.{layoutOutcome, readOutcome, readWords}
 
 abbrev partiesText : List ℕ
 partiesText = ascii "member=35\nmember=453\nrequired=35\ngroup=453,448,1\nmember=447\nmember=448\nrequired=447\nend=453\n"
