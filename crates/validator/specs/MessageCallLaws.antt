@@ -69,7 +69,8 @@ module _ (dictionary words fields message : List ℕ) (accepted : Accepted dicti
     table = accepted .table;
   }
 
-  module _ (defined seen before between : List ℕ) (are-defined : defined ≡ definedTags dictionary) (at : ℕ) (walked : Walked defined words fields message seen before between at) where
+  module _ (defined seen before between : List ℕ) (are-defined : defined ≡ definedTags dictionary) (at : ℕ)
+      (walked : Walked defined words fields message seen before between at) where
     pub walked-few : at ≤ 102400
     walked-few = omega (arith, walked .few, accepted .table .few)
 

@@ -81,7 +81,8 @@ module _ (words fields message : List ℕ) (index tag at : ℕ) (asks : PlaceAsk
     pub group-valid : group < groupCount words
     group-valid = groupOf-number words (asks .passed) 0 tag group (omega arith) number-there
 
-    pub place-group : (top : List ℕ) → top ≡ levelMembers words 0 → (before after : List ℕ) (past next : ℕ) → Walks words fields message top group index 0 before after at past next
+    pub place-group : (top : List ℕ) → top ≡ levelMembers words 0 → (before after : List ℕ) (past next : ℕ)
+        → Walks words fields message top group index 0 before after at past next
         → Placed words fields message index tag before after at past next
     place-group top is-top before after past next walks = record {
       wrote = λ defined. rw (number-there, ← is-top) (walks .wrote);
@@ -90,9 +91,11 @@ module _ (words fields message : List ℕ) (index tag at : ℕ) (asks : PlaceAsk
 
 -- ---- a turn
 
-module _ (defined words fields message seen : List ℕ) (index at : ℕ) (asks : TurnAsks defined words fields message seen index at) (tag : ℕ) (tag-is : tag ≡ tagOf fields index)
+module _ (defined words fields message seen : List ℕ) (index at : ℕ) (asks : TurnAsks defined words fields message seen index at)
+    (tag : ℕ) (tag-is : tag ≡ tagOf fields index)
     (found : Found) (searched : StrictlyAscending defined → found ≡ rankIn defined tag) where
-  pub turn-skips : found ≡ Nothing → (space tags : List ℕ) → SeenTags defined seen tags → Turned defined words fields message tags index seen space space at at (index + 1)
+  pub turn-skips : found ≡ Nothing → (space tags : List ℕ) → SeenTags defined seen tags
+      → Turned defined words fields message tags index seen space space at at (index + 1)
   turn-skips nowhere space tags kept =
       let unknown : among defined (tagOf fields index) ≡ false = rw (← tag-is) (not-defined defined (asks .lent .ascends) tag found searched nowhere) in
       let turn = turn-undefined (inputOf words fields message) (levelOf defined words) tags index unknown in

@@ -93,7 +93,8 @@ listed = (1 ∷ 453 ∷ 0 ∷ 0 ∷ 0 ∷ []) ∷ (5 ∷ 453 ∷ 0 ∷ 0 ∷ 2 �
 
 -- the call on so many words of space, and what it leaves there
 abbrev pub called : List ℕ → List ℕ → ℕ → WalkedMessage × List ℕ
-called words layout room = (walkedOf words layout (tableFrom 0 message) (valuesOf message) (replicate room 7), eventsIn words layout (tableFrom 0 message) (valuesOf message) (replicate room 7))
+called words layout room =
+    (walkedOf words layout (tableFrom 0 message) (valuesOf message) (replicate room 7), eventsIn words layout (tableFrom 0 message) (valuesOf message) (replicate room 7))
 
 pub record MessageCalls : Type 0 where
   pub dictionary-passes : isDictionary (dictionaryWords dictionary) ≡ true

@@ -74,7 +74,7 @@ module _ (input : Input) (level : MessageLevel (input .layout .Group)) where
     place-passes (some group) there =
         let passes = walkGroup-passes input rules group 0 allows index (valid (tagAt index) group there) inside in
         let few = walkGroup-few-events input rules group 0 allows index (valid (tagAt index) group there) inside in
-        (passes .0, passes .1, omega (arith, passes .0, few))
+        (omega (arith, passes .0), omega (arith, passes .1, inside), omega (arith, passes .0, few))
 
     pub turn-passes : (seen : List ℕ) → Passes fieldCount index (turnAt input level seen index .next) (length (turnAt input level seen index .events))
     unfolding turnAt

@@ -122,7 +122,9 @@ module _ (input : Input) (level : MessageLevel (input .layout .Group)) where
           (walkGroup-bracketed input (begins .group) (level .allows) (begins .index) (begins .walk-at .inside)) (begins .whole);
     }
 
-  pub message-walk-stretches : (before stretch after : List Event) → messageEvents input level ≡ before ++ (stretch ++ after) → FromEnterToLeave stretch → OwnWalk stretch
+  pub message-walk-stretches : (before stretch after : List Event) → messageEvents input level ≡ before ++ (stretch ++ after)
+      → FromEnterToLeave stretch
+      → OwnWalk stretch
   message-walk-stretches before stretch after stands bounds =
       own-walk stretch after bounds
       (walk-begins input level (bounds .first) (bounds .middle ++ (bounds .last ∷ after)) (bounds .enters) (messageEvents input level) before (message-parts input level)
@@ -147,15 +149,18 @@ module _ (dictionary words fields message space : List ℕ) where
     -- every stretch from an enter at depth 0 to its leave
     pub stretches : (before stretch after : List Event) → events ≡ before ++ (stretch ++ after) → FromEnterToLeave stretch → StretchFinds stretch
 
-  module _ (defines : isDictionary dictionary ≡ true) (right : isLayout gateLimits words ≡ true) (table : tableCheckOf fields (length message) ≡ Accepted)
-      (room : neededFor (walkOf dictionary words fields message) ≤ length space) where
-    left : eventsIn dictionary words fields message space ≡ eventsWords (walkOf dictionary words fields message) ++ drop (neededFor (walkOf dictionary words fields message)) space
-    unfolding eventsIn
-    left = rw (defines, right, table, le-leb (neededFor (walkOf dictionary words fields message)) (length space) room)
+  abbrev pub walked : List Event
+  walked = walkOf dictionary words fields message
 
-    answered : walkedOf dictionary words fields message space ≡ Done (neededFor (walkOf dictionary words fields message))
+  module _ (defines : isDictionary dictionary ≡ true) (right : isLayout gateLimits words ≡ true) (table : tableCheckOf fields (length message) ≡ Accepted)
+      (room : neededFor walked ≤ length space) where
+    left : eventsIn dictionary words fields message space ≡ eventsWords walked ++ drop (neededFor walked) space
+    unfolding eventsIn
+    left = rw (defines, right, table, le-leb (neededFor walked) (length space) room)
+
+    answered : walkedOf dictionary words fields message space ≡ Done (neededFor walked)
     unfolding walkedOf
-    answered = rw (defines, right, table, le-leb (neededFor (walkOf dictionary words fields message)) (length space) room)
+    answered = rw (defines, right, table, le-leb (neededFor walked) (length space) room)
 
     stretch-finds : (stretch : List Event) → OwnWalk (inputOf words fields message) (levelOf (definedTags dictionary) words) stretch → StretchFinds stretch
     stretch-finds stretch own =
@@ -169,14 +174,12 @@ module _ (dictionary words fields message space : List ℕ) where
 
     pub message-call-finds-readings : MessageCallFinds
     message-call-finds-readings = record {
-      events = walkOf dictionary words fields message;
+      events = walked;
       answer = answered;
       written =
-          ap (take (neededFor (walkOf dictionary words fields message))) left
-          ∙ take-at (eventsWords (walkOf dictionary words fields message)) _ (neededFor (walkOf dictionary words fields message)) (eventsWords-length (walkOf dictionary words fields message));
+          ap (take (neededFor walked)) left ∙ take-at (eventsWords walked) _ (neededFor walked) (eventsWords-length walked);
       kept =
-          ap (drop (neededFor (walkOf dictionary words fields message))) left
-          ∙ drop-at (eventsWords (walkOf dictionary words fields message)) _ (neededFor (walkOf dictionary words fields message)) (eventsWords-length (walkOf dictionary words fields message));
+          ap (drop (neededFor walked)) left ∙ drop-at (eventsWords walked) _ (neededFor walked) (eventsWords-length walked);
       stretches = λ before stretch after stands bounds.
           stretch-finds stretch (message-walk-stretches (inputOf words fields message) (levelOf (definedTags dictionary) words) before stretch after stands bounds);
     }

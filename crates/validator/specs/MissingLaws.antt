@@ -38,7 +38,8 @@ module _ (defined seen : List ℕ) (tag : ℕ) (held : Bool) (is-held : (tags : 
   absent-not-seen nowhere wrote tags kept = rw (sym (is-held tags kept) ∙ nowhere) wrote
 
 module _ (defined seen : List ℕ) (tag : ℕ) where
-  pub tag-10 : tag ≡ 10 → (space : List ℕ) (at : ℕ) → (tags : List ℕ) → SeenTags defined seen tags → Wrote space space at at (missingIf (not (tag ≡ᵇ 10) && not (tag ∈ᵇ tags)) tag)
+  pub tag-10 : tag ≡ 10 → (space : List ℕ) (at : ℕ) → (tags : List ℕ) → SeenTags defined seen tags
+      → Wrote space space at at (missingIf (not (tag ≡ᵇ 10) && not (tag ∈ᵇ tags)) tag)
   tag-10 ten space at tags kept = rw (eq-eqb tag 10 ten) (wrote-none space at)
 
   pub tag-other : {before after : List ℕ} {at next : ℕ} → (tag ≡ 10 → ⊥)
@@ -149,7 +150,8 @@ module _ (defined seen words before : List ℕ) (at : ℕ) where
       near = omega (arith, written .near);
       same-length = same ∙ written .same-length;
       wrote = λ tags kept.
-          rw (requiredFrom-next words number, missingGroups-append tags (requiredFrom words 0 number) (requiredFrom words number 1)) (wrote-then (written .wrote tags kept) (wrote tags kept));
+          rw (requiredFrom-next words number, missingGroups-append tags (requiredFrom words 0 number) (requiredFrom words number 1))
+          (wrote-then (written .wrote tags kept) (wrote tags kept));
     }
 
     pub groups-over : groups ≤ number → (tags : List ℕ) → SeenTags defined seen tags → Wrote before after at to (missingGroups tags (requiredFrom words 0 groups))
@@ -181,13 +183,14 @@ requiredFrom-few words number (suc count) = go (eqb (flagAt words number) 1) (re
 
 required-few-here : (words : List ℕ) → Passed gateLimits words → length (levelRequired words 0) ≤ 2048
 required-few-here words passed =
+    let places = requiredPlaces (groupCount words) in
     let run = required-places gateLimits (groupCount words) words (passed .heads) (passed .required-hold) in
     let most = required-few gateLimits (groupCount words) words (passed .heads) (passed .required-hold) in
     let inside = required-inside gateLimits words passed 0 (omega arith) in
-    let size = length-stretch words (requiredPlaces (groupCount words) + 0) inside in
-    let first : getD words (requiredPlaces (groupCount words) + 0) 0 ≡ getD words (requiredPlaces (groupCount words)) 0 = ap (λ (place : ℕ). getD words place 0) (omega arith) in
-    let second : getD words (requiredPlaces (groupCount words) + 0 + 1) 0 ≡ getD words (requiredPlaces (groupCount words) + 1) 0 = ap (λ (place : ℕ). getD words place 0) (omega arith) in
-    let last : getD words (requiredPlaces (groupCount words) + (groupCount words + 1)) 0 ≡ getD words (4 + 2 * groupCount words) 0 = ap (λ (place : ℕ). getD words place 0) (omega arith) in
+    let size = length-stretch words (places + 0) inside in
+    let first : getD words (places + 0) 0 ≡ getD words places 0 = ap (λ (place : ℕ). getD words place 0) (omega arith) in
+    let second : getD words (places + 0 + 1) 0 ≡ getD words (places + 1) 0 = ap (λ (place : ℕ). getD words place 0) (omega arith) in
+    let last : getD words (places + (groupCount words + 1)) 0 ≡ getD words (4 + 2 * groupCount words) 0 = ap (λ (place : ℕ). getD words place 0) (omega arith) in
     omega (arith, size, first, second, last, run .begins, run .reaches 1 (omega arith), most, inside .rises)
 
 module _ (words : List ℕ) (passed : Passed gateLimits words) where

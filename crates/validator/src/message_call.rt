@@ -50,7 +50,8 @@ fn walk_level(
     events: &mut [u64],
 ) -> usize
     requires { ⌜ Accepted (now dictionary) (now layout) (now fields) (now message) ⌝ }
-    ensures { λ past. ⌜ Wrote (now (events .entry)) (now (events .exit)) 0 past (walkOf (now (dictionary .entry)) (now (layout .entry)) (now (fields .entry)) (now (message .entry))) ⌝ }
+    ensures { λ past. ⌜ Wrote (now (events .entry)) (now (events .exit)) 0 past
+        (walkOf (now (dictionary .entry)) (now (layout .entry)) (now (fields .entry)) (now (message .entry))) ⌝ }
 {
     let defined = defined_tags(dictionary);
     let mut seen = [0u64; 171];
@@ -67,8 +68,10 @@ fn count_first(
     events: &mut [u64],
 ) -> WalkedMessage
     requires { ⌜ Accepted (now dictionary) (now layout) (now fields) (now message) ⌝ }
-    ensures outcome { λ walked. ⌜ walked ≡ spaceAnswer (walkOf (now (dictionary .entry)) (now (layout .entry)) (now (fields .entry)) (now (message .entry))) (now (events .entry)) ⌝ }
-    ensures memory { λ _. ⌜ now (events .exit) ≡ spaceWith (walkOf (now (dictionary .entry)) (now (layout .entry)) (now (fields .entry)) (now (message .entry))) (now (events .entry)) ⌝ }
+    ensures outcome { λ walked. ⌜ walked ≡ spaceAnswer
+        (walkOf (now (dictionary .entry)) (now (layout .entry)) (now (fields .entry)) (now (message .entry))) (now (events .entry)) ⌝ }
+    ensures memory { λ _. ⌜ now (events .exit) ≡ spaceWith
+        (walkOf (now (dictionary .entry)) (now (layout .entry)) (now (fields .entry)) (now (message .entry))) (now (events .entry)) ⌝ }
 {
     let needed = walk_level(dictionary, layout, fields, message, &mut events[..0]);
     if events.len() < needed {
@@ -87,8 +90,10 @@ fn walk_accepted(
     events: &mut [u64],
 ) -> WalkedMessage
     requires { ⌜ Accepted (now dictionary) (now layout) (now fields) (now message) ⌝ }
-    ensures outcome { λ walked. ⌜ walked ≡ spaceAnswer (walkOf (now (dictionary .entry)) (now (layout .entry)) (now (fields .entry)) (now (message .entry))) (now (events .entry)) ⌝ }
-    ensures memory { λ _. ⌜ now (events .exit) ≡ spaceWith (walkOf (now (dictionary .entry)) (now (layout .entry)) (now (fields .entry)) (now (message .entry))) (now (events .entry)) ⌝ }
+    ensures outcome { λ walked. ⌜ walked ≡ spaceAnswer
+        (walkOf (now (dictionary .entry)) (now (layout .entry)) (now (fields .entry)) (now (message .entry))) (now (events .entry)) ⌝ }
+    ensures memory { λ _. ⌜ now (events .exit) ≡ spaceWith
+        (walkOf (now (dictionary .entry)) (now (layout .entry)) (now (fields .entry)) (now (message .entry))) (now (events .entry)) ⌝ }
 {
     let most = most_words(layout, fields);
     if events.len() < most {
@@ -107,8 +112,10 @@ pub fn walk_message(
     message: &[u8],
     events: &mut [u64],
 ) -> WalkedMessage
-    ensures outcome { λ walked. ⌜ walked ≡ walkedOf (now (dictionary .entry)) (now (layout .entry)) (now (fields .entry)) (now (message .entry)) (now (events .entry)) ⌝ }
-    ensures memory { λ _. ⌜ now (events .exit) ≡ eventsIn (now (dictionary .entry)) (now (layout .entry)) (now (fields .entry)) (now (message .entry)) (now (events .entry)) ⌝ }
+    ensures outcome { λ walked. ⌜ walked ≡ walkedOf
+        (now (dictionary .entry)) (now (layout .entry)) (now (fields .entry)) (now (message .entry)) (now (events .entry)) ⌝ }
+    ensures memory { λ _. ⌜ now (events .exit) ≡ eventsIn
+        (now (dictionary .entry)) (now (layout .entry)) (now (fields .entry)) (now (message .entry)) (now (events .entry)) ⌝ }
 {
     if !is_dictionary(dictionary) {
         return WalkedMessage::Refused(Refusal::UnknownForm(0));

@@ -133,7 +133,8 @@ pub fn put_missing(
     requires { ⌜ at ≤ 102400 ⌝ }
     ensures { λ past. ⌜ ((tags : List ℕ) → SeenTags (now (defined .entry)) (now (seen .entry)) tags
         → Wrote (now (events .entry)) (now (events .exit)) at past
-        (missingTags tags (levelRequired (now (layout .entry)) 0) ++ missingGroups tags (requiredFrom (now (layout .entry)) 0 (length (levelCountTags (now (layout .entry)) 0))))) ⌝ }
+        (missingTags tags (levelRequired (now (layout .entry)) 0)
+        ++ missingGroups tags (requiredFrom (now (layout .entry)) 0 (length (levelCountTags (now (layout .entry)) 0))))) ⌝ }
 {
     let required = required_at(layout, 0);
     let to = put_missing_tags(defined, required, seen, events, at);

@@ -68,7 +68,8 @@ module _ (input : Input) (level : MessageLevel (input .layout .Group)) where
   unfolding missingTags
   missingTags-none seen [] = tt
   missingTags-none seen (tag ∷ rest) =
-      none-append isBound (missingIf (not (tag ≡ᵇ 10) && not (tag ∈ᵇ seen)) tag) (missingTags seen rest) (missing-none (not (tag ≡ᵇ 10) && not (tag ∈ᵇ seen)) tag) (missingTags-none seen rest)
+      none-append isBound (missingIf (not (tag ≡ᵇ 10) && not (tag ∈ᵇ seen)) tag) (missingTags seen rest)
+      (missing-none (not (tag ≡ᵇ 10) && not (tag ∈ᵇ seen)) tag) (missingTags-none seen rest)
 
   missingGroups-none : (seen tags : List ℕ) → None isBound (missingGroups seen tags)
   unfolding missingGroups
@@ -78,7 +79,8 @@ module _ (input : Input) (level : MessageLevel (input .layout .Group)) where
 
   place-parts : (found : Option Group) (index : ℕ) (rest : List Event) → index < fieldCount → isDefined (tagAt index) ≡ true → topGroup (tagAt index) ≡ found → Parts rest
       → Parts (placeAt input level found index .events ++ rest)
-  place-parts none index rest inside known there parts = level-events (foreignUnless (allows (tagAt index)) (tagAt index)) rest (foreign-none (allows (tagAt index)) (tagAt index)) parts
+  place-parts none index rest inside known there parts =
+      level-events (foreignUnless (allows (tagAt index)) (tagAt index)) rest (foreign-none (allows (tagAt index)) (tagAt index)) parts
   place-parts (some group) index rest inside known there parts = group-walk index group rest (record { inside = inside; defined = known; counts = there }) parts refl
 
   turn-parts : (seen : List ℕ) (index : ℕ) (rest : List Event) → index < fieldCount → Parts rest → Parts (turnAt input level seen index .events ++ rest)
@@ -120,7 +122,8 @@ module _ (input : Input) (level : MessageLevel (input .layout .Group)) where
     where
       groups-missing : (seen : List ℕ) → Parts (missingGroups seen requiredGroups)
       groups-missing seen =
-          let with-none : Parts (missingGroups seen requiredGroups ++ []) = level-events (missingGroups seen requiredGroups) [] (missingGroups-none seen requiredGroups) (no-part refl) in
+          let with-none : Parts (missingGroups seen requiredGroups ++ []) =
+          level-events (missingGroups seen requiredGroups) [] (missingGroups-none seen requiredGroups) (no-part refl) in
           rw append-nil at with-none
 
   -- ---- where an enter stands
@@ -150,10 +153,13 @@ module _ (input : Input) (level : MessageLevel (input .layout .Group)) where
     not-empty (other ∷ before) same = let zero-one : _≡_ {A = ℕ} 0 1 = cc in omega arith
 
     -- events without an enter stand before it
-    passed : (events rest before : List Event) → None isEnter events → events ++ rest ≡ before ++ (first ∷ tail) → (before′ : List Event) × (rest ≡ before′ ++ (first ∷ tail))
+    passed : (events rest before : List Event) → None isEnter events → events ++ rest ≡ before ++ (first ∷ tail)
+        → (before′ : List Event) × (rest ≡ before′ ++ (first ∷ tail))
     passed [] rest before clear same = (before, same)
     passed (event ∷ events) rest [] clear same = let is-first : event ≡ first = cc in absurd (not-first event (clear .0) is-first)
-    passed (event ∷ events) rest (other ∷ before) clear same = let behind : events ++ rest ≡ before ++ (first ∷ tail) = cc in passed events rest before (clear .1) behind
+    passed (event ∷ events) rest (other ∷ before) clear same =
+        let behind : events ++ rest ≡ before ++ (first ∷ tail) = cc in
+        passed events rest before (clear .1) behind
 
     -- behind the enter of a walk
     walk-passed : (index : ℕ) (group : Group) (rest before : List Event) (other : Event) → index < fieldCount
