@@ -9,16 +9,16 @@ use lib.Seq.{drop-drop, getD-drop}
 use borrow.Author.Tests.{le-leb, lt-leb, eq-eqb, ne-eqb}
 use Rattle.ascii.specs.Notation.{isBetween}
 use Rattle.sorting.specs.Search.{isStrictlyAscending}
-use Rattle.texts.specs.declared.refusal.Refusal.{Refusal}
 use Rattle.texts.specs.declared.line.Line.{Line}
 use Rattle.texts.specs.declared.dictionary_order.State.{State}
-use Rattle.texts.specs.declared.dictionary_order.Fault.the-variants.{NoFault, Faulty}
-use Rattle.texts.specs.declared.dictionary_order.Step.{Step}
 use Rattle.texts.specs.DictionaryOrder.{start, stepOf, behindTrailer, behindMessage}
 use Rattle.texts.specs.DictionaryOrderLaws.{step-depth}
 use Rattle.dictionary.specs.Records.{lineFrom}
 use Rattle.dictionary.specs.LineTexts.{lengthOf}
-use Rattle.dictionary.specs.DictionaryCheck.{linesFrom, accepts, countOf, standsAt, standsEach, isIndex, tagsAt, componentsAt, messagesAt, sizeOf, isDictionary}
+use Rattle.dictionary.specs.declared.line_order.Standing.{Standing}
+use Rattle.dictionary.specs.LineOrder.{stateOf, standingOf}
+use Rattle.dictionary.specs.LineOrderLaws.{state-again}
+use Rattle.dictionary.specs.DictionaryCheck.{isTaken, linesFrom, accepts, countOf, standsAt, standsEach, isIndex, tagsAt, componentsAt, messagesAt, sizeOf, isDictionary}
 
 -- ---- linesFrom
 
@@ -50,30 +50,37 @@ module _ (words : List ℕ) (lines : ℕ) (state : State) (total done at : ℕ) 
   unfolding linesFrom accepts
   accepts-ends over = let none : lines - done ≡ 0 = omega (arith, so-far .within) in so-far .rest ∙ rw none
 
-  module _ (inside : done < lines) (line : Line) (read : line ≡ lineFrom (take 10 (drop at words))) (step : Step) (stepped : step ≡ stepOf state (done + 1) line) where
+  module _ (inside : done < lines) (line : Line) (read : line ≡ lineFrom (take 10 (drop at words))) (next : Standing) (stands : next ≡ standingOf (stepOf state (done + 1) line)) where
     next-line : linesFrom (lines - done) (drop at words) ≡ line ∷ linesFrom (lines - (done + 1)) (drop (at + 10) words)
     next-line =
         let more : lines - done ≡ suc (lines - (done + 1)) = omega arith in
         rw (more, read) (linesFrom-step (lines - (done + 1)) words at)
 
-    pub accepts-faulty : (refusal : Refusal) → step .fault ≡ Faulty refusal → accepts start 1 0 (linesFrom lines (drop 4 words)) ≡ false
-    unfolding accepts
-    accepts-faulty refusal fault = so-far .rest ∙ rw (next-line, ← stepped, fault)
+    taken-same : isTaken (stepOf state (done + 1) line .fault) ≡ next .taken
+    taken-same = rw stands
 
-    module _ (taken : step .fault ≡ NoFault) (len : ℕ) (counted : len ≡ lengthOf line) where
+    pub accepts-faulty : next .taken ≡ false → accepts start 1 0 (linesFrom lines (drop 4 words)) ≡ false
+    unfolding accepts
+    accepts-faulty fault = so-far .rest ∙ rw (next-line, taken-same, fault)
+
+    module _ (taken : next .taken ≡ true) (len : ℕ) (counted : len ≡ lengthOf line) where
       pub accepts-long : 65536 < total + (len + 1) → accepts start 1 0 (linesFrom lines (drop 4 words)) ≡ false
       unfolding accepts
-      accepts-long over = so-far .rest ∙ rw (next-line, ← stepped, taken, ← counted, lt-leb (total + (len + 1)) 65536 over)
+      accepts-long over = so-far .rest ∙ rw (next-line, taken-same, taken, ← counted, lt-leb (total + (len + 1)) 65536 over)
 
-      pub accepts-goes-on : total + (len + 1) ≤ 65536 → AcceptsSoFar words lines (step .next) (total + (len + 1)) (done + 1) (at + 10)
+      pub accepts-goes-on : (tags : List ℕ) → tags ≡ stepOf state (done + 1) line .next .counts
+          → total + (len + 1) ≤ 65536
+          → AcceptsSoFar words lines (stateOf next tags) (total + (len + 1)) (done + 1) (at + 10)
       unfolding accepts
-      accepts-goes-on few = record {
-        within = omega arith;
-        place = omega (arith, so-far .place);
-        few-open = rw stepped (step-depth state (done + 1) (so-far .few-open) line);
-        few-bytes = few;
-        rest = so-far .rest ∙ rw (next-line, ← stepped, taken, ← counted, le-leb (total + (len + 1)) 65536 few);
-      }
+      accepts-goes-on tags opens few =
+          let behind : stateOf next tags ≡ stepOf state (done + 1) line .next = rw (stands, opens) (state-again (stepOf state (done + 1) line)) in
+          record {
+            within = omega arith;
+            place = omega (arith, so-far .place);
+            few-open = rw behind (step-depth state (done + 1) (so-far .few-open) line);
+            few-bytes = few;
+            rest = so-far .rest ∙ rw (next-line, taken-same, taken, ← counted, le-leb (total + (len + 1)) 65536 few, behind);
+          }
 
 -- ---- countOf: the loop of `count_of`
 

@@ -12,6 +12,8 @@ pub mod LinePartReadLaws
 pub mod LineReadLaws
 pub mod DictionaryWords
 pub mod DictionaryCheck
+pub mod LineOrder
+pub mod LineOrderLaws
 pub mod DictionaryCheckLaws
 pub mod Definitions
 pub mod DictionaryCases

@@ -1,14 +1,13 @@
 // The check of lent words: whether they begin with the arrangement of an accepted dictionary.
+use crate::line_order::Standing;
+use crate::line_order::next_standing;
 use crate::line_texts::length_of;
 use crate::records::line_at;
 use sorting::search::is_strictly_ascending;
 use texts::dictionary_order::BEGINNING;
 use texts::dictionary_order::BEHIND_MESSAGE;
 use texts::dictionary_order::BEHIND_TRAILER;
-use texts::dictionary_order::Fault;
 use texts::dictionary_order::NO_BODY;
-use texts::dictionary_order::State;
-use texts::dictionary_order::take_line;
 ghost use mathlib.Core.Path.{_≡_};
 ghost use Prim.Native.Nat.{_+_, _*_, _≤_};
 ghost use lib.ListN.{length, getD, drop};
@@ -17,13 +16,13 @@ ghost use Rattle.texts.specs.DictionaryOrder.{start, behindTrailer, behindMessa
 ghost use Rattle.dictionary.specs.DictionaryCheck.{linesFrom, accepts, countOf, standsAt, standsEach, isIndex, isDictionary};
 
 // A text may end here: behind its trailer, and with no block open.
-fn may_end(state: State) -> bool
-    ensures { λ answer. ⌜ answer ≡ isBetween behindTrailer behindMessage (state .stage) ⌝ }
+fn may_end(stage: u8) -> bool
+    ensures { λ answer. ⌜ answer ≡ isBetween behindTrailer behindMessage stage ⌝ }
 {
-    if state.stage < BEHIND_TRAILER {
+    if stage < BEHIND_TRAILER {
         return false;
     }
-    state.stage <= BEHIND_MESSAGE
+    stage <= BEHIND_MESSAGE
 }
 
 // The lines of so many records are those of an accepted text, but for what is defined again.
@@ -31,38 +30,32 @@ fn is_accepted(words: &[u32], lines: usize) -> bool
     requires { ⌜ 4 + 10 * lines ≤ length (now words) ⌝ }
     ensures { λ answer. ⌜ answer ≡ accepts start 1 0 (linesFrom lines (drop 4 (now (words .entry)))) ⌝ }
 {
-    let mut state = State {
+    let mut counts = [0u32; 40];
+    let mut standing = Standing {
+        taken: true,
         stage: BEGINNING,
         part: NO_BODY,
         name: 0,
         depth: 0,
-        counts: [0u32; 40],
     };
     let mut total: usize = 0;
     let mut done: usize = 0;
     let mut at: usize = 4;
     while done < lines {
         let line = line_at(words, at);
-        let number = done as u64 + 1;
-        let step = take_line(state, number, line);
-        let fault = step.fault;
-        match fault {
-            Fault::Faulty(_) => {
-                return false;
-            }
-            Fault::NoFault => {
-                total += length_of(line) + 1;
-                if 65536 < total {
-                    return false;
-                }
-                let next = step.next;
-                state = next;
-                done += 1;
-                at += 10;
-            }
+        let next = next_standing(standing, &mut counts, line);
+        if !next.taken {
+            return false;
         }
+        total += length_of(line) + 1;
+        if 65536 < total {
+            return false;
+        }
+        standing = next;
+        done += 1;
+        at += 10;
     }
-    may_end(state)
+    may_end(standing.stage)
 }
 
 // How many of so many records are of this kind.

@@ -3,16 +3,18 @@
 use mathlib.Core.Path.{sym, _∙_}
 use Prim.Native.Nat.{_-_}
 use native.Mathlib.Omega.{arith}
+use borrow.Author.Tests.{not-true, not-false}
+use Rattle.dictionary.specs.LineOrder.{stateOf}
 use Rattle.dictionary.specs.DictionaryCheckLaws.{AcceptsSoFar, accepts-begins, accepts-ends, accepts-faulty, accepts-long, accepts-goes-on}
 use borrow.Author.Needs.{needs}
 use Rattle.dictionary.proofs.dictionary_check.is_accepted.Statement.{statement}
 use Rattle.dictionary.proofs.dictionary_check.is_accepted.Tie as tie
 
 abbrev Inv-loop : tie.InvT-loop
-Inv-loop words lines state₀ total₀ done₀ at₀ state total done at = AcceptsSoFar words lines state total done at
+Inv-loop words lines counts₀ standing₀ total₀ done₀ at₀ counts standing total done at = AcceptsSoFar words lines (stateOf standing counts) total done at
 
 abbrev μ-loop : tie.MeasureT-loop
-μ-loop words lines state₀ total₀ done₀ at₀ state total done at = lines - done
+μ-loop words lines counts₀ standing₀ total₀ done₀ at₀ counts standing total done at = lines - done
 
 -- while done < lines {
 loop-holds : tie.Need-loop-holds Inv-loop μ-loop
@@ -22,25 +24,15 @@ loop-holds c = accepts-begins _ _
 line-at-requires : tie.Need-line-at-requires Inv-loop μ-loop
 line-at-requires c κs = omega (arith, c .before .loop .inv .place, c .before .before .before .pre)
 
--- let number = done as u64 + 1;
-add-number : tie.Need-add-number Inv-loop μ-loop
-add-number c = omega (arith, c .before .loop-test .taken, c .before .before .before .before .pre)
-
--- let step = take_line(state, number, line);
-take-line-requires : tie.Need-take-line-requires Inv-loop μ-loop
-take-line-requires c κs = c .before .before .loop .inv .few-open
+-- let next = next_standing(standing, &mut counts, line);
+next-standing-requires : tie.Need-next-standing-requires Inv-loop μ-loop
+next-standing-requires c κs = c .before .before .before .loop .inv .few-open
 
 -- return false;
-enum-told : tie.Need-enum-told Inv-loop μ-loop
-enum-told c = search needs
-
 returns : tie.Need-returns Inv-loop μ-loop
-returns c = sym (accepts-faulty _ _ _ _ _ _ (c .before .before .before .before .before .loop .inv) (c .before .before .before .before .loop-test .taken) _ (c .before .before .before .line-at .ensures) _ (c .before .before .take-line .ensures) _ (c .enum-told .given .1))
+returns c = sym (accepts-faulty _ _ _ _ _ _ (c .before .before .before .before .before .before .loop .inv) (c .before .before .before .before .before .loop-test .taken) _ (c .before .before .before .before .line-at .ensures) _ (c .before .before .next-standing .ensures .0 _) (not-true _ (c .if1 .taken)))
 
 -- total += length_of(line) + 1;
-enum-told-2 : tie.Need-enum-told-2 Inv-loop μ-loop
-enum-told-2 c = search needs
-
 length-of-requires : tie.Need-length-of-requires Inv-loop μ-loop
 length-of-requires c κs = search needs
 
@@ -48,11 +40,11 @@ add-total : tie.Need-add-total Inv-loop μ-loop
 add-total c = omega (arith, c .length-of .ensures .1)
 
 add-total-2 : tie.Need-add-total-2 Inv-loop μ-loop
-add-total-2 c = omega (arith, c .length-of .ensures .1, c .before .before .before .before .before .before .loop .inv .few-bytes)
+add-total-2 c = omega (arith, c .length-of .ensures .1, c .before .before .before .before .before .before .before .loop .inv .few-bytes)
 
 -- return false;
 returns-2 : tie.Need-returns-2 Inv-loop μ-loop
-returns-2 c = sym (accepts-long _ _ _ _ _ _ (c .before .before .before .before .before .before .before .loop .inv) (c .before .before .before .before .before .before .loop-test .taken) _ (c .before .before .before .before .before .line-at .ensures) _ (c .before .before .before .before .take-line .ensures) (c .before .before .enum-told2 .given .1) _ (c .before .length-of .ensures .0) (c .if1 .taken))
+returns-2 c = sym (accepts-long _ _ _ _ _ _ (c .before .before .before .before .before .before .before .before .loop .inv) (c .before .before .before .before .before .before .before .loop-test .taken) _ (c .before .before .before .before .before .before .line-at .ensures) _ (c .before .before .before .before .next-standing .ensures .0 _) (not-false _ (c .before .before .if1 .left)) _ (c .before .length-of .ensures .0) (c .if2 .taken))
 
 -- done += 1;
 add-done : tie.Need-add-done Inv-loop μ-loop
@@ -67,9 +59,9 @@ loop-less : tie.Need-loop-less Inv-loop μ-loop
 loop-less c = omega (arith, c .before .before .before .before .before .before .before .loop-test .taken)
 
 loop-again : tie.Need-loop-again Inv-loop μ-loop
-loop-again c = accepts-goes-on _ _ _ _ _ _ (c .before .before .before .before .before .before .before .before .loop .inv) (c .before .before .before .before .before .before .before .loop-test .taken) _ (c .before .before .before .before .before .before .line-at .ensures) _ (c .before .before .before .before .before .take-line .ensures) (c .before .before .before .enum-told2 .given .1) _ (c .before .before .length-of .ensures .0) (c .before .if1 .left)
+loop-again c = accepts-goes-on _ _ _ _ _ _ (c .before .before .before .before .before .before .before .before .loop .inv) (c .before .before .before .before .before .before .before .loop-test .taken) _ (c .before .before .before .before .before .before .line-at .ensures) _ (c .before .before .before .before .next-standing .ensures .0 _) (not-false _ (c .before .before .if1 .left)) _ (c .before .length-of .ensures .0) _ (c .before .before .before .before .next-standing .ensures .1 _) (c .if2 .left)
 
--- may_end(state)
+-- may_end(standing.stage)
 may-end-requires : tie.Need-may-end-requires Inv-loop μ-loop
 may-end-requires c κs = search needs
 
@@ -85,11 +77,8 @@ is-accepted-spec =
     μ-loop
     loop-holds
     line-at-requires
-    add-number
-    take-line-requires
-    enum-told
+    next-standing-requires
     returns
-    enum-told-2
     length-of-requires
     add-total
     add-total-2

@@ -9,9 +9,9 @@ use Rattle.dictionary.proofs.dictionary_check.may_end.Tie as tie
 returns : tie.Need-returns
 returns c = sym (isBetween-below _ _ _ (c .if1 .taken))
 
--- fn may_end(state: State) -> bool
+-- fn may_end(stage: u8) -> bool
 returns-2 : tie.Need-returns-2
-returns-2 c = sym (isBetween-from _ _ _ (c .before .if1 .left))
+returns-2 c = sym (isBetween-from _ _ _ (c .if1 .left))
 
 pub may-end-spec : {M : Type 1} → statement M
 may-end-spec = tie.close (tie.spec returns returns-2)
