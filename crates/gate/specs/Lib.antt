@@ -1,3 +1,4 @@
 -- Definitions of the crate `gate`: what its calls answer.
 pub mod Outcome
 pub mod OutcomeLaws
+pub mod ExpandOutcome
