@@ -18,19 +18,20 @@ record() {
         echo "# IronFix c1e4a6b327"
         echo "# recorded by oracle/record.sh: oracle cases $kind | oracle $kind"
         echo "# cases $(grep -c "^$case" <<<"$answers")"
-        if [ "$kind" = walks ]; then kinds <<<"$answers"; fi
+        if [ "$kind" = walks ]; then kinds 5 8 <<<"$answers"; fi
+        if [ "$kind" = messages ]; then kinds 2 11 <<<"$answers"; fi
         echo "$answers"
     } >"$file"
     sed -n 3p "$file" | sed "s|^#|$1:|"
 }
 
-# How often each kind of event stands in walks.
+# kinds WORD LAST: how often each kind up to LAST stands in walks, their events beginning at that word.
 kinds() {
-    awk '
-        /^walk/ { for (word = 5; word <= NF; word += 5) count[$word]++ }
+    awk -v first="$1" -v last="$2" '
+        /^walk/ && $2 != "refused" { for (word = first; word <= NF; word += 5) count[$word]++ }
         END {
-            split("enter badcount delim repeat close miscount deep leave", name, " ")
-            for (kind = 1; kind <= 8; kind++) print "# kind " kind " " name[kind] " " count[kind] + 0
+            split("enter badcount delim repeat close miscount deep leave twice foreign missing", name, " ")
+            for (kind = 1; kind <= last; kind++) print "# kind " kind " " name[kind] " " count[kind] + 0
         }'
 }
 
@@ -41,6 +42,7 @@ record read_layout.cases layout-texts
 record walk_group.cases walks walk
 record expand.cases expansions expand
 record check_values.cases verdict-words '\(plain\|strict\)'
+record walk_message.cases messages '\(walk\|plain\|strict\)'
 
 # list DICT MSG: what `gatelist` prints, beside the message.
 list() {

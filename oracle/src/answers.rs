@@ -4,13 +4,18 @@
 
 use crate::case_text::CaseText;
 use crate::layouts::HandMade;
+use crate::refusal::Refusal;
+use crate::schema::Dictionary;
 use crate::walks::Top;
 use crate::{
-    arrangement, cases, dictionary_words, expansion, expansion_cases, hex, layouts, reader,
-    text_cases, texts, values, verdict_cases, verdicts, walk_cases, walks,
+    arrangement, cases, dictionary_words, expansion, expansion_cases, hex, layouts, message_cases,
+    reader, text_cases, texts, values, verdict_cases, verdicts, walk_cases, walks,
 };
 use ironfix_core::field::FieldRef;
 use std::str::FromStr;
+
+/// The most fields of a field table.
+pub const MOST_FIELDS: usize = 4_096;
 
 /// The kinds of recorded lists.
 #[derive(Debug, Clone, Copy, PartialEq, Eq)]
@@ -29,11 +34,13 @@ pub enum Kind {
     Expansions,
     /// `check_value`, plain and strict.
     Verdicts,
+    /// The loop of `Validator::validate`, and the verdicts of the message.
+    Messages,
 }
 
 impl Kind {
     /// Each kind, with its name and the file of its list.
-    pub const ALL: [(Self, &'static str, &'static str); 7] = [
+    pub const ALL: [(Self, &'static str, &'static str); 8] = [
         (Self::Values, "values", "is_valid_value.cases"),
         (Self::Counts, "counts", "parse_count.cases"),
         (
@@ -45,6 +52,7 @@ impl Kind {
         (Self::Walks, "walks", "walk_group.cases"),
         (Self::Expansions, "expansions", "expand.cases"),
         (Self::Verdicts, "verdict-words", "check_values.cases"),
+        (Self::Messages, "messages", "walk_message.cases"),
     ];
 
     pub fn named(name: &str) -> Option<Self> {
@@ -62,6 +70,7 @@ impl Kind {
             Self::Walks => walk_cases::walk_cases(),
             Self::Expansions => expansion_cases::expansion_cases(),
             Self::Verdicts => verdict_cases::verdict_cases(),
+            Self::Messages => message_cases::message_cases(),
         }
     }
 
@@ -79,6 +88,7 @@ impl Kind {
             Self::Walks => walk_answers(cases),
             Self::Expansions => expansion_answers(cases),
             Self::Verdicts => verdict_answers(cases),
+            Self::Messages => message_answers(cases),
         }
     }
 }
@@ -280,6 +290,114 @@ fn verdict_answers(lines: &str) -> Result<String, String> {
         answers.push('\n');
     }
     Ok(answers)
+}
+
+/// What is lent to a message walk: the dictionary and the layout, where the
+/// words are those of one, the bytes of the message and its field table.
+#[derive(Default)]
+struct Lent {
+    dict: Option<Dictionary>,
+    layout: Option<HandMade>,
+    layout_words: Vec<u32>,
+    message: Vec<u8>,
+    table: Vec<u32>,
+}
+
+/// A `walk` line gives itself and the words of the events of the message, a
+/// `plain` or `strict` line itself and a word for each field, or the refusal.
+/// They are asked of the `dictionary`, a text, and the `layout`, `message` and
+/// `fields` above them.
+fn message_answers(lines: &str) -> Result<String, String> {
+    let mut answers = String::new();
+    let mut lent = Lent::default();
+    for line in lines.lines() {
+        let (key, rest) = line.split_once(' ').unwrap_or((line, ""));
+        answers.push_str(line);
+        match key {
+            // The words of a text that is refused are none.
+            "dictionary" => lent.dict = texts::dictionary(&hex::decode(rest)?).ok(),
+            "layout" => {
+                lent.layout_words = numbers(rest)?;
+                lent.layout = layout_in(&lent.layout_words);
+            }
+            "message" => lent.message = hex::decode(rest)?,
+            "fields" => lent.table = numbers(rest)?,
+            "walk" => answers.push_str(&answer_of(lent.walk()?)),
+            "plain" | "strict" => answers.push_str(&answer_of(lent.verdicts(key == "strict")?)),
+            _ if line.starts_with('#') => {}
+            _ => return Err(format!("`{line:.60}` is of no known form")),
+        }
+        answers.push('\n');
+    }
+    Ok(answers)
+}
+
+/// The layout that words begin with, if it meets the rules and the limits.
+fn layout_in(words: &[u32]) -> Option<HandMade> {
+    let top = arrangement::layout_at_start(words)?;
+    if top.all_members() > reader::MOST_MEMBERS || top.all_required() > reader::MOST_REQUIRED {
+        return None;
+    }
+    layouts::hand_made(&top).ok()
+}
+
+/// Words behind a space each, or the refusal.
+fn answer_of(answer: Result<Vec<u64>, Refusal>) -> String {
+    match answer {
+        Ok(words) => words.iter().map(|word| format!(" {word}")).collect(),
+        Err(refusal) => format!(" {}", refusal.recorded()),
+    }
+}
+
+/// What row 12 of document 01's table says of a field table.
+pub fn bad_field(table: &[u32], message: &[u8]) -> Option<Refusal> {
+    let (rows, rest) = table.as_chunks::<3>();
+    if !rest.is_empty() || rows.len() > MOST_FIELDS {
+        return Some(Refusal::new(12, 0));
+    }
+    let bad = |row: &[u32; 3]| row[1] > row[2] || row[2] as usize > message.len();
+    let field = rows.iter().position(bad)?;
+    Some(Refusal::new(12, field as u64 + 1))
+}
+
+impl Lent {
+    /// The words of the events. Where the layout is that of the message's type
+    /// they are compared with the errors of `Validator::validate`.
+    fn walk(&self) -> Result<Result<Vec<u64>, Refusal>, String> {
+        let Some(dict) = &self.dict else {
+            return Ok(Err(Refusal::new(2, 0)));
+        };
+        let Some(layout) = &self.layout else {
+            return Ok(Err(Refusal::new(11, 0)));
+        };
+        if let Some(refusal) = bad_field(&self.table, &self.message) {
+            return Ok(Err(refusal));
+        }
+        let table = Table::new(&self.table, &self.message)?;
+        let fields = table.fields();
+        let events = walks::message_walk(&fields, dict, Top::HandMade(layout));
+        let type_field = fields.iter().find(|field| field.tag == 35);
+        let msg_type = String::from_utf8_lossy(type_field.map_or(b"", |field| field.value));
+        if let Ok((expansion, _)) = expansion::expand_quickly(dict, &msg_type)?
+            && arrangement::words(&expansion.layout()) == self.layout_words
+            && events != walks::checked_message_walk(&fields, dict, &msg_type, &expansion)?
+        {
+            return Err("the two layouts of a type are walked differently".to_string());
+        }
+        Ok(Ok(events.iter().flat_map(|event| event.0).collect()))
+    }
+
+    fn verdicts(&self, strict: bool) -> Result<Result<Vec<u64>, Refusal>, String> {
+        let Some(dict) = &self.dict else {
+            return Ok(Err(Refusal::new(2, 0)));
+        };
+        if let Some(refusal) = bad_field(&self.table, &self.message) {
+            return Ok(Err(refusal));
+        }
+        let table = Table::new(&self.table, &self.message)?;
+        let verdicts = verdicts::verdicts(&table.fields(), dict, strict);
+        Ok(Ok(verdicts.into_iter().map(u64::from).collect()))
+    }
 }
 
 /// A field table whose values are copied, each with a byte behind it: the

@@ -36,6 +36,7 @@ pub mod expansion_cases;
 pub mod hex;
 pub mod layouts;
 pub mod lines;
+pub mod message_cases;
 pub mod numbers;
 pub mod reader;
 pub mod refusal;

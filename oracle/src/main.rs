@@ -1,6 +1,6 @@
 //! The commands of the oracle; see README.md.
 
-use oracle::answers::{self, Kind};
+use oracle::answers::{self, Kind, MOST_FIELDS};
 use oracle::events::Event;
 use oracle::layouts::{self, Expansion, HandMade};
 use oracle::refusal::Refusal;
@@ -52,13 +52,11 @@ fn main() -> ExitCode {
     }
 }
 
-/// The most fields of a field table.
-const MOST_FIELDS: usize = 4_096;
-
 const USAGE: &str = "usage: oracle COMMAND
   cases KIND | KIND             the cases of a recorded list; the answers to
                                 the cases on standard input. KIND is one of
     values counts dictionary-texts layout-texts walks expansions verdict-words
+    messages
   dictionary-text FILE          `accepted LINES` or `refused N P`
   layout-text FILE              the same for a layout text
   layout DICT TYPE

@@ -4,6 +4,7 @@ mod count_cases;
 mod hex;
 mod lines;
 mod lists;
+mod message_cases;
 mod numbers;
 mod text_cases;
 mod value_cases;
@@ -27,6 +28,8 @@ fn main() {
     print_tally(b"walk_group: ", walks);
     let verdicts = verdict_cases::replay_file(b"check_values.cases");
     print_tally(b"check_values, plain and strict: ", verdicts);
+    let messages = message_cases::replay_file(b"walk_message.cases");
+    print_tally(b"walk_message, with its verdicts: ", messages);
 }
 
 // One line: the name of the call, the cases, those that differ and those whose line is of no known form.

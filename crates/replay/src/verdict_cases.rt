@@ -215,7 +215,7 @@ fn replay_message(
     )
 }
 
-fn replay_with(
+pub fn replay_with(
     dictionary: &[u32],
     message: &[u8],
     fields: &[u32],
