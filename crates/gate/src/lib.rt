@@ -3,7 +3,7 @@ pub mod check_values;
 pub mod expand_type;
 pub mod level;
 pub mod outcome;
-pub mod read_dictionary;
+pub mod read_dictionary_text;
 pub mod read_layout_text;
 pub mod walk_group;
 pub mod walk_message;
