@@ -2,7 +2,7 @@
  *
  * Link with libgate.a, which `rt staticlib gate` writes to target/staticlib/. Every call takes any bytes and any words, however broken, and answers: a result, or
  * one of 14 refusals with its place. A refused call leaves all lent memory as it was; an answer leaves the words behind its last one as they were. No call keeps
- * anything: there is no state and no heap, so any number of threads may call, each with its own lent words.
+ * anything: there is no state and no heap, so any number of threads may call, each with its own lent words. docs/SPEED.md says how much stack a call needs.
  *
  * A slice is given as a pointer and a length in elements. For a length of 0 the pointer is not read and may be any. A slice that a call writes must not overlap another.
  * docs/ARRANGEMENT.md says what stands in the words of a dictionary and of a layout, in a field table and in the events.
@@ -49,6 +49,12 @@ enum {
 
 /* Reads a dictionary text into words. */
 gate_outcome gate_read_dictionary(const uint8_t *text, size_t text_length, uint32_t *dictionary, size_t dictionary_length);
+
+/* Reads a hand-made layout text into words. */
+gate_outcome gate_read_layout(const uint8_t *text, size_t text_length, uint32_t *layout, size_t layout_length);
+
+/* Lays out the groups of a message type. extra: the nodes spent. */
+gate_outcome gate_expand(const uint32_t *dictionary, size_t dictionary_length, const uint8_t *type, size_t type_length, uint32_t *layout, size_t layout_length);
 
 /* The members of the level named by its count tags from the top, as a part of the layout's own words. words: how many, extra: where they start. */
 gate_outcome gate_level_members(const uint32_t *layout, size_t layout_length, const uint32_t *path, size_t path_length);

@@ -24,6 +24,17 @@ impl Outcome {
 unsafe extern "C" {
     pub fn gate_read_dictionary(text: *const u8, text_length: usize, dictionary: *mut u32, dictionary_length: usize) -> Outcome;
 
+    pub fn gate_read_layout(text: *const u8, text_length: usize, layout: *mut u32, layout_length: usize) -> Outcome;
+
+    pub fn gate_expand(
+        dictionary: *const u32,
+        dictionary_length: usize,
+        message_type: *const u8,
+        type_length: usize,
+        layout: *mut u32,
+        layout_length: usize,
+    ) -> Outcome;
+
     pub fn gate_level_members(layout: *const u32, layout_length: usize, path: *const u32, path_length: usize) -> Outcome;
 
     pub fn gate_walk_group(

@@ -4,18 +4,21 @@
 //! answers: a result, or one of 14 refusals with its place ([`Refusal`]). A refused call leaves all lent memory as it was; an answer leaves the words
 //! behind its last one as they were.
 //!
-//! No call keeps anything: no state, no heap. Any number of threads may call at one time, each with its own lent words.
+//! No call keeps anything: no state, no heap. Any number of threads may call at one time, each with its own lent words. docs/SPEED.md of the repository
+//! says how much stack a call needs: the default of a Rust thread, 2 MiB, is enough.
 //!
 //! ```
-//! use order_gate::{Event, Kind, MOST_DICTIONARY_WORDS};
+//! use order_gate::{Event, Kind, MOST_DICTIONARY_WORDS, MOST_LAYOUT_WORDS};
 //!
-//! let text = b"def=35,String\ndef=78,NumInGroup\ndef=79,String\nbegin=header\nend=header\nbegin=trailer\nend=trailer\n";
+//! let text = b"def=35,String\ndef=78,NumInGroup\ndef=79,String\nbegin=header\nfield=35,1\nend=header\nbegin=trailer\nend=trailer\n\
+//!              message=J,app\ngroup=78,79,1\nend=78\nend=J\n";
 //! let mut dictionary = vec![0; MOST_DICTIONARY_WORDS];
 //! let words = order_gate::read_dictionary(text, &mut dictionary)?;
 //! dictionary.truncate(words);
 //!
-//! // The top has the fields 35 and 78; an entry of group 78 has its delimiter 79 alone (docs/ARRANGEMENT.md).
-//! let layout = [1, 13, 15, 16, 16, 16, 16, 10, 11, 11, 78, 79, 1, 35, 78, 79];
+//! let mut layout = vec![0; MOST_LAYOUT_WORDS];
+//! let expanded = order_gate::expand(&dictionary, b"J", &mut layout)?;
+//! layout.truncate(expanded.words);
 //!
 //! // 35=J, 78=2 and one entry only: an allocation is lost.
 //! let message = b"J2A";
@@ -42,6 +45,13 @@ pub const MOST_DICTIONARY_WORDS: usize = 131_068;
 /// No layout takes more words.
 pub const MOST_LAYOUT_WORDS: usize = 59_399;
 
+/// What an expansion gives: the layout's words and the nodes it spent.
+#[derive(Debug, Clone, Copy, PartialEq, Eq)]
+pub struct Expanded {
+    pub words: usize,
+    pub nodes: u64,
+}
+
 /// What the walk of a group gives: the words of its events and the position of the first field behind the group.
 #[derive(Debug, Clone, Copy, PartialEq, Eq)]
 pub struct Walked {
@@ -66,14 +76,52 @@ pub fn read_dictionary(text: &[u8], dictionary: &mut [u32]) -> Result<usize, Ref
     outcome.answered().map(words)
 }
 
+/// Reads a hand-made layout text into words, and gives how many it took.
+///
+/// # Errors
+/// Refusals 1 to 4, then 10, 11 and 13.
+///
+/// ```
+/// use order_gate::Refusal;
+/// let mut words = [0; 100];
+/// // The count tag 78 is no member of the top: rule 7.
+/// let text = b"group=78,79,1\nmember=79\nend=78\n";
+/// assert_eq!(order_gate::read_layout(text, &mut words), Err(Refusal::RuleBroken { rule: 7, tag: 0 }));
+/// ```
+pub fn read_layout(text: &[u8], layout: &mut [u32]) -> Result<usize, Refusal> {
+    // SAFETY: both slices are whole, and only the second is written.
+    let outcome = unsafe { ffi::gate_read_layout(text.as_ptr(), text.len(), layout.as_mut_ptr(), layout.len()) };
+    outcome.answered().map(words)
+}
+
+/// Lays out the groups of a message type.
+///
+/// # Errors
+/// Refusal 2 (place 0) for words that are no dictionary, 6, then 7 to 10 as met, then 13.
+pub fn expand(dictionary: &[u32], message_type: &[u8], layout: &mut [u32]) -> Result<Expanded, Refusal> {
+    // SAFETY: the slices are whole, and only the last is written.
+    let outcome = unsafe {
+        ffi::gate_expand(
+            dictionary.as_ptr(),
+            dictionary.len(),
+            message_type.as_ptr(),
+            message_type.len(),
+            layout.as_mut_ptr(),
+            layout.len(),
+        )
+    };
+    outcome.answered().map(|outcome| Expanded { words: words(outcome), nodes: outcome.extra })
+}
+
 /// The members of the level named by its count tags from the top: a part of the layout's own words, ascending.
 ///
 /// # Errors
 /// Refusal 11 (place 0) for words that are no layout, 14 with the first count tag not found.
 ///
 /// ```
-/// let layout = [1, 13, 14, 16, 16, 16, 16, 10, 11, 11, 78, 79, 1, 78, 79, 80];
-/// assert_eq!(order_gate::level_members(&layout, &[78])?, [79, 80]);
+/// let mut layout = [0; 100];
+/// let words = order_gate::read_layout(b"member=78\ngroup=78,79,1\nmember=79\nmember=80\nend=78\n", &mut layout)?;
+/// assert_eq!(order_gate::level_members(&layout[..words], &[78])?, [79, 80]);
 /// # Ok::<(), order_gate::Refusal>(())
 /// ```
 pub fn level_members<'l>(layout: &'l [u32], path: &[u32]) -> Result<&'l [u32], Refusal> {

@@ -1,6 +1,6 @@
 //! Each call: an answer, its refusals, and the lent words after both.
 
-use order_gate::{Event, Kind, Refusal, Walked};
+use order_gate::{Event, Expanded, Kind, Refusal, Walked};
 
 /// Document 01's worked example.
 const DICTIONARY: &[u8] = b"def=35,String\ndef=448,String\ndef=447,Char\nvalue=D\ndef=453,NumInGroup\nbegin=header\nfield=35,1\nend=header\n\
@@ -39,6 +39,26 @@ fn a_broken_text_is_refused_at_its_line() {
     assert_eq!(refusal, Err(Refusal::DefinedAgain { line: 2 }));
     assert_eq!(order_gate::read_dictionary(&[b'a'; 65_537], &mut words), Err(Refusal::TextTooLong));
     assert_eq!(words, [MARK; 100]);
+}
+
+#[test]
+fn a_type_is_laid_out() {
+    let mut words = [MARK; 20];
+    let expanded = order_gate::expand(&dictionary(), b"D", &mut words);
+    assert_eq!(expanded, Ok(Expanded { words: 19, nodes: 1 }));
+    assert_eq!(words[..19], LAYOUT);
+    assert_eq!(words[19], MARK);
+    assert_eq!(order_gate::expand(&dictionary(), b"E", &mut words), Err(Refusal::TypeNotDefined));
+    assert_eq!(order_gate::expand(&[7, 7], b"D", &mut words), Err(Refusal::UnknownForm { line: 0 }));
+}
+
+#[test]
+fn a_layout_text_gives_the_same_words() {
+    let text = b"member=35\nmember=453\nrequired=35\ngroup=453,448,1\nmember=447\nmember=448\nrequired=447\nend=453\n";
+    let mut words = [MARK; 20];
+    assert_eq!(order_gate::read_layout(text, &mut words), Ok(19));
+    assert_eq!(words[..19], LAYOUT);
+    assert_eq!(words[19], MARK);
 }
 
 #[test]
@@ -87,6 +107,8 @@ fn values_are_judged() {
 #[test]
 fn empty_slices_are_lent() {
     assert_eq!(order_gate::read_dictionary(&[], &mut []), Err(Refusal::NotAllowed { line: 1 }));
+    assert_eq!(order_gate::read_layout(&[], &mut []), Err(Refusal::SpaceShort { words_needed: 7 }));
+    assert_eq!(order_gate::expand(&[], &[], &mut []), Err(Refusal::UnknownForm { line: 0 }));
     assert_eq!(order_gate::level_members(&[], &[]), Err(Refusal::RuleBroken { rule: 0, tag: 0 }));
     assert_eq!(order_gate::walk_group(&LAYOUT, &[], &[], 0, 453, &mut []), Ok(Walked { words: 0, position: 0 }));
 }

@@ -17,8 +17,32 @@ pub fn compare(run: &mut Run) -> Result<(), String> {
     for text in text_cases::dictionary_cases() {
         rounds::dictionary_text(run, &mut numbers, &text.bytes())?;
     }
+    for text in text_cases::layout_cases() {
+        rounds::layout_text(run, &mut numbers, &text.bytes())?;
+    }
+    expansions(run, &mut numbers)?;
     walks(run, &mut numbers)?;
     values_of_all_types(run, &mut numbers)
+}
+
+fn expansions(run: &mut Run, numbers: &mut Numbers) -> Result<(), String> {
+    let mut dictionary = None;
+    for line in Kind::Expansions.cases().lines() {
+        match line.split_once(' ') {
+            Some(("dictionary", text)) => {
+                let text = hex::decode(text)?;
+                let words = rounds::dictionary_text(run, numbers, &text)?.ok_or("a refused text")?;
+                let dict = texts::dictionary(&text).map_err(|refusal| refusal.recorded())?;
+                dictionary = Some((words, dict));
+            }
+            Some(("expand", msg_type)) => {
+                let (words, dict) = dictionary.as_ref().ok_or("no dictionary")?;
+                rounds::expansion_of(run, numbers, words, dict, &hex::decode(msg_type)?)?;
+            }
+            _ => {}
+        }
+    }
+    Ok(())
 }
 
 fn walks(run: &mut Run, numbers: &mut Numbers) -> Result<(), String> {

@@ -43,7 +43,7 @@ fn dictionary_round(run: &mut Run, numbers: &mut Numbers) -> Result<(), String> 
     types.sort();
     types.extend([b"D".to_vec(), b"".to_vec(), b"zz9Z1".to_vec(), b"\xff".to_vec()]);
     for msg_type in types {
-        let Some(layout) = expansion_of(&dict, &msg_type)? else {
+        let Some(layout) = expansion_of(run, numbers, &words, &dict, &msg_type)? else {
             continue;
         };
         let made = layouts::hand_made(&layout).map_err(|error| format!("{error}"))?;
@@ -70,7 +70,7 @@ fn dictionary_round(run: &mut Run, numbers: &mut Numbers) -> Result<(), String> 
 fn layout_round(run: &mut Run, numbers: &mut Numbers) -> Result<(), String> {
     for _ in 0..8 {
         let text = dictionaries::layout_text(numbers);
-        if let Ok((layout, _)) = reader::layout(&text) {
+        if let Some(layout) = layout_text(run, numbers, &text)? {
             let lent = arrangement::words(&layout);
             members(run, numbers, &lent, &layout)?;
             damaged_layout(run, numbers, &lent)?;
@@ -131,10 +131,49 @@ pub fn dictionary_text(run: &mut Run, numbers: &mut Numbers, text: &[u8]) -> Res
     Ok(expected.ok().map(|(words, _)| words))
 }
 
-/// The layout of a message type, where there is one.
-fn expansion_of(dict: &Dictionary, msg_type: &[u8]) -> Result<Option<PlainLevel>, String> {
-    let expanded = expansion::expand_quickly(dict, &String::from_utf8_lossy(msg_type))?;
-    Ok(expanded.ok().map(|(expansion, _)| expansion.layout()))
+/// read_layout; the layout of an accepted text.
+pub fn layout_text(run: &mut Run, numbers: &mut Numbers, text: &[u8]) -> Result<Option<PlainLevel>, String> {
+    let read = reader::layout(text).map(|(layout, _)| layout);
+    let expected: Expected<u32> = read.as_ref().map(|layout| (arrangement::words(layout), 0)).map_err(|refusal| *refusal);
+    let lent = Lent::new(run.guarded, numbers.once_in(2), text);
+    compare_call(run, numbers, "read_layout", &expected, 40, |space| {
+        order_gate::read_layout(&lent, space).map(|words| (words, 0))
+    })
+    .map_err(|difference| format!("{difference}\ntext {:?}", String::from_utf8_lossy(text)))?;
+    Ok(read.ok())
+}
+
+/// expand; the layout where there is one.
+pub fn expansion_of(
+    run: &mut Run,
+    numbers: &mut Numbers,
+    words: &[u32],
+    dict: &Dictionary,
+    msg_type: &[u8],
+) -> Result<Option<PlainLevel>, String> {
+    let name = String::from_utf8_lossy(msg_type);
+    // The Rust's word on the nodes now and then.
+    let expanded = if numbers.once_in(32) {
+        expansion::expand(dict, &name)?
+    } else {
+        expansion::expand_quickly(dict, &name)?
+    };
+    let expanded = expanded.map(|(expansion, nodes)| (expansion.layout(), nodes as u64));
+    let expected: Expected<u32> = expanded
+        .as_ref()
+        .map(|(layout, nodes)| (arrangement::words(layout), *nodes))
+        .map_err(|refusal| *refusal);
+    if let Ok((layout, nodes)) = &expanded {
+        run.reached("expansions of 4,096 nodes", *nodes == 4_096);
+        run.reached("expansions of 2,048 required entries", layout.all_required() == 2_048);
+    }
+    let lent = Lent::new(run.guarded, numbers.once_in(2), words);
+    let lent_type = Lent::new(run.guarded, numbers.once_in(2), msg_type);
+    compare_call(run, numbers, "expand", &expected, 40, |space| {
+        order_gate::expand(&lent, &lent_type, space).map(|expanded| (expanded.words, expanded.nodes))
+    })
+    .map_err(|difference| format!("{difference}\ntype {name}"))?;
+    Ok(expanded.ok().map(|(layout, _)| layout))
 }
 
 /// level_members, for a path that is there and for one that is not.
@@ -336,11 +375,15 @@ fn damaged_dictionary(run: &mut Run, numbers: &mut Numbers, words: &[u32]) -> Re
             continue;
         }
         let lent = Lent::new(run.guarded, numbers.once_in(2), &words);
+        let refused: Expected<u32> = Err(NO_DICTIONARY);
+        compare_call(run, numbers, "expand", &refused, 40, |space| {
+            order_gate::expand(&lent, b"D", space).map(|expanded| (expanded.words, expanded.nodes))
+        })
+        .map_err(|difference| format!("{difference}\ndictionary {words:?}"))?;
         let refused: Expected<u64> = Err(NO_DICTIONARY);
         compare_call(run, numbers, "verdicts", &refused, 9, |space| {
             order_gate::verdicts(&lent, &[1], b"", false, space).map(|words| (words, 0))
-        })
-        .map_err(|difference| format!("{difference}\ndictionary {words:?}"))?;
+        })?;
         compare_call(run, numbers, "walk_message", &refused, 9, |space| {
             order_gate::walk_message(&lent, &[1], &[1], b"", space).map(|words| (words, 0))
         })?;

@@ -6,8 +6,10 @@ use std::collections::BTreeMap;
 use std::fmt;
 
 /// The calls of the gate.
-pub const CALLS: [&str; 5] = [
+pub const CALLS: [&str; 7] = [
     "read_dictionary",
+    "read_layout",
+    "expand",
     "level_members",
     "walk_group",
     "walk_message",
