@@ -76,7 +76,7 @@ cut-bytes byte (first ∷ rest) = cut-bytes-by (eqb first byte) first (cut byte 
 
 -- ---- rows 1 to 4: an accepted text's lines can be held, and are accepted
 
-usable-held : (state : State) (number : ℕ) (line : Line) → isTaken (stepOf state number line .fault) ≡ true → Usable line → Held line
+pub usable-held : (state : State) (number : ℕ) (line : Line) → isTaken (stepOf state number line .fault) ≡ true → Usable line → Held line
 unfolding stepOf
 usable-held state number (Def tag place) taken usable = usable
 usable-held state number (Value value) taken usable = usable

@@ -440,7 +440,7 @@ not-seen-by true key first rest test none deeper =
     let here : once key first ≡ 1 = unfold once in rw test in absurd (omega arith)
 not-seen-by false key first rest test none deeper = deeper
 
-not-seen : (key : ℕ) (seen : List ℕ) → howOften key seen ≡ 0 → isIn key seen ≡ false
+pub not-seen : (key : ℕ) (seen : List ℕ) → howOften key seen ≡ 0 → isIn key seen ≡ false
 unfolding howOften isIn
 not-seen key [] none = refl
 not-seen key (first ∷ rest) none = not-seen-by (eqb first key) key first rest refl none (not-seen key rest (omega arith))

@@ -5,3 +5,5 @@ pub mod IndexWordsLaws
 pub mod ReadDictionary
 pub mod ReadDictionaryCases
 pub mod ReadDictionaryLaws
+pub mod TextCheck
+pub mod TextCheckLaws

@@ -48,7 +48,7 @@ pub record CountsBehind (before after : Counts) (lines : List Line) : Type 0 whe
   pub components-more : after .components ≡ before .components + length (namesOf 5 lines)
   pub messages-more : after .messages ≡ before .messages + length (namesOf 6 lines)
 
-counted-more : (before : Counts) (defined : Defined) → (counted before defined .lines ≡ before .lines + 1)
+pub counted-more : (before : Counts) (defined : Defined) → (counted before defined .lines ≡ before .lines + 1)
     × ((counted before defined .tags ≡ before .tags + length (tagIn defined))
     × ((counted before defined .components ≡ before .components + length (componentIn defined))
     × (counted before defined .messages ≡ before .messages + length (messageIn defined))))

@@ -2,3 +2,4 @@
 pub mod index_words;
 pub mod read_dictionary;
 pub mod record_words;
+pub mod text_check;

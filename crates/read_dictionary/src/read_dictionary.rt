@@ -1,9 +1,9 @@
 // Reading a dictionary text into lent words.
 use crate::index_words::put_index;
 use crate::record_words::put_record;
+use crate::text_check::check_text;
 use texts::dictionary_text::Counts;
 use texts::dictionary_text::TextOutcome;
-use texts::dictionary_text::check_dictionary_text;
 use texts::line::line_of;
 use texts::lines::position_of;
 use texts::refusal::Refusal;
@@ -106,7 +106,7 @@ pub fn read_dictionary(text: &[u8], words: &mut [u32]) -> Read
     ensures outcome { λ read. ⌜ read ≡ readOf (now (text .entry)) (length (now (words .entry))) ⌝ }
     ensures memory { λ _. ⌜ now (words .exit) ≡ readIn (now (text .entry)) (now (words .entry)) ⌝ }
 {
-    match check_dictionary_text(text) {
+    match check_text(text) {
         TextOutcome::Accepted(counts) => write_dictionary(text, counts, words),
         TextOutcome::Refused(refusal) => Read::Refused(refusal),
     }

@@ -6,16 +6,16 @@ use borrow.Author.Needs.{needs}
 use Rattle.read_dictionary.proofs.read_dictionary.read_dictionary.Statement.{statement}
 use Rattle.read_dictionary.proofs.read_dictionary.read_dictionary.Tie as tie
 
--- match check_dictionary_text(text) {
-check-dictionary-text-requires : tie.Need-check-dictionary-text-requires
-check-dictionary-text-requires c κs = search needs
+-- match check_text(text) {
+check-text-requires : tie.Need-check-text-requires
+check-text-requires c κs = search needs
 
 -- TextOutcome::Accepted(counts) => write_dictionary(text, counts, words),
 enum-known-counts : tie.Need-enum-known-counts
 enum-known-counts c = search needs
 
 write-dictionary-requires : tie.Need-write-dictionary-requires
-write-dictionary-requires c κs = sym (c .before .before .before .before .check-dictionary-text .ensures) ∙ c .before .before .counts .given .1
+write-dictionary-requires c κs = sym (c .before .before .before .before .check-text .ensures) ∙ c .before .before .counts .given .1
 
 -- TextOutcome::Refused(refusal) => Read::Refused(refusal),
 enum-known-refusal : tie.Need-enum-known-refusal
@@ -26,16 +26,16 @@ same-length : tie.Need-same-length
 same-length c = search needs
 
 returns : tie.Need-returns
-returns c = text-accepted _ (c .before .before .before .before .before .before .before .before .before .before .args .words .now) _ (sym (c .before .before .before .before .before .before .before .check-dictionary-text .ensures) ∙ c .before .before .before .before .before .counts .given .1) _ _ (c .before .before .write-dictionary .ensures .0) (c .before .before .write-dictionary .ensures .1)
+returns c = text-accepted _ (c .before .before .before .before .before .before .before .before .before .before .args .words .now) _ (sym (c .before .before .before .before .before .before .before .check-text .ensures) ∙ c .before .before .before .before .before .counts .given .1) _ _ (c .before .before .write-dictionary .ensures .0) (c .before .before .write-dictionary .ensures .1)
 
 returns-2 : tie.Need-returns-2
-returns-2 c = text-refused _ (c .before .before .before .before .before .before .args .words .now) _ (sym (c .before .before .before .check-dictionary-text .ensures) ∙ c .before .refusal .given .1)
+returns-2 c = text-refused _ (c .before .before .before .before .before .before .args .words .now) _ (sym (c .before .before .before .check-text .ensures) ∙ c .before .refusal .given .1)
 
 pub read-dictionary-spec : {M : Type 1} → statement M
 read-dictionary-spec =
     tie.close
     (tie.spec
-    check-dictionary-text-requires
+    check-text-requires
     enum-known-counts
     write-dictionary-requires
     enum-known-refusal
