@@ -376,7 +376,8 @@ bodies-group stage zero part count delimiter required opened few bodies =
     let group = group-def count delimiter required (bodies .0) in (
       withGroup group (outer .0),
       (
-        ap (λ (each : List Body). groupClosed count delimiter required each) (bodies .1 .1 .0 ∙ ap {B = List Body} (λ (each : List Body). bodies .0 ∷ each) (outer .1 .0)),
+        ap (λ (each : List Body). groupClosed count delimiter required each)
+            (bodies .1 .1 .0 ∙ ap {B = List Body} (λ (each : List Body). bodies .0 ∷ each) (outer .1 .0)),
         (
           record {
             no-fields = λ some. fields-with-group group (outer .0) ∙ outer .1 .1 .0 .no-fields (omega arith);
@@ -393,7 +394,8 @@ bodies-group stage (suc depth) part count delimiter required opened few bodies =
       (
         outer .1 .0,
         (
-          ap (λ (each : List Body). groupClosed count delimiter required each) (bodies .1 .1 .0 ∙ ap {B = List Body} (λ (each : List Body). bodies .0 ∷ each) (outer .1 .1 .0)),
+          ap (λ (each : List Body). groupClosed count delimiter required each)
+              (bodies .1 .1 .0 ∙ ap {B = List Body} (λ (each : List Body). bodies .0 ∷ each) (outer .1 .1 .0)),
           (
             record {
               no-fields = λ some. fields-with-group group (outer .0) ∙ outer .1 .1 .1 .0 .no-fields (omega arith);

@@ -136,7 +136,8 @@ module _ (words : List ℕ) (small : Words32 words) (passed : isDictionary words
           → Built words message (Refused refusal) after
       built-trailer-over refusal second after over =
           built-by before after (Refused refusal)
-          (adds-then (topFill words header) (λ work. topFill words message (topFill words trailer work)) nothingAdded before first head (Refused refusal) after (has-header .adds)
+          (adds-then (topFill words header) (λ work. topFill words message (topFill words trailer work)) nothingAdded before first head (Refused refusal) after
+          (has-header .adds)
           (adds-stops (topFill words trailer) (topFill words message) head first second refusal after (over .adds)
           (λ work met. first-top words message refusal work met)))
           (refused-grows nothingAdded refusal)
@@ -147,7 +148,8 @@ module _ (words : List ℕ) (small : Words32 words) (passed : isDictionary words
           → Built words message added after
       built-message envelope second after added has-trailer last =
           built-by before after added
-          (adds-then (topFill words header) (λ work. topFill words message (topFill words trailer work)) nothingAdded before first head added after (has-header .adds)
+          (adds-then (topFill words header) (λ work. topFill words message (topFill words trailer work)) nothingAdded before first head added after
+          (has-header .adds)
           (adds-then (topFill words trailer) (topFill words message) head first second envelope added after (has-trailer .adds) (last .adds)))
           (grows-then nothingAdded head added (done-grown nothingAdded head (has-header .grows))
           (grows-then head envelope added (done-grown head envelope (has-trailer .grows)) (last .grows)))

@@ -235,7 +235,8 @@ components-end name (Number number) NoLetters blocks = refl
 components-end name NoNumber NoLetters blocks = refl
 
 components-first : (name : ℕ) (line : Line) (blocks : Blocks)
-    → componentOf (before line blocks .whole) name ≡ cond (isOf 5 line && eqb (nameOf line) name) (Tree.Found (innermost (blocks .opened))) (componentOf (blocks .whole) name)
+    → componentOf (before line blocks .whole) name
+    ≡ cond (isOf 5 line && eqb (nameOf line) name) (Tree.Found (innermost (blocks .opened))) (componentOf (blocks .whole) name)
 unfolding isOf nameOf recordOf bodyCalled
 components-first name (Def tag place) blocks = refl
 components-first name (Value admitted) blocks = refl
@@ -262,7 +263,8 @@ messages-end name (Number number) NoLetters blocks = refl
 messages-end name NoNumber NoLetters blocks = refl
 
 messages-first : (name : ℕ) (line : Line) (blocks : Blocks)
-    → messageOf (before line blocks .whole) name ≡ cond (isOf 6 line && eqb (nameOf line) name) (Tree.Found (innermost (blocks .opened))) (messageOf (blocks .whole) name)
+    → messageOf (before line blocks .whole) name
+    ≡ cond (isOf 6 line && eqb (nameOf line) name) (Tree.Found (innermost (blocks .opened))) (messageOf (blocks .whole) name)
 unfolding isOf nameOf recordOf bodyCalled
 messages-first name (Def tag place) blocks = refl
 messages-first name (Value admitted) blocks = refl
@@ -436,7 +438,10 @@ module _ (words : List ℕ) (small : Words32 words) (passes : isDictionary words
   records : recordsOf lines ≡ take (10 * length lines) (drop 4 words)
   records =
       rw (lines-counted words)
-      (accepts-records start 1 0 (getD words 0 0) (drop 4 words) (omega (arith, length-drop 4 words, known .fits)) (λ place. rw (getD-drop 4 words place 0) (small (4 + place))) (known .accepted) .1)
+      (accepts-records start 1 0 (getD words 0 0) (drop 4 words) (omega (arith, length-drop 4 words, known .fits))
+      (λ place. rw (getD-drop 4 words place 0) (small (4 + place)))
+      (known .accepted)
+      .1)
 
   whole : 4 + 10 * length lines ≤ length words
   whole = omega (arith, lines-counted words, known .fits)
@@ -495,14 +500,17 @@ module _ (words : List ℕ) (small : Words32 words) (passes : isDictionary words
       )
 
   missing-at : (kind name : ℕ) (found : Found) → found ≡ placedAt lines (placeOf kind name lines) → found ≡ Nothing → length lines ≤ placeOf kind name lines
-  missing-at kind name found placed missing = placed-nothing-by (length lines) (placeOf kind name lines) (placeOf kind name lines <ᵇ length lines) refl (sym placed ∙ missing)
+  missing-at kind name found placed missing =
+      placed-nothing-by (length lines) (placeOf kind name lines) (placeOf kind name lines <ᵇ length lines) refl (sym placed ∙ missing)
 
   -- the component that the words have under a name is the tree's
   module _ (name : ℕ) where
     component-placed : Words.componentOf words name ≡ placedAt lines (placeOf 5 name lines)
     unfolding Words.componentOf
     component-placed =
-        recordIn-placed words lines (sym (lines-counted words)) records whole 5 (componentsAt words) (getD words 2 0) (omega (arith, known .fits)) (known .component-names) name
+        recordIn-placed words lines (sym (lines-counted words)) records whole 5 (componentsAt words) (getD words 2 0) (omega (arith, known .fits))
+        (known .component-names)
+        name
 
     pub component-found : (number : ℕ)
         → Words.componentOf words name ≡ At number
@@ -518,7 +526,8 @@ module _ (words : List ℕ) (small : Words32 words) (passes : isDictionary words
     pub component-missing : Words.componentOf words name ≡ Nothing → componentOf (dictionaryIn words) name ≡ Tree.NotFound
     unfolding bodyCalled
     component-missing missing =
-        decided-outside 5 name (λ tree. componentOf tree name) Tree.Found (components-first name) lines (missing-at 5 name (Words.componentOf words name) component-placed missing)
+        decided-outside 5 name (λ tree. componentOf tree name) Tree.Found (components-first name) lines
+        (missing-at 5 name (Words.componentOf words name) component-placed missing)
 
   -- .. and so is the message
   module _ (letters : ℕ) where
@@ -527,7 +536,9 @@ module _ (words : List ℕ) (small : Words32 words) (passes : isDictionary words
 
     message-placed : messageIn ≡ placedAt lines (placeOf 6 letters lines)
     message-placed =
-        recordIn-placed words lines (sym (lines-counted words)) records whole 6 (messagesAt words) (getD words 3 0) (omega (arith, known .fits)) (known .message-names) letters
+        recordIn-placed words lines (sym (lines-counted words)) records whole 6 (messagesAt words) (getD words 3 0) (omega (arith, known .fits))
+        (known .message-names)
+        letters
 
     pub message-found : (number : ℕ)
         → messageIn ≡ At number
@@ -543,7 +554,8 @@ module _ (words : List ℕ) (small : Words32 words) (passes : isDictionary words
     pub message-missing : messageIn ≡ Nothing → messageOf (dictionaryIn words) letters ≡ Tree.NotFound
     unfolding bodyCalled
     message-missing missing =
-        decided-outside 6 letters (λ tree. messageOf tree letters) Tree.Found (messages-first letters) lines (missing-at 6 letters messageIn message-placed missing)
+        decided-outside 6 letters (λ tree. messageOf tree letters) Tree.Found (messages-first letters) lines
+        (missing-at 6 letters messageIn message-placed missing)
 
   -- the header and the trailer begin behind the first line of their kind, and have no use
   pub header-comes : placeOf 3 0 (wordLines words) < getD words 0 0

@@ -209,12 +209,20 @@ module _ (lines : List Line) (place : ℕ) (inside : place < length lines) (orde
   unfolding openAt
   at-end (Def tag at) same other = never-by (Def tag at) same (rw same at (in-place lines place order inside))
   at-end (Value admitted) same other = never-by (Value admitted) same (rw same at (in-place lines place order inside))
-  at-end BeginHeader same other = let stands : InPlace BeginHeader (openAt lines (place + 1)) = rw same at (in-place lines place order inside) in never-opens BeginHeader same refl (stands .0)
-  at-end BeginTrailer same other = let stands : InPlace BeginTrailer (openAt lines (place + 1)) = rw same at (in-place lines place order inside) in never-opens BeginTrailer same refl (stands .0)
+  at-end BeginHeader same other =
+      let stands : InPlace BeginHeader (openAt lines (place + 1)) = rw same at (in-place lines place order inside) in
+      never-opens BeginHeader same refl (stands .0)
+  at-end BeginTrailer same other =
+      let stands : InPlace BeginTrailer (openAt lines (place + 1)) = rw same at (in-place lines place order inside) in
+      never-opens BeginTrailer same refl (stands .0)
   at-end EndHeader same other = end-by EndHeader same refl
   at-end EndTrailer same other = end-by EndTrailer same refl
-  at-end (Component name) same other = let stands : InPlace (Component name) (openAt lines (place + 1)) = rw same at (in-place lines place order inside) in never-opens (Component name) same refl stands
-  at-end (Message letters app) same other = let stands : InPlace (Message letters app) (openAt lines (place + 1)) = rw same at (in-place lines place order inside) in never-opens (Message letters app) same refl stands
+  at-end (Component name) same other =
+      let stands : InPlace (Component name) (openAt lines (place + 1)) = rw same at (in-place lines place order inside) in
+      never-opens (Component name) same refl stands
+  at-end (Message letters app) same other =
+      let stands : InPlace (Message letters app) (openAt lines (place + 1)) = rw same at (in-place lines place order inside) in
+      never-opens (Message letters app) same refl stands
   at-end (Field tag required) same other = absurd other
   at-end (Group count delimiter required) same other = absurd other
   at-end (Use name required) same other = absurd other

@@ -77,8 +77,8 @@ spent-stands builder node name depth trace frame outer spent stands = rw (spent 
 
 -- ---- add_group
 
-module _ (dictionary : Dictionary) (path : List ℕ) (collect : Bool) (count delimiter : ℕ) (required : Bool) (inner : Body) (depth less : ℕ) (same-depth : depth ≡ suc less)
-    (builder : Code.Builder) (before : List ℕ) where
+module _ (dictionary : Dictionary) (path : List ℕ) (collect : Bool) (count delimiter : ℕ) (required : Bool) (inner : Body)
+    (depth less : ℕ) (same-depth : depth ≡ suc less) (builder : Code.Builder) (before : List ℕ) where
   abbrev addsGroup : Work → Work
   addsGroup = addGroup gateLimits dictionary depth path collect (group-def count delimiter required inner)
 
@@ -171,7 +171,8 @@ module _ (dictionary : Dictionary) (path : List ℕ) (collect : Bool) (component
         → isIn (component .name) path ≡ false
         → names ≡ component .name ∷ path
         → needed ≡ (collect && component .required)
-        → Adds (fillBody gateLimits (addGroup gateLimits dictionary less names needed) (addComponent gateLimits dictionary less names needed) needed body) node before added after
+        → Adds (fillBody gateLimits (addGroup gateLimits dictionary less names needed) (addComponent gateLimits dictionary less names needed) needed body)
+        node before added after
         → Adds addsComponent builder before added after
     unfolding addComponent Adds
     component-added names needed (Done next) after new longer same adds = λ frame outer stands.
@@ -190,14 +191,15 @@ module _ (dictionary : Dictionary) (path : List ℕ) (collect : Bool) (builder :
 
 -- ---- add_body: the loop over the lines of a body
 
-pub record BodySoFar (words : List ℕ) (depth : ℕ) (path : List ℕ) (collect : Bool) (place : ℕ) (builder : Code.Builder) (before : List ℕ) (at : ℕ) (so-far : Code.Builder) (now′ : List ℕ) : Type 0 where
+pub record BodySoFar (words : List ℕ) (depth : ℕ) (path : List ℕ) (collect : Bool) (place : ℕ) (builder : Code.Builder) (before : List ℕ)
+    (at : ℕ) (so-far : Code.Builder) (written : List ℕ) : Type 0 where
   pub there : BodyAt (wordLines words) at
   pub around : aroundAt (wordLines words) at ≡ aroundAt (wordLines words) place
   pub from : place ≤ at
   pub grown : Grown builder so-far
-  pub size : length now′ ≡ length before
+  pub size : length written ≡ length before
   pub rest : (added : Added) (after : List ℕ)
-      → Adds (fillAt words depth path collect at) so-far now′ added after
+      → Adds (fillAt words depth path collect at) so-far written added after
       → Adds (fillAt words depth path collect place) builder before added after
 
 pub body-begins : (words : List ℕ) (depth : ℕ) (path : List ℕ) (collect : Bool) (place : ℕ) (builder : Code.Builder) (before : List ℕ)
@@ -219,14 +221,15 @@ unfolding Adds
 adds-none builder trace change none = λ frame outer stands. rw (none (workOf builder (frame .level))) (stands, refl)
 
 module _ (words : List ℕ) (small : Words32 words) (passed : isDictionary words ≡ true) (depth : ℕ) (path : List ℕ) (collect : Bool) (place : ℕ)
-    (builder : Code.Builder) (before : List ℕ) (at : ℕ) (so-far : Code.Builder) (now′ : List ℕ) (soFar : BodySoFar words depth path collect place builder before at so-far now′) where
+    (builder : Code.Builder) (before : List ℕ) (at : ℕ) (so-far : Code.Builder) (written : List ℕ)
+    (walked : BodySoFar words depth path collect place builder before at so-far written) where
   abbrev lines : List Line
   lines = wordLines words
 
   -- there is a line where a body is open
   pub body-inside : at < getD words 0 0
   body-inside =
-      let over = inside-body lines at (bodyAt lines at) (aroundAt lines at) (soFar .there) in
+      let over = inside-body lines at (bodyAt lines at) (aroundAt lines at) (walked .there) in
       omega (arith, lines-counted words, over)
 
   line-inside : at < length lines
@@ -246,35 +249,35 @@ module _ (words : List ℕ) (small : Words32 words) (passed : isDictionary words
       → Splits change left
       → at ≤ further
       → openAt lines further ≡ left ∷ aroundAt lines at
-      → Adds change so-far now′ (Done next) after
+      → Adds change so-far written (Done next) after
       → Grown so-far next
-      → length after ≡ length now′
+      → length after ≡ length written
       → BodySoFar words depth path collect place builder before further next after
   goes-on change left further next after splits order open-there changed grows kept = record {
     there = body-there (openAt lines further) left (aroundAt lines at) open-there;
-    around = ap aroundIt open-there ∙ soFar .around;
-    from = omega (arith, soFar .from, order);
-    grown = grown-then builder so-far next (soFar .grown) grows;
-    size = kept ∙ soFar .size;
+    around = ap aroundIt open-there ∙ walked .around;
+    from = omega (arith, walked .from, order);
+    grown = grown-then builder so-far next (walked .grown) grows;
+    size = kept ∙ walked .size;
     rest = λ added end adds.
-        soFar .rest added end
-        (adds-same (λ work. fillAt words depth path collect further (change work)) (fillAt words depth path collect at) so-far now′ added end
+        walked .rest added end
+        (adds-same (λ work. fillAt words depth path collect further (change work)) (fillAt words depth path collect at) so-far written added end
         (λ work. ap (λ (body : Body). fillBody gateLimits groups uses collect body (change work)) (ap innermost open-there) ∙ sym (splits work))
-        (adds-then change (fillAt words depth path collect further) so-far now′ after next added end changed adds));
+        (adds-then change (fillAt words depth path collect further) so-far written after next added end changed adds));
   }
 
   stops : (change : Work → Work) (left : Body) (refusal : Refusal) (after end : List ℕ)
       → Splits change left
-      → Adds change so-far now′ (Refused refusal) after
+      → Adds change so-far written (Refused refusal) after
       → Fills (fillAt words depth path collect place) words place builder before (Stopped refusal) end
   stops change left refusal after end splits changed =
       let fill : Work → Work = λ work. fillBody gateLimits groups uses collect left work in
       record {
         adds =
-            soFar .rest (Refused refusal) end
-            (adds-same (λ work. fill (change work)) (fillAt words depth path collect at) so-far now′ (Refused refusal) end
+            walked .rest (Refused refusal) end
+            (adds-same (λ work. fill (change work)) (fillAt words depth path collect at) so-far written (Refused refusal) end
             (λ work. sym (splits work))
-            (adds-stops change fill so-far now′ after refusal end changed
+            (adds-stops change fill so-far written after refusal end changed
             (λ work first. first-fill gateLimits refusal (dictionaryIn words) depth path collect collect left work first)));
         grows = refused-grows builder refusal;
         ends = tt;
@@ -284,7 +287,7 @@ module _ (words : List ℕ) (small : Words32 words) (passed : isDictionary words
   module _ (tag : ℕ) (required needed : Bool) (line : getD lines at Unknown ≡ Field tag required) (same : needed ≡ (collect && required)) where
     abbrev fieldParts : (rest : Body)
         × ((openAt lines (at + 1) ≡ rest ∷ aroundAt lines at) × (bodyAt lines at ≡ withField (record { tag = tag; required = required }) rest))
-    fieldParts = at-field lines at line-inside (lines-in-order words small passed) (bodyAt lines at) (aroundAt lines at) (soFar .there) tag required line
+    fieldParts = at-field lines at line-inside (lines-in-order words small passed) (bodyAt lines at) (aroundAt lines at) (walked .there) tag required line
 
     field-splits : Splits (addField gateLimits tag needed) (fieldParts .0)
     field-splits work =
@@ -293,15 +296,17 @@ module _ (words : List ℕ) (small : Words32 words) (passed : isDictionary words
         ∙ ap (λ (flag : Bool). fillBody gateLimits groups uses collect (fieldParts .0) (addField gateLimits tag flag work)) (sym same)
 
     pub body-field : (next : Code.Builder) (after : List ℕ)
-        → Adds (addField gateLimits tag needed) so-far now′ (Done next) after
+        → Adds (addField gateLimits tag needed) so-far written (Done next) after
         → Grows so-far (Done next)
-        → length after ≡ length now′
+        → length after ≡ length written
         → BodySoFar words depth path collect place builder before (at + 1) next after
     body-field next after changed grows kept =
-        goes-on (addField gateLimits tag needed) (fieldParts .0) (at + 1) next after field-splits (omega arith) (fieldParts .1 .0) changed (done-grown so-far next grows) kept
+        goes-on (addField gateLimits tag needed) (fieldParts .0) (at + 1) next after field-splits (omega arith) (fieldParts .1 .0) changed
+        (done-grown so-far next grows)
+        kept
 
     pub body-field-over : (refusal : Refusal) (after end : List ℕ)
-        → Adds (addField gateLimits tag needed) so-far now′ (Refused refusal) after
+        → Adds (addField gateLimits tag needed) so-far written (Refused refusal) after
         → Fills (fillAt words depth path collect place) words place builder before (Stopped refusal) end
     body-field-over refusal after end changed = stops (addField gateLimits tag needed) (fieldParts .0) refusal after end field-splits changed
 
@@ -314,7 +319,7 @@ module _ (words : List ℕ) (small : Words32 words) (passed : isDictionary words
         × ((rest : Body)
         × ((openAt lines (at + 1) ≡ inner ∷ rest ∷ aroundAt lines at)
         × ((bodyAt lines at ≡ withGroup (group-def count delimiter required inner) rest) × (fieldsOf rest ≡ []))))
-    groupParts = at-group lines at line-inside (lines-in-order words small passed) (bodyAt lines at) (aroundAt lines at) (soFar .there) count delimiter required line
+    groupParts = at-group lines at line-inside (lines-in-order words small passed) (bodyAt lines at) (aroundAt lines at) (walked .there) count delimiter required line
 
     -- the body of the group is open behind its line
     pub group-there : BodyAt lines (at + 1)
@@ -328,8 +333,8 @@ module _ (words : List ℕ) (small : Words32 words) (passed : isDictionary words
         (sym (ap innermost (groupParts .1 .1 .0)))
 
     pub body-group : (behind : ℕ) (next : Code.Builder) (after : List ℕ)
-        → Fills (groups groupThere) words (at + 1) so-far now′ (UpTo behind next) after
-        → length after ≡ length now′
+        → Fills (groups groupThere) words (at + 1) so-far written (UpTo behind next) after
+        → length after ≡ length written
         → BodySoFar words depth path collect place builder before behind next after
     body-group behind next after fills kept =
         goes-on (groups groupThere) (groupParts .1 .0) behind next after group-splits (omega (arith, fills .ends .0))
@@ -339,7 +344,7 @@ module _ (words : List ℕ) (small : Words32 words) (passed : isDictionary words
         kept
 
     pub body-group-over : (refusal : Refusal) (after end : List ℕ)
-        → Fills (groups groupThere) words (at + 1) so-far now′ (Stopped refusal) after
+        → Fills (groups groupThere) words (at + 1) so-far written (Stopped refusal) after
         → Fills (fillAt words depth path collect place) words place builder before (Stopped refusal) end
     body-group-over refusal after end fills = stops (groups groupThere) (groupParts .1 .0) refusal after end group-splits (fills .adds)
 
@@ -349,7 +354,7 @@ module _ (words : List ℕ) (small : Words32 words) (passed : isDictionary words
     useThere = record { name = name; required = required }
 
     abbrev useParts : (rest : Body) × ((openAt lines (at + 1) ≡ rest ∷ aroundAt lines at) × ((bodyAt lines at ≡ withUse useThere rest) × OnlyUses rest))
-    useParts = at-use lines at line-inside (lines-in-order words small passed) (bodyAt lines at) (aroundAt lines at) (soFar .there) name required line
+    useParts = at-use lines at line-inside (lines-in-order words small passed) (bodyAt lines at) (aroundAt lines at) (walked .there) name required line
 
     use-splits : Splits (uses useThere) (useParts .0)
     use-splits work =
@@ -357,14 +362,16 @@ module _ (words : List ℕ) (small : Words32 words) (passed : isDictionary words
         ∙ fill-use gateLimits groups uses collect work useThere (useParts .0) (useParts .1 .1 .1)
 
     pub body-use : (next : Code.Builder) (after : List ℕ)
-        → Uses (uses useThere) so-far now′ (Done next) after
-        → length after ≡ length now′
+        → Uses (uses useThere) so-far written (Done next) after
+        → length after ≡ length written
         → BodySoFar words depth path collect place builder before (at + 1) next after
     body-use next after changed kept =
-        goes-on (uses useThere) (useParts .0) (at + 1) next after use-splits (omega arith) (useParts .1 .0) (changed .adds) (done-grown so-far next (changed .grows)) kept
+        goes-on (uses useThere) (useParts .0) (at + 1) next after use-splits (omega arith) (useParts .1 .0) (changed .adds)
+        (done-grown so-far next (changed .grows))
+        kept
 
     pub body-use-over : (refusal : Refusal) (after end : List ℕ)
-        → Uses (uses useThere) so-far now′ (Refused refusal) after
+        → Uses (uses useThere) so-far written (Refused refusal) after
         → Fills (fillAt words depth path collect place) words place builder before (Stopped refusal) end
     body-use-over refusal after end changed = stops (uses useThere) (useParts .0) refusal after end use-splits (changed .adds)
 
@@ -372,23 +379,24 @@ module _ (words : List ℕ) (small : Words32 words) (passed : isDictionary words
   pub body-ends : (line : Line)
       → getD lines at Unknown ≡ line
       → IsOther line
-      → Fills (fillAt words depth path collect place) words place builder before (UpTo (at + 1) so-far) now′
+      → Fills (fillAt words depth path collect place) words place builder before (UpTo (at + 1) so-far) written
   body-ends line same other =
-      let parts = at-end lines at line-inside (lines-in-order words small passed) (bodyAt lines at) (aroundAt lines at) (soFar .there) line same other in
+      let parts = at-end lines at line-inside (lines-in-order words small passed) (bodyAt lines at) (aroundAt lines at) (walked .there) line same other in
       record {
         adds =
-            soFar .rest (Done so-far) now′
-            (adds-none so-far now′ (fillAt words depth path collect at)
+            walked .rest (Done so-far) written
+            (adds-none so-far written (fillAt words depth path collect at)
             (λ work.
             ap (λ (body : Body). fillBody gateLimits groups uses collect body work) (parts .0)
             ∙ fill-end gateLimits groups uses collect work));
-        grows = grown-grows builder so-far (soFar .grown);
-        ends = (omega (arith, soFar .from), (omega (arith, body-inside), parts .1 ∙ soFar .around));
+        grows = grown-grows builder so-far (walked .grown);
+        ends = (omega (arith, walked .from), (omega (arith, body-inside), parts .1 ∙ walked .around));
       }
 
 -- ---- the word that leaves a group has its place: the group's node
 
-module _ (builder node entry filled : Code.Builder) (name depth : ℕ) (spent : SpendsNode builder name depth (Done node)) (enters : Grown node entry) (fills : Grown entry filled) where
+module _ (builder node entry filled : Code.Builder) (name depth : ℕ) (spent : SpendsNode builder name depth (Done node))
+    (enters : Grown node entry) (fills : Grown entry filled) where
   pub group-room : Fits builder → filled .len < filled .members + filled .required + filled .nodes
   group-room fits = omega (arith, fits .len, spent-room builder node name depth spent, enters .slack, fills .slack)
 

@@ -205,8 +205,8 @@ fn add_component(
     builder: Builder,
 ) -> Added
     requires { ⌜ Asks (now words) «depth_left» path builder (now trace) ⌝ }
-    ensures { λ added. ⌜ Uses (addComponent gateLimits (dictionaryIn (now (words .entry))) «depth_left» (openNames path) collect (record { name = name; required = required }))
-        builder (now (trace .entry)) added (now (trace .exit)) ⌝ }
+    ensures { λ added. ⌜ Uses (addComponent gateLimits (dictionaryIn (now (words .entry))) «depth_left» (openNames path) collect
+        (record { name = name; required = required })) builder (now (trace .entry)) added (now (trace .exit)) ⌝ }
 {
     match spend(builder, name, depth_left) {
         Added::Refused(refusal) => Added::Refused(refusal),
@@ -218,10 +218,10 @@ fn add_component(
                 return Added::Done(node);
             }
             let inside = opened(path, name);
-            let needed = both(collect, required);
+            let collects = both(collect, required);
             let first = number + 1;
             let below = depth_left - 1;
-            let filled = add_body(words, first, below, inside, needed, trace, node);
+            let filled = add_body(words, first, below, inside, collects, trace, node);
             outcome(filled)
         }
     }

@@ -273,7 +273,7 @@ add-component-returns-2 t c = record { adds = component-open (dictionaryIn (c .b
 add-component-opened-requires : (t : ℕ) → add-component-lts.Need-opened-requires (add-component-claims t) (add-component-at t) add-component.Post
 add-component-opened-requires t c κs = (let some = spent-deep _ _ _ _ (rw (c .before .before .before .before .before .before .before .node .given .1) at (c .before .before .before .before .before .before .before .before .before .spend .ensures .0)) in omega (arith, some, c .before .before .before .before .before .before .before .before .before .before .before .before .pre .1 .deep), c .before .before .before .before .before .before .before .before .before .before .before .before .pre .1 .names)
 
--- let needed = both(collect, required);
+-- let collects = both(collect, required);
 add-component-both-requires : (t : ℕ) → add-component-lts.Need-both-requires (add-component-claims t) (add-component-at t) add-component.Post
 add-component-both-requires t c κs = search needs
 
