@@ -1,6 +1,6 @@
 -- Laws of `Search.antt`, in its order, and the loops of `is_strictly_ascending` and `binary_search`, turn by turn. Assumes nothing.
 use mathlib.Core.Path.{_≡_, refl, sym, ap, _∙_}
-use Prim.Native.Nat.{ℕ, zero, suc, _+_, _-_, _≤_, _<_}
+use Prim.Native.Nat.{ℕ, zero, suc, _+_, _-_, _*_, _≤_, _<_}
 use mathlib.Core.Bool.{Bool, true, false, cond, _||_}
 use mathlib.Core.List.{List, [], _∷_}
 use native.Mathlib.Omega.{arith}
@@ -165,54 +165,68 @@ holds-at words tag place found there holds = rw there at holds
 
 -- ---- the loop of `binary_search`
 
--- where the words ascend, those before `low` are below the tag and those from `high` on above it
-pub record SearchSoFar (words : List ℕ) (tag low high : ℕ) : Type 0 where
-  pub within : high ≤ length words
-  pub below : StrictlyAscending words → (place : ℕ) → place < low → getD words place 0 < tag
-  pub above : StrictlyAscending words → (place : ℕ) → high ≤ place → place < length words → tag < getD words place 0
+-- where the words ascend, those before `base` are below the tag and those behind the `size` words from `base` on above it; `last` is the word at `base`
+pub record SearchSoFar (words : List ℕ) (tag base last size : ℕ) : Type 0 where
+  pub some-word : 0 < size
+  pub within : base + size ≤ length words
+  pub last-is : last ≡ getD words base 0
+  pub below : StrictlyAscending words → (place : ℕ) → place < base → getD words place 0 < tag
+  pub above : StrictlyAscending words → (place : ℕ) → base + size ≤ place → place < length words → tag < getD words place 0
 
-pub search-begins : (words : List ℕ) (tag : ℕ) → SearchSoFar words tag 0 (length words)
-search-begins words tag = record {
+pub search-empty : (words : List ℕ) (tag : ℕ) → length words ≡ 0 → StrictlyAscending words → Nothing ≡ rankIn words tag
+search-empty words tag empty ascends = sym (rankIn-nothing words tag (λ place inside there. omega (arith, empty, inside)))
+
+pub search-begins : (words : List ℕ) (tag : ℕ) → (length words ≡ 0 → ⊥) → SearchSoFar words tag 0 (getD words 0 0) (length words)
+search-begins words tag some-word = record {
+  some-word = omega (arith, some-word);
   within = omega arith;
+  last-is = refl;
   below = λ ascends place before. absurd (omega arith);
   above = λ ascends place from inside. absurd (omega arith);
 }
 
-module _ (words : List ℕ) (tag low high : ℕ) (so-far : SearchSoFar words tag low high) where
-  pub search-ends : high ≤ low → StrictlyAscending words → Nothing ≡ rankIn words tag
-  search-ends met ascends = sym (rankIn-nothing words tag (λ place inside there. by-side (ltb place low) place refl inside there))
-    where
-      by-side : (test : Bool) (place : ℕ) → ltb place low ≡ test → place < length words → getD words place 0 ≡ tag → ⊥
-      by-side true place test inside there = omega (arith, so-far .below ascends place (ltb-true place low test))
-      by-side false place test inside there = omega (arith, so-far .above ascends place (omega (arith, ltb-false place low test)) inside)
-
-  module _ (middle : ℕ) (from : low ≤ middle) (before : middle < high) where
-    pub search-finds : getD words middle 0 ≡ tag → StrictlyAscending words → At middle ≡ rankIn words tag
+module _ (words : List ℕ) (tag base last size : ℕ) (so-far : SearchSoFar words tag base last size) where
+  -- one word is left
+  module _ (one : size ≤ 1) where
+    pub search-finds : last ≡ tag → StrictlyAscending words → At base ≡ rankIn words tag
     search-finds there ascends =
-        let inside : middle < length words = omega (arith, so-far .within) in
-        sym (rankIn-at words tag middle inside there (λ place earlier same. omega (arith, strictly-places words ascends place middle earlier inside)))
+        let inside : base < length words = omega (arith, so-far .some-word, so-far .within) in
+        sym (rankIn-at words tag base inside (sym (so-far .last-is) ∙ there) (λ place earlier same. omega (arith, so-far .below ascends place earlier)))
 
-    pub search-goes-up : getD words middle 0 < tag → SearchSoFar words tag (middle + 1) high
+    pub search-holds : last ≡ tag → (base < length words) × (getD words base 0 ≡ tag)
+    search-holds there = (omega (arith, so-far .some-word, so-far .within), sym (so-far .last-is) ∙ there)
+
+    pub search-misses : (last ≡ tag → ⊥) → StrictlyAscending words → Nothing ≡ rankIn words tag
+    search-misses differs ascends = sym (rankIn-nothing words tag (λ place inside there. by-side place inside there (ltb place base) refl (eqb place base) refl))
+      where
+        by-side : (place : ℕ) → place < length words → getD words place 0 ≡ tag → (before : Bool) → ltb place base ≡ before → (here : Bool) → eqb place base ≡ here → ⊥
+        by-side place inside there true before here same = omega (arith, there, so-far .below ascends place (ltb-true place base before))
+        by-side place inside there false before true same = differs (so-far .last-is ∙ ap (λ (at : ℕ). getD words at 0) (sym (eqb-true place base same)) ∙ there)
+        by-side place inside there false before false same =
+            omega (arith, there, so-far .above ascends place (omega (arith, one, ltb-false place base before, eqb-false place base same)) inside)
+
+  -- a word in the second half
+  module _ (half : ℕ) (some-half : 0 < half) (not-more : 2 * half ≤ size) where
+    pub search-goes-up : getD words (base + half) 0 ≤ tag → SearchSoFar words tag (base + half) (getD words (base + half) 0) (size - half)
     search-goes-up under = record {
-      within = so-far .within;
-      below = λ ascends place earlier. by-last ascends place (eqb place middle) refl earlier;
-      above = so-far .above;
-    }
-      where
-        by-last : StrictlyAscending words → (place : ℕ) (test : Bool) → eqb place middle ≡ test → place < middle + 1 → getD words place 0 < tag
-        by-last ascends place true test earlier = rw (eqb-true place middle test) under
-        by-last ascends place false test earlier =
-            omega (arith, strictly-places words ascends place middle (omega (arith, eqb-false place middle test)) (omega (arith, so-far .within)))
-
-    pub search-goes-down : tag < getD words middle 0 → SearchSoFar words tag low middle
-    search-goes-down over = record {
+      some-word = omega arith;
       within = omega (arith, so-far .within);
+      last-is = refl;
+      below = λ ascends place earlier. omega (arith, under, strictly-places words ascends place (base + half) earlier (omega (arith, so-far .within)));
+      above = λ ascends place later inside. so-far .above ascends place (omega (arith, later)) inside;
+    }
+
+    pub search-goes-down : tag < getD words (base + half) 0 → SearchSoFar words tag base last (size - half)
+    search-goes-down over = record {
+      some-word = omega arith;
+      within = omega (arith, so-far .within);
+      last-is = so-far .last-is;
       below = so-far .below;
-      above = λ ascends place later inside. by-first ascends place (eqb place middle) refl later inside;
+      above = λ ascends place later inside. by-first ascends place (eqb place (base + half)) refl later inside;
     }
       where
-        by-first : StrictlyAscending words → (place : ℕ) (test : Bool) → eqb place middle ≡ test → middle ≤ place → place < length words
+        by-first : StrictlyAscending words → (place : ℕ) (test : Bool) → eqb place (base + half) ≡ test → base + (size - half) ≤ place → place < length words
             → tag < getD words place 0
-        by-first ascends place true test later inside = rw (eqb-true place middle test) over
+        by-first ascends place true test later inside = rw (eqb-true place (base + half) test) over
         by-first ascends place false test later inside =
-            omega (arith, strictly-places words ascends middle place (omega (arith, eqb-false place middle test)) inside)
+            omega (arith, over, strictly-places words ascends (base + half) place (omega (arith, later, eqb-false place (base + half) test)) inside)

@@ -25,24 +25,31 @@ pub fn is_strictly_ascending(words: &[u32]) -> bool
     true
 }
 
-// Searches the words for a tag. What is found is the tag in any case; nothing is missed where every word is above the one before it.
+// Searches the words for a tag. What is found is the tag in any case; nothing is missed where every word is above the one before it. As in the Rust, the
+// part that may hold the tag is halved until one word is left, and `last`, that word, moves with `base`: so the compiled loop has no jump that hangs on a
+// word (docs/SPEED.md).
 pub fn binary_search(words: &[u32], tag: u32) -> Found
     ensures outcome { λ found. ⌜ (StrictlyAscending (now (words .entry)) → found ≡ rankIn (now (words .entry)) tag) ⌝ }
     ensures there { λ found. ⌜ Holds (now (words .entry)) tag found ⌝ }
 {
-    let mut low = 0;
-    let mut high = words.len();
-    while low < high {
-        let middle = low + (high - low) / 2;
+    if words.len() == 0 {
+        return Found::Nothing;
+    }
+    let mut base = 0;
+    let mut last = words[0];
+    let mut size = words.len();
+    while 1 < size {
+        let half = size / 2;
+        size -= half;
+        let middle = base + half;
         let word = words[middle];
-        if word == tag {
-            return Found::At(middle);
+        if word <= tag {
+            base = middle;
+            last = word;
         }
-        if word < tag {
-            low = middle + 1;
-        } else {
-            high = middle;
-        }
+    }
+    if last == tag {
+        return Found::At(base);
     }
     Found::Nothing
 }
