@@ -106,6 +106,14 @@ module _ (words : List ℕ) (rank : ℕ) where
   unfolding insertRank
   inserted-is = refl
 
+  -- the same for a rank of the first word
+  module _ (first : rank / 64 ≡ 0) where
+    pub fresh-first : eqb (bitAnd (getD words 0 0) (2 ^ (rank % 64))) 0 ≡ not (holdsRank words rank)
+    fresh-first = rw first at fresh-is
+
+    pub inserted-first : set words 0 (bitOr (getD words 0 0) (2 ^ (rank % 64))) ≡ insertRank words rank
+    inserted-first = rw first at inserted-is
+
 -- ---- onesOf
 
 onesOf-append : (words others : List ℕ) → onesOf (words ++ others) ≡ onesOf words + onesOf others

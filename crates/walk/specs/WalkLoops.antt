@@ -7,6 +7,7 @@ use mathlib.Core.Path.{_≡_, refl, sym, ap, subst, _∙_}
 use Prim.Native.Nat.{ℕ, suc, _+_, _*_, _-_, _≤_, _<_}
 use mathlib.Core.Bool.{Bool, true, false, not, _||_, true≢false}
 use mathlib.Core.Option.{none, some}
+use mathlib.Core.Logic.{_⊎_, ⊎-elim}
 use mathlib.Core.List.{List, [], _∷_, _++_, append-assoc, append-nil}
 use native.Mathlib.Omega.{arith}
 use native.Mathlib.Numerals.{add-one}
@@ -269,6 +270,16 @@ module _ (words fields message enclosing : List ℕ) (group index depth : ℕ) (
     pub room : to + 10 ≤ 25 * cursor
     pub lead-room : entries ≡ 0 → to + 15 ≤ 25 * cursor
 
+  -- an entry opens at the cursor, by its delimiter or by a member that leads: the events written then, and what the scan of the entry adds
+  pub record EntryOpened (count-tag cursor entries : ℕ) (between : List ℕ) (middle : ℕ) (spoilt : Bool) : Type 0 where
+    pub inside : cursor < rowCount fields
+    pub taken : entryStops (inputOf words fields message) true group cursor ≡ false
+    pub room : middle + 10 ≤ 25 * cursor
+    pub adds : (after₁ : List ℕ) (to₁ next seen : ℕ) (unparseable : Bool) → Scans words fields message group cursor depth between after₁ middle to₁ next seen unparseable
+        → (after₂ : List ℕ) (to₂ : ℕ) → Wrote after₁ after₂ to₁ to₂ (tagEvent count-tag depth (Close entries seen) ∷ [])
+        → (unparseable′ : Bool) → unparseable′ ≡ (spoilt || unparseable)
+        → GroupWritten after₂ to₂ next (entries + 1) unparseable′
+
 module _ (words fields message enclosing : List ℕ) (passed : Passed gateLimits words) (group : ℕ) (valid : group < groupCount words) (index depth : ℕ) where
   module _ (before : List ℕ) (at : ℕ) where
     module _ (inside : index < rowCount fields) (shallow : depth ≤ 32) (declared : Count) (is-count : declared ≡ countAt (fieldsOf fields message) index)
@@ -379,6 +390,36 @@ module _ (words fields message enclosing : List ℕ) (passed : Passed gateLimits
                     room = omega (arith, fits, few, close-is);
                     lead-room = λ (none-yet : entries + 1 ≡ 0). absurd (omega (arith, none-yet));
                   }
+
+        -- either way an entry opens
+        pub entry-opens : entryBegins (inputOf words fields message) group (among enclosing) declared entries cursor ≡ true
+            → (entries ≡ 0 → memberLeads (inputOf words fields message) group (among enclosing) declared cursor ≡ false)
+            → (between : List ℕ) → between ≡ after → (middle : ℕ) → middle ≡ to → (spoilt : Bool) → spoilt ≡ unparseable
+            → EntryOpened words fields message enclosing group index depth before at count-tag cursor entries between middle spoilt
+        entry-opens begins no-lead between is-between middle is-middle spoilt is-spoilt = rw (is-between, is-middle, is-spoilt) (record {
+          inside = entry-inside begins;
+          taken = entry-taken begins;
+          room = written .room;
+          adds = group-adds-entry begins no-lead;
+        })
+
+        pub lead-opens : (none-yet : entries ≡ 0) (leads : memberLeads (inputOf words fields message) group (among enclosing) declared cursor ≡ true)
+            → (tag : ℕ) → tag ≡ tagOf fields cursor → (after′ : List ℕ) (to′ : ℕ) → Wrote after after′ to to′ (tagEvent count-tag depth (Delim tag) ∷ [])
+            → (between : List ℕ) → between ≡ after′ → (middle : ℕ) → middle ≡ to′ → (spoilt : Bool) → spoilt ≡ true
+            → EntryOpened words fields message enclosing group index depth before at count-tag cursor entries between middle spoilt
+        lead-opens none-yet leads tag is-tag after′ to′ wrote-delim between is-between middle is-middle spoilt is-spoilt = rw (is-between, is-middle, is-spoilt) (record {
+          inside = lead-inside none-yet leads;
+          taken = lead-taken none-yet leads;
+          room = delim-room none-yet leads tag is-tag after′ to′ wrote-delim;
+          adds = λ after₁ to₁ next seen here scans after₂ to₂ wrote-close unparseable′ is-unparseable.
+              rw is-unparseable (group-adds-lead none-yet leads tag is-tag after′ to′ wrote-delim after₁ to₁ next seen here scans after₂ to₂ wrote-close);
+        })
+
+        pub one-opens : {A B : Type 0} (between : List ℕ) (middle : ℕ) (spoilt : Bool)
+            → (A → EntryOpened words fields message enclosing group index depth before at count-tag cursor entries between middle spoilt)
+            → (B → EntryOpened words fields message enclosing group index depth before at count-tag cursor entries between middle spoilt)
+            → A ⊎ B → EntryOpened words fields message enclosing group index depth before at count-tag cursor entries between middle spoilt
+        one-opens between middle spoilt by-delimiter by-member came = ⊎-elim by-delimiter by-member came
 
         -- the group ends before the cursor
         pub group-ended : entryBegins (inputOf words fields message) group (among enclosing) declared entries cursor ≡ false

@@ -56,20 +56,28 @@ impl EntryTags {
         EntryTags { words: [0u64; 8] }
     }
 
-    // Records the member ranked `rank`; `fresh` is false if it was already recorded.
-    pub fn insert_rank(self, rank: usize) -> Inserted
-        requires { ⌜ rank < 512 ⌝ }
+    // Records the member ranked `rank`, of a level of so many members; `fresh` is false if it was already recorded. A level of up to 64 members uses the first
+    // word alone: it is reached by a number and not by a variable, so that the compiled walk keeps it in a register (docs/SPEED.md).
+    pub fn insert_rank(self, rank: usize, members: usize) -> Inserted
+        requires { ⌜ (rank < members) × (members ≤ 512) ⌝ }
         ensures { λ inserted. ⌜ (inserted .tags .words ≡ insertRank (self .words) rank) × (inserted .fresh ≡ not (holdsRank (self .words) rank)) ⌝ }
     {
-        let word = rank / 64;
         let mask = mask_of(rank);
-        let old = self.words[word];
-        let hit = old & mask;
         let mut tags = self;
+        if members <= 64 {
+            let first = self.words[0];
+            tags.words[0] = first | mask;
+            return Inserted {
+                tags,
+                fresh: first & mask == 0,
+            };
+        }
+        let word = rank / 64;
+        let old = self.words[word];
         tags.words[word] = old | mask;
         Inserted {
             tags,
-            fresh: hit == 0,
+            fresh: old & mask == 0,
         }
     }
 

@@ -82,58 +82,26 @@ pub fn walk_group<'a>(
             Turn::Over => {
                 break;
             }
-            Turn::Entry => {
-                if members.len() <= 512 {
-                    let entry = scan_entry(
-                        fields,
-                        message,
-                        words,
-                        group,
-                        cursor,
-                        depth,
-                        events,
-                        to,
-                    );
-                    let close = Kind::Close(entries, entry.seen);
-                    to = put_event(events, entry.at, tag, depth, close);
-                    cursor = entry.next;
-                    unparseable = either(unparseable, entry.unparseable);
-                    entries += 1;
-                } else {
-                    let entry = scan_wide(fields, message, words, group, cursor, depth, events, to);
-                    let close = Kind::Close(entries, entry.seen);
-                    to = put_event(events, entry.at, tag, depth, close);
-                    cursor = entry.next;
-                    unparseable = either(unparseable, entry.unparseable);
-                    entries += 1;
-                }
-            }
+            Turn::Entry => {}
             Turn::Lead(member) => {
                 to = put_event(events, to, tag, depth, Kind::Delim(member));
                 unparseable = true;
-                if members.len() <= 512 {
-                    let entry = scan_entry(
-                        fields,
-                        message,
-                        words,
-                        group,
-                        cursor,
-                        depth,
-                        events,
-                        to,
-                    );
-                    let close = Kind::Close(entries, entry.seen);
-                    to = put_event(events, entry.at, tag, depth, close);
-                    cursor = entry.next;
-                    entries += 1;
-                } else {
-                    let entry = scan_wide(fields, message, words, group, cursor, depth, events, to);
-                    let close = Kind::Close(entries, entry.seen);
-                    to = put_event(events, entry.at, tag, depth, close);
-                    cursor = entry.next;
-                    entries += 1;
-                }
             }
+        }
+        if members.len() <= 512 {
+            let entry = scan_entry(fields, message, words, group, cursor, depth, events, to);
+            let close = Kind::Close(entries, entry.seen);
+            to = put_event(events, entry.at, tag, depth, close);
+            cursor = entry.next;
+            unparseable = either(unparseable, entry.unparseable);
+            entries += 1;
+        } else {
+            let entry = scan_wide(fields, message, words, group, cursor, depth, events, to);
+            let close = Kind::Close(entries, entry.seen);
+            to = put_event(events, entry.at, tag, depth, close);
+            cursor = entry.next;
+            unparseable = either(unparseable, entry.unparseable);
+            entries += 1;
         }
     }
     let past = put_end(events, to, tag, depth, declared, unparseable, entries);
@@ -174,19 +142,19 @@ fn scan_entry<'a>(
                 break;
             }
             EntryStep::Plain(rank, member) => {
-                let inserted = seen.insert_rank(rank);
-                to = put_repeat(events, to, tag, depth, member, inserted.fresh);
-                unparseable = spoilt_by(unparseable, inserted.fresh);
+                let inserted = seen.insert_rank(rank, members.len());
                 let with = inserted.tags;
                 seen = with;
+                to = put_repeat(events, to, tag, depth, member, inserted.fresh);
+                unparseable = spoilt_by(unparseable, inserted.fresh);
                 cursor += 1;
             }
             EntryStep::Nested(rank, member, inner) => {
-                let inserted = seen.insert_rank(rank);
-                to = put_repeat(events, to, tag, depth, member, inserted.fresh);
-                unparseable = spoilt_by(unparseable, inserted.fresh);
+                let inserted = seen.insert_rank(rank, members.len());
                 let with = inserted.tags;
                 seen = with;
+                to = put_repeat(events, to, tag, depth, member, inserted.fresh);
+                unparseable = spoilt_by(unparseable, inserted.fresh);
                 let below = depth + 1;
                 let nested = walk_group(
                     fields,
@@ -244,18 +212,18 @@ fn scan_wide<'a>(
             }
             EntryStep::Plain(rank, member) => {
                 let inserted = seen.insert_rank(rank);
-                to = put_repeat(events, to, tag, depth, member, inserted.fresh);
-                unparseable = spoilt_by(unparseable, inserted.fresh);
                 let with = inserted.tags;
                 seen = with;
+                to = put_repeat(events, to, tag, depth, member, inserted.fresh);
+                unparseable = spoilt_by(unparseable, inserted.fresh);
                 cursor += 1;
             }
             EntryStep::Nested(rank, member, inner) => {
                 let inserted = seen.insert_rank(rank);
-                to = put_repeat(events, to, tag, depth, member, inserted.fresh);
-                unparseable = spoilt_by(unparseable, inserted.fresh);
                 let with = inserted.tags;
                 seen = with;
+                to = put_repeat(events, to, tag, depth, member, inserted.fresh);
+                unparseable = spoilt_by(unparseable, inserted.fresh);
                 let below = depth + 1;
                 let nested = walk_group(
                     fields,

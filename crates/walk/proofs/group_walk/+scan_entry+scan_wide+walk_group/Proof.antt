@@ -11,7 +11,7 @@ use Rattle.walk.specs.EventSpaceLaws.{wrote-length}
 use Rattle.walk.specs.FieldTable.{rowCount}
 use Rattle.walk.specs.WalkWordsLaws.{level-searches, level-ascends, level-length, members-few-here}
 use Rattle.walk.specs.WordStepsLaws.{level-step, level-turn, entry-stops, entry-plain, entry-nested, turn-over, turn-entry, turn-lead}
-use Rattle.walk.specs.WalkLoops.{EntryWritten, entry-starts, field-inside, rank-low, repeat-room, entry-adds-plain, inner-valid, nested-moves, entry-adds-nested, entry-stopped, GroupWritten, group-starts, entry-inside, entry-taken, group-adds-entry, lead-taken, lead-inside, delim-room, group-adds-lead, group-ended, walk-outside, walk-too-deep, begun-room}
+use Rattle.walk.specs.WalkLoops.{EntryWritten, entry-starts, field-inside, rank-low, repeat-room, entry-adds-plain, inner-valid, nested-moves, entry-adds-nested, entry-stopped, GroupWritten, group-starts, entry-opens, lead-opens, one-opens, group-ended, walk-outside, walk-too-deep, begun-room}
 use borrow.Author.Needs.{needs}
 use Prim.Native.Nat.{ℕ, _<_}
 use borrow.Fn.Kinds.{In}
@@ -139,13 +139,13 @@ scan-entry-enum-told t c = search needs
 scan-entry-enum-known-rank : (t : ℕ) → scan-entry-lts.Need-enum-known-rank (scan-entry-claims t) (scan-entry-at t) scan-entry.Post scan-entry-Inv-loop scan-entry-μ-loop
 scan-entry-enum-known-rank t c = search needs
 
--- let inserted = seen.insert_rank(rank);
+-- let inserted = seen.insert_rank(rank, members.len());
 scan-entry-insert-rank-requires : (t : ℕ) → scan-entry-lts.Need-insert-rank-requires (scan-entry-claims t) (scan-entry-at t) scan-entry.Post scan-entry-Inv-loop scan-entry-μ-loop
-scan-entry-insert-rank-requires t c κs = omega (arith, rank-low (c .before .before .before .before .before .before .before .before .before .before .before .before .before .before .before .args .words .now) (c .before .before .before .before .before .before .before .before .before .before .before .before .before .before .before .args .fields .now) (c .before .before .before .before .before .before .before .before .before .before .before .before .before .before .before .args .message .now) (c .before .before .before .before .before .before .before .before .before .before .before .before .before .before .before .pre .1 .lent .passed) (c .before .before .before .before .before .before .before .before .before .before .before .before .before .before .before .args .group) (c .before .before .before .before .before .before .before .before .before .before .before .before .before .before .before .pre .1 .lent .valid) (c .before .before .before .before .before .before .before .before .before .before .before .before .before .before .before .args .start) (c .before .before .before .before .before .before .before .before .before .before .before .before .before .before .before .args .depth) (c .before .before .before .before .before .before .before .before .before .before .before .before .before .before .before .args .events .now) (c .before .before .before .before .before .before .before .before .before .before .before .before .before .before .before .args .at) 8 _ _ (c .before .before .before .before .loop .cursor) _ _ (c .before .before .before .before .loop .inv) _ _ (entry-plain (c .before .before .before .before .before .before .before .before .before .before .before .before .before .before .before .args .words .now) (c .before .before .before .before .before .before .before .before .before .before .before .before .before .before .before .args .fields .now) (c .before .before .before .before .before .before .before .before .before .before .before .before .before .before .before .args .message .now) (c .before .before .before .before .before .before .before .before .before .before .before .before .before .before .before .args .group) (c .before .before .before .before .before .before .before .before .before .before .before .before .before .before .before .args .start) (c .before .before .before .before .loop .cursor) _ (level-step (c .before .before .before .before .before .before .before .before .before .before .before .before .before .before .before .args .words .now) (c .before .before .before .before .before .before .before .before .before .before .before .before .before .before .before .args .group) _ _ _ _ (c .before .before .before .before .before .before .before .before .members-at .ensures) (c .before .before .before .before .before .before .before .before .before .delimiter-at .ensures) (c .before .before .before .before .before .before .before .count-tags-at .ensures) (c .before .before .before .before .before .before .first-group-of .ensures) (c .before .before .before .before .before .before .before .before .before .before .before .before .before .before .before .args .fields .now) (c .before .before .before .before .before .before .before .before .before .before .before .before .before .before .before .args .start) (c .before .before .before .before .loop .cursor) _ (c .before .before .before .step-at .ensures)) _ _ (c .before .rank .given .1) .0), c .before .before .before .before .before .before .before .before .before .before .before .before .before .before .before .pre .1 .few-members)
+scan-entry-insert-rank-requires t c κs = omega (arith, rank-low (c .before .before .before .before .before .before .before .before .before .before .before .before .before .before .before .args .words .now) (c .before .before .before .before .before .before .before .before .before .before .before .before .before .before .before .args .fields .now) (c .before .before .before .before .before .before .before .before .before .before .before .before .before .before .before .args .message .now) (c .before .before .before .before .before .before .before .before .before .before .before .before .before .before .before .pre .1 .lent .passed) (c .before .before .before .before .before .before .before .before .before .before .before .before .before .before .before .args .group) (c .before .before .before .before .before .before .before .before .before .before .before .before .before .before .before .pre .1 .lent .valid) (c .before .before .before .before .before .before .before .before .before .before .before .before .before .before .before .args .start) (c .before .before .before .before .before .before .before .before .before .before .before .before .before .before .before .args .depth) (c .before .before .before .before .before .before .before .before .before .before .before .before .before .before .before .args .events .now) (c .before .before .before .before .before .before .before .before .before .before .before .before .before .before .before .args .at) 8 _ _ (c .before .before .before .before .loop .cursor) _ _ (c .before .before .before .before .loop .inv) _ _ (entry-plain (c .before .before .before .before .before .before .before .before .before .before .before .before .before .before .before .args .words .now) (c .before .before .before .before .before .before .before .before .before .before .before .before .before .before .before .args .fields .now) (c .before .before .before .before .before .before .before .before .before .before .before .before .before .before .before .args .message .now) (c .before .before .before .before .before .before .before .before .before .before .before .before .before .before .before .args .group) (c .before .before .before .before .before .before .before .before .before .before .before .before .before .before .before .args .start) (c .before .before .before .before .loop .cursor) _ (level-step (c .before .before .before .before .before .before .before .before .before .before .before .before .before .before .before .args .words .now) (c .before .before .before .before .before .before .before .before .before .before .before .before .before .before .before .args .group) _ _ _ _ (c .before .before .before .before .before .before .before .before .members-at .ensures) (c .before .before .before .before .before .before .before .before .before .delimiter-at .ensures) (c .before .before .before .before .before .before .before .count-tags-at .ensures) (c .before .before .before .before .before .before .first-group-of .ensures) (c .before .before .before .before .before .before .before .before .before .before .before .before .before .before .before .args .fields .now) (c .before .before .before .before .before .before .before .before .before .before .before .before .before .before .before .args .start) (c .before .before .before .before .loop .cursor) _ (c .before .before .before .step-at .ensures)) _ _ (c .before .rank .given .1) .0), level-length (c .before .before .before .before .before .before .before .before .before .before .before .before .before .before .before .args .words .now) (1 + c .before .before .before .before .before .before .before .before .before .before .before .before .before .before .before .args .group) _ (c .before .before .before .before .before .before .before .before .members-at .ensures), c .before .before .before .before .before .before .before .before .before .before .before .before .before .before .before .pre .1 .few-members)
 
 -- to = put_repeat(events, to, tag, depth, member, inserted.fresh);
 scan-entry-put-repeat-requires : (t : ℕ) → scan-entry-lts.Need-put-repeat-requires (scan-entry-claims t) (scan-entry-at t) scan-entry.Post scan-entry-Inv-loop scan-entry-μ-loop
-scan-entry-put-repeat-requires t c κs = omega (arith, c .before .before .before .before .before .before .loop .inv .room, c .before .before .before .before .before .before .loop .inv .within, c .before .before .before .before .before .before .before .before .before .before .before .before .before .before .before .before .before .pre .1 .room, c .before .before .before .before .before .before .before .before .before .before .before .before .before .before .before .before .before .pre .1 .lent .table .few)
+scan-entry-put-repeat-requires t c κs = omega (arith, c .before .before .before .before .before .before .before .loop .inv .room, c .before .before .before .before .before .before .before .loop .inv .within, c .before .before .before .before .before .before .before .before .before .before .before .before .before .before .before .before .before .before .pre .1 .room, c .before .before .before .before .before .before .before .before .before .before .before .before .before .before .before .before .before .before .pre .1 .lent .table .few)
 
 -- unparseable = spoilt_by(unparseable, inserted.fresh);
 scan-entry-spoilt-by-requires : (t : ℕ) → scan-entry-lts.Need-spoilt-by-requires (scan-entry-claims t) (scan-entry-at t) scan-entry.Post scan-entry-Inv-loop scan-entry-μ-loop
@@ -160,19 +160,19 @@ scan-entry-loop-less : (t : ℕ) → scan-entry-lts.Need-loop-less (scan-entry-c
 scan-entry-loop-less t c = omega (arith, field-inside (c .before .before .before .before .before .before .before .before .before .before .before .before .before .before .before .before .before .before .before .before .before .before .args .words .now) (c .before .before .before .before .before .before .before .before .before .before .before .before .before .before .before .before .before .before .before .before .before .before .args .fields .now) (c .before .before .before .before .before .before .before .before .before .before .before .before .before .before .before .before .before .before .before .before .before .before .args .message .now) (c .before .before .before .before .before .before .before .before .before .before .before .before .before .before .before .before .before .before .before .before .before .before .pre .1 .lent .passed) (c .before .before .before .before .before .before .before .before .before .before .before .before .before .before .before .before .before .before .before .before .before .before .args .group) (c .before .before .before .before .before .before .before .before .before .before .before .before .before .before .before .before .before .before .before .before .before .before .pre .1 .lent .valid) (c .before .before .before .before .before .before .before .before .before .before .before .before .before .before .before .before .before .before .before .before .before .before .args .start) (c .before .before .before .before .before .before .before .before .before .before .before .before .before .before .before .before .before .before .before .before .before .before .args .depth) (c .before .before .before .before .before .before .before .before .before .before .before .before .before .before .before .before .before .before .before .before .before .before .args .events .now) (c .before .before .before .before .before .before .before .before .before .before .before .before .before .before .before .before .before .before .before .before .before .before .args .at) 8 _ _ (c .before .before .before .before .before .before .before .before .before .before .before .loop .cursor) _ _ (c .before .before .before .before .before .before .before .before .before .before .before .loop .inv) _ _ (entry-plain (c .before .before .before .before .before .before .before .before .before .before .before .before .before .before .before .before .before .before .before .before .before .before .args .words .now) (c .before .before .before .before .before .before .before .before .before .before .before .before .before .before .before .before .before .before .before .before .before .before .args .fields .now) (c .before .before .before .before .before .before .before .before .before .before .before .before .before .before .before .before .before .before .before .before .before .before .args .message .now) (c .before .before .before .before .before .before .before .before .before .before .before .before .before .before .before .before .before .before .before .before .before .before .args .group) (c .before .before .before .before .before .before .before .before .before .before .before .before .before .before .before .before .before .before .before .before .before .before .args .start) (c .before .before .before .before .before .before .before .before .before .before .before .loop .cursor) _ (level-step (c .before .before .before .before .before .before .before .before .before .before .before .before .before .before .before .before .before .before .before .before .before .before .args .words .now) (c .before .before .before .before .before .before .before .before .before .before .before .before .before .before .before .before .before .before .before .before .before .before .args .group) _ _ _ _ (c .before .before .before .before .before .before .before .before .before .before .before .before .before .before .before .members-at .ensures) (c .before .before .before .before .before .before .before .before .before .before .before .before .before .before .before .before .delimiter-at .ensures) (c .before .before .before .before .before .before .before .before .before .before .before .before .before .before .count-tags-at .ensures) (c .before .before .before .before .before .before .before .before .before .before .before .before .before .first-group-of .ensures) (c .before .before .before .before .before .before .before .before .before .before .before .before .before .before .before .before .before .before .before .before .before .before .args .fields .now) (c .before .before .before .before .before .before .before .before .before .before .before .before .before .before .before .before .before .before .before .before .before .before .args .start) (c .before .before .before .before .before .before .before .before .before .before .before .loop .cursor) _ (c .before .before .before .before .before .before .before .before .before .before .step-at .ensures)) _ _ (c .before .before .before .before .before .before .before .before .rank .given .1) .0))
 
 scan-entry-loop-again : (t : ℕ) → scan-entry-lts.Need-loop-again (scan-entry-claims t) (scan-entry-at t) scan-entry.Post scan-entry-Inv-loop scan-entry-μ-loop
-scan-entry-loop-again t c = entry-adds-plain (c .before .before .before .before .before .before .before .before .before .before .before .before .before .before .before .before .before .before .before .before .before .before .args .words .now) (c .before .before .before .before .before .before .before .before .before .before .before .before .before .before .before .before .before .before .before .before .before .before .args .fields .now) (c .before .before .before .before .before .before .before .before .before .before .before .before .before .before .before .before .before .before .before .before .before .before .args .message .now) (c .before .before .before .before .before .before .before .before .before .before .before .before .before .before .before .before .before .before .before .before .before .before .pre .1 .lent .passed) (c .before .before .before .before .before .before .before .before .before .before .before .before .before .before .before .before .before .before .before .before .before .before .args .group) (c .before .before .before .before .before .before .before .before .before .before .before .before .before .before .before .before .before .before .before .before .before .before .pre .1 .lent .valid) (c .before .before .before .before .before .before .before .before .before .before .before .before .before .before .before .before .before .before .before .before .before .before .args .start) (c .before .before .before .before .before .before .before .before .before .before .before .before .before .before .before .before .before .before .before .before .before .before .args .depth) (c .before .before .before .before .before .before .before .before .before .before .before .before .before .before .before .before .before .before .before .before .before .before .args .events .now) (c .before .before .before .before .before .before .before .before .before .before .before .before .before .before .before .before .before .before .before .before .before .before .args .at) 8 _ _ (c .before .before .before .before .before .before .before .before .before .before .before .loop .cursor) _ _ (c .before .before .before .before .before .before .before .before .before .before .before .loop .inv) _ _ (entry-plain (c .before .before .before .before .before .before .before .before .before .before .before .before .before .before .before .before .before .before .before .before .before .before .args .words .now) (c .before .before .before .before .before .before .before .before .before .before .before .before .before .before .before .before .before .before .before .before .before .before .args .fields .now) (c .before .before .before .before .before .before .before .before .before .before .before .before .before .before .before .before .before .before .before .before .before .before .args .message .now) (c .before .before .before .before .before .before .before .before .before .before .before .before .before .before .before .before .before .before .before .before .before .before .args .group) (c .before .before .before .before .before .before .before .before .before .before .before .before .before .before .before .before .before .before .before .before .before .before .args .start) (c .before .before .before .before .before .before .before .before .before .before .before .loop .cursor) _ (level-step (c .before .before .before .before .before .before .before .before .before .before .before .before .before .before .before .before .before .before .before .before .before .before .args .words .now) (c .before .before .before .before .before .before .before .before .before .before .before .before .before .before .before .before .before .before .before .before .before .before .args .group) _ _ _ _ (c .before .before .before .before .before .before .before .before .before .before .before .before .before .before .before .members-at .ensures) (c .before .before .before .before .before .before .before .before .before .before .before .before .before .before .before .before .delimiter-at .ensures) (c .before .before .before .before .before .before .before .before .before .before .before .before .before .before .count-tags-at .ensures) (c .before .before .before .before .before .before .before .before .before .before .before .before .before .first-group-of .ensures) (c .before .before .before .before .before .before .before .before .before .before .before .before .before .before .before .before .before .before .before .before .before .before .args .fields .now) (c .before .before .before .before .before .before .before .before .before .before .before .before .before .before .before .before .before .before .before .before .before .before .args .start) (c .before .before .before .before .before .before .before .before .before .before .before .loop .cursor) _ (c .before .before .before .before .before .before .before .before .before .before .step-at .ensures)) _ _ (c .before .before .before .before .before .before .before .before .rank .given .1) .0) _ _ (c .before .before .before .before .before .before .insert-rank .ensures .0) (c .before .before .before .before .before .before .insert-rank .ensures .1) _ (c .before .before .before .before .before .before .before .before .before .before .before .before .before .before .before .before .before .count-tag-at .ensures) _ _ (c .before .before .before .before .put-repeat .ensures) _ (c .before .spoilt-by .ensures) (entry-plain (c .before .before .before .before .before .before .before .before .before .before .before .before .before .before .before .before .before .before .before .before .before .before .args .words .now) (c .before .before .before .before .before .before .before .before .before .before .before .before .before .before .before .before .before .before .before .before .before .before .args .fields .now) (c .before .before .before .before .before .before .before .before .before .before .before .before .before .before .before .before .before .before .before .before .before .before .args .message .now) (c .before .before .before .before .before .before .before .before .before .before .before .before .before .before .before .before .before .before .before .before .before .before .args .group) (c .before .before .before .before .before .before .before .before .before .before .before .before .before .before .before .before .before .before .before .before .before .before .args .start) (c .before .before .before .before .before .before .before .before .before .before .before .loop .cursor) _ (level-step (c .before .before .before .before .before .before .before .before .before .before .before .before .before .before .before .before .before .before .before .before .before .before .args .words .now) (c .before .before .before .before .before .before .before .before .before .before .before .before .before .before .before .before .before .before .before .before .before .before .args .group) _ _ _ _ (c .before .before .before .before .before .before .before .before .before .before .before .before .before .before .before .members-at .ensures) (c .before .before .before .before .before .before .before .before .before .before .before .before .before .before .before .before .delimiter-at .ensures) (c .before .before .before .before .before .before .before .before .before .before .before .before .before .before .count-tags-at .ensures) (c .before .before .before .before .before .before .before .before .before .before .before .before .before .first-group-of .ensures) (c .before .before .before .before .before .before .before .before .before .before .before .before .before .before .before .before .before .before .before .before .before .before .args .fields .now) (c .before .before .before .before .before .before .before .before .before .before .before .before .before .before .before .before .before .before .before .before .before .before .args .start) (c .before .before .before .before .before .before .before .before .before .before .before .loop .cursor) _ (c .before .before .before .before .before .before .before .before .before .before .step-at .ensures)) _ _ (c .before .before .before .before .before .before .before .before .rank .given .1) .1)
+scan-entry-loop-again t c = entry-adds-plain (c .before .before .before .before .before .before .before .before .before .before .before .before .before .before .before .before .before .before .before .before .before .before .args .words .now) (c .before .before .before .before .before .before .before .before .before .before .before .before .before .before .before .before .before .before .before .before .before .before .args .fields .now) (c .before .before .before .before .before .before .before .before .before .before .before .before .before .before .before .before .before .before .before .before .before .before .args .message .now) (c .before .before .before .before .before .before .before .before .before .before .before .before .before .before .before .before .before .before .before .before .before .before .pre .1 .lent .passed) (c .before .before .before .before .before .before .before .before .before .before .before .before .before .before .before .before .before .before .before .before .before .before .args .group) (c .before .before .before .before .before .before .before .before .before .before .before .before .before .before .before .before .before .before .before .before .before .before .pre .1 .lent .valid) (c .before .before .before .before .before .before .before .before .before .before .before .before .before .before .before .before .before .before .before .before .before .before .args .start) (c .before .before .before .before .before .before .before .before .before .before .before .before .before .before .before .before .before .before .before .before .before .before .args .depth) (c .before .before .before .before .before .before .before .before .before .before .before .before .before .before .before .before .before .before .before .before .before .before .args .events .now) (c .before .before .before .before .before .before .before .before .before .before .before .before .before .before .before .before .before .before .before .before .before .before .args .at) 8 _ _ (c .before .before .before .before .before .before .before .before .before .before .before .loop .cursor) _ _ (c .before .before .before .before .before .before .before .before .before .before .before .loop .inv) _ _ (entry-plain (c .before .before .before .before .before .before .before .before .before .before .before .before .before .before .before .before .before .before .before .before .before .before .args .words .now) (c .before .before .before .before .before .before .before .before .before .before .before .before .before .before .before .before .before .before .before .before .before .before .args .fields .now) (c .before .before .before .before .before .before .before .before .before .before .before .before .before .before .before .before .before .before .before .before .before .before .args .message .now) (c .before .before .before .before .before .before .before .before .before .before .before .before .before .before .before .before .before .before .before .before .before .before .args .group) (c .before .before .before .before .before .before .before .before .before .before .before .before .before .before .before .before .before .before .before .before .before .before .args .start) (c .before .before .before .before .before .before .before .before .before .before .before .loop .cursor) _ (level-step (c .before .before .before .before .before .before .before .before .before .before .before .before .before .before .before .before .before .before .before .before .before .before .args .words .now) (c .before .before .before .before .before .before .before .before .before .before .before .before .before .before .before .before .before .before .before .before .before .before .args .group) _ _ _ _ (c .before .before .before .before .before .before .before .before .before .before .before .before .before .before .before .members-at .ensures) (c .before .before .before .before .before .before .before .before .before .before .before .before .before .before .before .before .delimiter-at .ensures) (c .before .before .before .before .before .before .before .before .before .before .before .before .before .before .count-tags-at .ensures) (c .before .before .before .before .before .before .before .before .before .before .before .before .before .first-group-of .ensures) (c .before .before .before .before .before .before .before .before .before .before .before .before .before .before .before .before .before .before .before .before .before .before .args .fields .now) (c .before .before .before .before .before .before .before .before .before .before .before .before .before .before .before .before .before .before .before .before .before .before .args .start) (c .before .before .before .before .before .before .before .before .before .before .before .loop .cursor) _ (c .before .before .before .before .before .before .before .before .before .before .step-at .ensures)) _ _ (c .before .before .before .before .before .before .before .before .rank .given .1) .0) _ _ (c .before .before .before .before .before .before .insert-rank .ensures .0) (c .before .before .before .before .before .before .insert-rank .ensures .1) _ (c .before .before .before .before .before .before .before .before .before .before .before .before .before .before .before .before .before .count-tag-at .ensures) _ _ (c .before .before .before .put-repeat .ensures) _ (c .spoilt-by .ensures) (entry-plain (c .before .before .before .before .before .before .before .before .before .before .before .before .before .before .before .before .before .before .before .before .before .before .args .words .now) (c .before .before .before .before .before .before .before .before .before .before .before .before .before .before .before .before .before .before .before .before .before .before .args .fields .now) (c .before .before .before .before .before .before .before .before .before .before .before .before .before .before .before .before .before .before .before .before .before .before .args .message .now) (c .before .before .before .before .before .before .before .before .before .before .before .before .before .before .before .before .before .before .before .before .before .before .args .group) (c .before .before .before .before .before .before .before .before .before .before .before .before .before .before .before .before .before .before .before .before .before .before .args .start) (c .before .before .before .before .before .before .before .before .before .before .before .loop .cursor) _ (level-step (c .before .before .before .before .before .before .before .before .before .before .before .before .before .before .before .before .before .before .before .before .before .before .args .words .now) (c .before .before .before .before .before .before .before .before .before .before .before .before .before .before .before .before .before .before .before .before .before .before .args .group) _ _ _ _ (c .before .before .before .before .before .before .before .before .before .before .before .before .before .before .before .members-at .ensures) (c .before .before .before .before .before .before .before .before .before .before .before .before .before .before .before .before .delimiter-at .ensures) (c .before .before .before .before .before .before .before .before .before .before .before .before .before .before .count-tags-at .ensures) (c .before .before .before .before .before .before .before .before .before .before .before .before .before .first-group-of .ensures) (c .before .before .before .before .before .before .before .before .before .before .before .before .before .before .before .before .before .before .before .before .before .before .args .fields .now) (c .before .before .before .before .before .before .before .before .before .before .before .before .before .before .before .before .before .before .before .before .before .before .args .start) (c .before .before .before .before .before .before .before .before .before .before .before .loop .cursor) _ (c .before .before .before .before .before .before .before .before .before .before .step-at .ensures)) _ _ (c .before .before .before .before .before .before .before .before .rank .given .1) .1)
 
 -- EntryStep::Nested(rank, member, inner) => {
 scan-entry-enum-known-rank-2 : (t : ℕ) → scan-entry-lts.Need-enum-known-rank-2 (scan-entry-claims t) (scan-entry-at t) scan-entry.Post scan-entry-Inv-loop scan-entry-μ-loop
 scan-entry-enum-known-rank-2 t c = search needs
 
--- let inserted = seen.insert_rank(rank);
+-- let inserted = seen.insert_rank(rank, members.len());
 scan-entry-insert-rank-requires-2 : (t : ℕ) → scan-entry-lts.Need-insert-rank-requires-2 (scan-entry-claims t) (scan-entry-at t) scan-entry.Post scan-entry-Inv-loop scan-entry-μ-loop
-scan-entry-insert-rank-requires-2 t c κs = omega (arith, rank-low (c .before .before .before .before .before .before .before .before .before .before .before .before .before .before .before .args .words .now) (c .before .before .before .before .before .before .before .before .before .before .before .before .before .before .before .args .fields .now) (c .before .before .before .before .before .before .before .before .before .before .before .before .before .before .before .args .message .now) (c .before .before .before .before .before .before .before .before .before .before .before .before .before .before .before .pre .1 .lent .passed) (c .before .before .before .before .before .before .before .before .before .before .before .before .before .before .before .args .group) (c .before .before .before .before .before .before .before .before .before .before .before .before .before .before .before .pre .1 .lent .valid) (c .before .before .before .before .before .before .before .before .before .before .before .before .before .before .before .args .start) (c .before .before .before .before .before .before .before .before .before .before .before .before .before .before .before .args .depth) (c .before .before .before .before .before .before .before .before .before .before .before .before .before .before .before .args .events .now) (c .before .before .before .before .before .before .before .before .before .before .before .before .before .before .before .args .at) 8 _ _ (c .before .before .before .before .loop .cursor) _ _ (c .before .before .before .before .loop .inv) _ _ (entry-nested (c .before .before .before .before .before .before .before .before .before .before .before .before .before .before .before .args .words .now) (c .before .before .before .before .before .before .before .before .before .before .before .before .before .before .before .args .fields .now) (c .before .before .before .before .before .before .before .before .before .before .before .before .before .before .before .args .message .now) (c .before .before .before .before .before .before .before .before .before .before .before .before .before .before .before .args .group) (c .before .before .before .before .before .before .before .before .before .before .before .before .before .before .before .args .start) (c .before .before .before .before .loop .cursor) _ (level-step (c .before .before .before .before .before .before .before .before .before .before .before .before .before .before .before .args .words .now) (c .before .before .before .before .before .before .before .before .before .before .before .before .before .before .before .args .group) _ _ _ _ (c .before .before .before .before .before .before .before .before .members-at .ensures) (c .before .before .before .before .before .before .before .before .before .delimiter-at .ensures) (c .before .before .before .before .before .before .before .count-tags-at .ensures) (c .before .before .before .before .before .before .first-group-of .ensures) (c .before .before .before .before .before .before .before .before .before .before .before .before .before .before .before .args .fields .now) (c .before .before .before .before .before .before .before .before .before .before .before .before .before .before .before .args .start) (c .before .before .before .before .loop .cursor) _ (c .before .before .before .step-at .ensures)) _ _ _ (c .before .rank2 .given .1) .0), c .before .before .before .before .before .before .before .before .before .before .before .before .before .before .before .pre .1 .few-members)
+scan-entry-insert-rank-requires-2 t c κs = omega (arith, rank-low (c .before .before .before .before .before .before .before .before .before .before .before .before .before .before .before .args .words .now) (c .before .before .before .before .before .before .before .before .before .before .before .before .before .before .before .args .fields .now) (c .before .before .before .before .before .before .before .before .before .before .before .before .before .before .before .args .message .now) (c .before .before .before .before .before .before .before .before .before .before .before .before .before .before .before .pre .1 .lent .passed) (c .before .before .before .before .before .before .before .before .before .before .before .before .before .before .before .args .group) (c .before .before .before .before .before .before .before .before .before .before .before .before .before .before .before .pre .1 .lent .valid) (c .before .before .before .before .before .before .before .before .before .before .before .before .before .before .before .args .start) (c .before .before .before .before .before .before .before .before .before .before .before .before .before .before .before .args .depth) (c .before .before .before .before .before .before .before .before .before .before .before .before .before .before .before .args .events .now) (c .before .before .before .before .before .before .before .before .before .before .before .before .before .before .before .args .at) 8 _ _ (c .before .before .before .before .loop .cursor) _ _ (c .before .before .before .before .loop .inv) _ _ (entry-nested (c .before .before .before .before .before .before .before .before .before .before .before .before .before .before .before .args .words .now) (c .before .before .before .before .before .before .before .before .before .before .before .before .before .before .before .args .fields .now) (c .before .before .before .before .before .before .before .before .before .before .before .before .before .before .before .args .message .now) (c .before .before .before .before .before .before .before .before .before .before .before .before .before .before .before .args .group) (c .before .before .before .before .before .before .before .before .before .before .before .before .before .before .before .args .start) (c .before .before .before .before .loop .cursor) _ (level-step (c .before .before .before .before .before .before .before .before .before .before .before .before .before .before .before .args .words .now) (c .before .before .before .before .before .before .before .before .before .before .before .before .before .before .before .args .group) _ _ _ _ (c .before .before .before .before .before .before .before .before .members-at .ensures) (c .before .before .before .before .before .before .before .before .before .delimiter-at .ensures) (c .before .before .before .before .before .before .before .count-tags-at .ensures) (c .before .before .before .before .before .before .first-group-of .ensures) (c .before .before .before .before .before .before .before .before .before .before .before .before .before .before .before .args .fields .now) (c .before .before .before .before .before .before .before .before .before .before .before .before .before .before .before .args .start) (c .before .before .before .before .loop .cursor) _ (c .before .before .before .step-at .ensures)) _ _ _ (c .before .rank2 .given .1) .0), level-length (c .before .before .before .before .before .before .before .before .before .before .before .before .before .before .before .args .words .now) (1 + c .before .before .before .before .before .before .before .before .before .before .before .before .before .before .before .args .group) _ (c .before .before .before .before .before .before .before .before .members-at .ensures), c .before .before .before .before .before .before .before .before .before .before .before .before .before .before .before .pre .1 .few-members)
 
 -- to = put_repeat(events, to, tag, depth, member, inserted.fresh);
 scan-entry-put-repeat-requires-2 : (t : ℕ) → scan-entry-lts.Need-put-repeat-requires-2 (scan-entry-claims t) (scan-entry-at t) scan-entry.Post scan-entry-Inv-loop scan-entry-μ-loop
-scan-entry-put-repeat-requires-2 t c κs = omega (arith, c .before .before .before .before .before .before .loop .inv .room, c .before .before .before .before .before .before .loop .inv .within, c .before .before .before .before .before .before .before .before .before .before .before .before .before .before .before .before .before .pre .1 .room, c .before .before .before .before .before .before .before .before .before .before .before .before .before .before .before .before .before .pre .1 .lent .table .few)
+scan-entry-put-repeat-requires-2 t c κs = omega (arith, c .before .before .before .before .before .before .before .loop .inv .room, c .before .before .before .before .before .before .before .loop .inv .within, c .before .before .before .before .before .before .before .before .before .before .before .before .before .before .before .before .before .before .pre .1 .room, c .before .before .before .before .before .before .before .before .before .before .before .before .before .before .before .before .before .before .pre .1 .lent .table .few)
 
 -- unparseable = spoilt_by(unparseable, inserted.fresh);
 scan-entry-spoilt-by-requires-2 : (t : ℕ) → scan-entry-lts.Need-spoilt-by-requires-2 (scan-entry-claims t) (scan-entry-at t) scan-entry.Post scan-entry-Inv-loop scan-entry-μ-loop
@@ -186,13 +186,13 @@ scan-entry-add-below t c = omega (arith, c .before .before .before .before .befo
 scan-entry-walk-group-requires : (t : ℕ) → scan-entry-lts.Need-walk-group-requires (scan-entry-claims t) (scan-entry-at t) scan-entry.Post scan-entry-Inv-loop scan-entry-μ-loop
 scan-entry-walk-group-requires t c κs =
     let inside = field-inside (c .before .before .before .before .before .before .before .before .before .before .before .before .before .before .before .before .before .before .before .before .before .before .before .args .words .now) (c .before .before .before .before .before .before .before .before .before .before .before .before .before .before .before .before .before .before .before .before .before .before .before .args .fields .now) (c .before .before .before .before .before .before .before .before .before .before .before .before .before .before .before .before .before .before .before .before .before .before .before .args .message .now) (c .before .before .before .before .before .before .before .before .before .before .before .before .before .before .before .before .before .before .before .before .before .before .before .pre .1 .lent .passed) (c .before .before .before .before .before .before .before .before .before .before .before .before .before .before .before .before .before .before .before .before .before .before .before .args .group) (c .before .before .before .before .before .before .before .before .before .before .before .before .before .before .before .before .before .before .before .before .before .before .before .pre .1 .lent .valid) (c .before .before .before .before .before .before .before .before .before .before .before .before .before .before .before .before .before .before .before .before .before .before .before .args .start) (c .before .before .before .before .before .before .before .before .before .before .before .before .before .before .before .before .before .before .before .before .before .before .before .args .depth) (c .before .before .before .before .before .before .before .before .before .before .before .before .before .before .before .before .before .before .before .before .before .before .before .args .events .now) (c .before .before .before .before .before .before .before .before .before .before .before .before .before .before .before .before .before .before .before .before .before .before .before .args .at) 8 _ _ (c .before .before .before .before .before .before .before .before .before .before .before .before .loop .cursor) _ _ (c .before .before .before .before .before .before .before .before .before .before .before .before .loop .inv) _ _ (entry-nested (c .before .before .before .before .before .before .before .before .before .before .before .before .before .before .before .before .before .before .before .before .before .before .before .args .words .now) (c .before .before .before .before .before .before .before .before .before .before .before .before .before .before .before .before .before .before .before .before .before .before .before .args .fields .now) (c .before .before .before .before .before .before .before .before .before .before .before .before .before .before .before .before .before .before .before .before .before .before .before .args .message .now) (c .before .before .before .before .before .before .before .before .before .before .before .before .before .before .before .before .before .before .before .before .before .before .before .args .group) (c .before .before .before .before .before .before .before .before .before .before .before .before .before .before .before .before .before .before .before .before .before .before .before .args .start) (c .before .before .before .before .before .before .before .before .before .before .before .before .loop .cursor) _ (level-step (c .before .before .before .before .before .before .before .before .before .before .before .before .before .before .before .before .before .before .before .before .before .before .before .args .words .now) (c .before .before .before .before .before .before .before .before .before .before .before .before .before .before .before .before .before .before .before .before .before .before .before .args .group) _ _ _ _ (c .before .before .before .before .before .before .before .before .before .before .before .before .before .before .before .before .members-at .ensures) (c .before .before .before .before .before .before .before .before .before .before .before .before .before .before .before .before .before .delimiter-at .ensures) (c .before .before .before .before .before .before .before .before .before .before .before .before .before .before .before .count-tags-at .ensures) (c .before .before .before .before .before .before .before .before .before .before .before .before .before .before .first-group-of .ensures) (c .before .before .before .before .before .before .before .before .before .before .before .before .before .before .before .before .before .before .before .before .before .before .before .args .fields .now) (c .before .before .before .before .before .before .before .before .before .before .before .before .before .before .before .before .before .before .before .before .before .before .before .args .start) (c .before .before .before .before .before .before .before .before .before .before .before .before .loop .cursor) _ (c .before .before .before .before .before .before .before .before .before .before .before .step-at .ensures)) _ _ _ (c .before .before .before .before .before .before .before .before .before .rank2 .given .1) .0) in
-    let repeats = repeat-room (c .before .before .before .before .before .before .before .before .before .before .before .before .before .before .before .before .before .before .before .before .before .before .before .args .words .now) (c .before .before .before .before .before .before .before .before .before .before .before .before .before .before .before .before .before .before .before .before .before .before .before .args .fields .now) (c .before .before .before .before .before .before .before .before .before .before .before .before .before .before .before .before .before .before .before .before .before .before .before .args .message .now) (c .before .before .before .before .before .before .before .before .before .before .before .before .before .before .before .before .before .before .before .before .before .before .before .pre .1 .lent .passed) (c .before .before .before .before .before .before .before .before .before .before .before .before .before .before .before .before .before .before .before .before .before .before .before .args .group) (c .before .before .before .before .before .before .before .before .before .before .before .before .before .before .before .before .before .before .before .before .before .before .before .pre .1 .lent .valid) (c .before .before .before .before .before .before .before .before .before .before .before .before .before .before .before .before .before .before .before .before .before .before .before .args .start) (c .before .before .before .before .before .before .before .before .before .before .before .before .before .before .before .before .before .before .before .before .before .before .before .args .depth) (c .before .before .before .before .before .before .before .before .before .before .before .before .before .before .before .before .before .before .before .before .before .before .before .args .events .now) (c .before .before .before .before .before .before .before .before .before .before .before .before .before .before .before .before .before .before .before .before .before .before .before .args .at) 8 _ _ (c .before .before .before .before .before .before .before .before .before .before .before .before .loop .cursor) _ _ (c .before .before .before .before .before .before .before .before .before .before .before .before .loop .inv) _ _ (entry-nested (c .before .before .before .before .before .before .before .before .before .before .before .before .before .before .before .before .before .before .before .before .before .before .before .args .words .now) (c .before .before .before .before .before .before .before .before .before .before .before .before .before .before .before .before .before .before .before .before .before .before .before .args .fields .now) (c .before .before .before .before .before .before .before .before .before .before .before .before .before .before .before .before .before .before .before .before .before .before .before .args .message .now) (c .before .before .before .before .before .before .before .before .before .before .before .before .before .before .before .before .before .before .before .before .before .before .before .args .group) (c .before .before .before .before .before .before .before .before .before .before .before .before .before .before .before .before .before .before .before .before .before .before .before .args .start) (c .before .before .before .before .before .before .before .before .before .before .before .before .loop .cursor) _ (level-step (c .before .before .before .before .before .before .before .before .before .before .before .before .before .before .before .before .before .before .before .before .before .before .before .args .words .now) (c .before .before .before .before .before .before .before .before .before .before .before .before .before .before .before .before .before .before .before .before .before .before .before .args .group) _ _ _ _ (c .before .before .before .before .before .before .before .before .before .before .before .before .before .before .before .before .members-at .ensures) (c .before .before .before .before .before .before .before .before .before .before .before .before .before .before .before .before .before .delimiter-at .ensures) (c .before .before .before .before .before .before .before .before .before .before .before .before .before .before .before .count-tags-at .ensures) (c .before .before .before .before .before .before .before .before .before .before .before .before .before .before .first-group-of .ensures) (c .before .before .before .before .before .before .before .before .before .before .before .before .before .before .before .before .before .before .before .before .before .before .before .args .fields .now) (c .before .before .before .before .before .before .before .before .before .before .before .before .before .before .before .before .before .before .before .before .before .before .before .args .start) (c .before .before .before .before .before .before .before .before .before .before .before .before .loop .cursor) _ (c .before .before .before .before .before .before .before .before .before .before .before .step-at .ensures)) _ _ _ (c .before .before .before .before .before .before .before .before .before .rank2 .given .1) .0) _ _ (c .before .before .before .before .before .before .before .insert-rank2 .ensures .0) (c .before .before .before .before .before .before .before .insert-rank2 .ensures .1) _ (c .before .before .before .before .before .before .before .before .before .before .before .before .before .before .before .before .before .before .count-tag-at .ensures) _ _ (c .before .before .before .before .before .put-repeat2 .ensures) in (
+    let repeats = repeat-room (c .before .before .before .before .before .before .before .before .before .before .before .before .before .before .before .before .before .before .before .before .before .before .before .args .words .now) (c .before .before .before .before .before .before .before .before .before .before .before .before .before .before .before .before .before .before .before .before .before .before .before .args .fields .now) (c .before .before .before .before .before .before .before .before .before .before .before .before .before .before .before .before .before .before .before .before .before .before .before .args .message .now) (c .before .before .before .before .before .before .before .before .before .before .before .before .before .before .before .before .before .before .before .before .before .before .before .pre .1 .lent .passed) (c .before .before .before .before .before .before .before .before .before .before .before .before .before .before .before .before .before .before .before .before .before .before .before .args .group) (c .before .before .before .before .before .before .before .before .before .before .before .before .before .before .before .before .before .before .before .before .before .before .before .pre .1 .lent .valid) (c .before .before .before .before .before .before .before .before .before .before .before .before .before .before .before .before .before .before .before .before .before .before .before .args .start) (c .before .before .before .before .before .before .before .before .before .before .before .before .before .before .before .before .before .before .before .before .before .before .before .args .depth) (c .before .before .before .before .before .before .before .before .before .before .before .before .before .before .before .before .before .before .before .before .before .before .before .args .events .now) (c .before .before .before .before .before .before .before .before .before .before .before .before .before .before .before .before .before .before .before .before .before .before .before .args .at) 8 _ _ (c .before .before .before .before .before .before .before .before .before .before .before .before .loop .cursor) _ _ (c .before .before .before .before .before .before .before .before .before .before .before .before .loop .inv) _ _ (entry-nested (c .before .before .before .before .before .before .before .before .before .before .before .before .before .before .before .before .before .before .before .before .before .before .before .args .words .now) (c .before .before .before .before .before .before .before .before .before .before .before .before .before .before .before .before .before .before .before .before .before .before .before .args .fields .now) (c .before .before .before .before .before .before .before .before .before .before .before .before .before .before .before .before .before .before .before .before .before .before .before .args .message .now) (c .before .before .before .before .before .before .before .before .before .before .before .before .before .before .before .before .before .before .before .before .before .before .before .args .group) (c .before .before .before .before .before .before .before .before .before .before .before .before .before .before .before .before .before .before .before .before .before .before .before .args .start) (c .before .before .before .before .before .before .before .before .before .before .before .before .loop .cursor) _ (level-step (c .before .before .before .before .before .before .before .before .before .before .before .before .before .before .before .before .before .before .before .before .before .before .before .args .words .now) (c .before .before .before .before .before .before .before .before .before .before .before .before .before .before .before .before .before .before .before .before .before .before .before .args .group) _ _ _ _ (c .before .before .before .before .before .before .before .before .before .before .before .before .before .before .before .before .members-at .ensures) (c .before .before .before .before .before .before .before .before .before .before .before .before .before .before .before .before .before .delimiter-at .ensures) (c .before .before .before .before .before .before .before .before .before .before .before .before .before .before .before .count-tags-at .ensures) (c .before .before .before .before .before .before .before .before .before .before .before .before .before .before .first-group-of .ensures) (c .before .before .before .before .before .before .before .before .before .before .before .before .before .before .before .before .before .before .before .before .before .before .before .args .fields .now) (c .before .before .before .before .before .before .before .before .before .before .before .before .before .before .before .before .before .before .before .before .before .before .before .args .start) (c .before .before .before .before .before .before .before .before .before .before .before .before .loop .cursor) _ (c .before .before .before .before .before .before .before .before .before .before .before .step-at .ensures)) _ _ _ (c .before .before .before .before .before .before .before .before .before .rank2 .given .1) .0) _ _ (c .before .before .before .before .before .before .before .insert-rank2 .ensures .0) (c .before .before .before .before .before .before .before .insert-rank2 .ensures .1) _ (c .before .before .before .before .before .before .before .before .before .before .before .before .before .before .before .before .before .before .count-tag-at .ensures) _ _ (c .before .before .before .before .put-repeat2 .ensures) in (
       omega (arith, c .before .before .before .before .before .before .before .before .before .before .before .before .before .before .before .before .before .before .before .before .before .before .before .pre .0, inside, c .before .before .before .before .before .before .before .before .before .before .before .before .loop .inv .ahead, c .before .before .before .before .before .before .before .before .before .before .before .before .before .before .before .before .before .before .before .before .before .before .before .pre .1 .shallow),
       record {
         lent = record {
           passed = c .before .before .before .before .before .before .before .before .before .before .before .before .before .before .before .before .before .before .before .before .before .before .before .pre .1 .lent .passed;
           few-groups = c .before .before .before .before .before .before .before .before .before .before .before .before .before .before .before .before .before .before .before .before .before .before .before .pre .1 .lent .few-groups;
-          valid = inner-valid (c .before .before .before .before .before .before .before .before .before .before .before .before .before .before .before .before .before .before .before .before .before .before .before .args .words .now) (c .before .before .before .before .before .before .before .before .before .before .before .before .before .before .before .before .before .before .before .before .before .before .before .args .fields .now) (c .before .before .before .before .before .before .before .before .before .before .before .before .before .before .before .before .before .before .before .before .before .before .before .args .message .now) (c .before .before .before .before .before .before .before .before .before .before .before .before .before .before .before .before .before .before .before .before .before .before .before .pre .1 .lent .passed) (c .before .before .before .before .before .before .before .before .before .before .before .before .before .before .before .before .before .before .before .before .before .before .before .args .group) (c .before .before .before .before .before .before .before .before .before .before .before .before .before .before .before .before .before .before .before .before .before .before .before .pre .1 .lent .valid) (c .before .before .before .before .before .before .before .before .before .before .before .before .before .before .before .before .before .before .before .before .before .before .before .args .start) (c .before .before .before .before .before .before .before .before .before .before .before .before .before .before .before .before .before .before .before .before .before .before .before .args .depth) (c .before .before .before .before .before .before .before .before .before .before .before .before .before .before .before .before .before .before .before .before .before .before .before .args .events .now) (c .before .before .before .before .before .before .before .before .before .before .before .before .before .before .before .before .before .before .before .before .before .before .before .args .at) 8 _ _ (c .before .before .before .before .before .before .before .before .before .before .before .before .loop .cursor) _ _ (c .before .before .before .before .before .before .before .before .before .before .before .before .loop .inv) _ _ (entry-nested (c .before .before .before .before .before .before .before .before .before .before .before .before .before .before .before .before .before .before .before .before .before .before .before .args .words .now) (c .before .before .before .before .before .before .before .before .before .before .before .before .before .before .before .before .before .before .before .before .before .before .before .args .fields .now) (c .before .before .before .before .before .before .before .before .before .before .before .before .before .before .before .before .before .before .before .before .before .before .before .args .message .now) (c .before .before .before .before .before .before .before .before .before .before .before .before .before .before .before .before .before .before .before .before .before .before .before .args .group) (c .before .before .before .before .before .before .before .before .before .before .before .before .before .before .before .before .before .before .before .before .before .before .before .args .start) (c .before .before .before .before .before .before .before .before .before .before .before .before .loop .cursor) _ (level-step (c .before .before .before .before .before .before .before .before .before .before .before .before .before .before .before .before .before .before .before .before .before .before .before .args .words .now) (c .before .before .before .before .before .before .before .before .before .before .before .before .before .before .before .before .before .before .before .before .before .before .before .args .group) _ _ _ _ (c .before .before .before .before .before .before .before .before .before .before .before .before .before .before .before .before .members-at .ensures) (c .before .before .before .before .before .before .before .before .before .before .before .before .before .before .before .before .before .delimiter-at .ensures) (c .before .before .before .before .before .before .before .before .before .before .before .before .before .before .before .count-tags-at .ensures) (c .before .before .before .before .before .before .before .before .before .before .before .before .before .before .first-group-of .ensures) (c .before .before .before .before .before .before .before .before .before .before .before .before .before .before .before .before .before .before .before .before .before .before .before .args .fields .now) (c .before .before .before .before .before .before .before .before .before .before .before .before .before .before .before .before .before .before .before .before .before .before .before .args .start) (c .before .before .before .before .before .before .before .before .before .before .before .before .loop .cursor) _ (c .before .before .before .before .before .before .before .before .before .before .before .step-at .ensures)) _ _ _ (c .before .before .before .before .before .before .before .before .before .rank2 .given .1) .0) _ _ (c .before .before .before .before .before .before .before .insert-rank2 .ensures .0) (c .before .before .before .before .before .before .before .insert-rank2 .ensures .1) _ (c .before .before .before .before .before .before .before .before .before .before .before .before .before .before .before .before .before .before .count-tag-at .ensures) _ _ (c .before .before .before .before .before .put-repeat2 .ensures) _ (c .before .before .spoilt-by2 .ensures) _ (entry-nested (c .before .before .before .before .before .before .before .before .before .before .before .before .before .before .before .before .before .before .before .before .before .before .before .args .words .now) (c .before .before .before .before .before .before .before .before .before .before .before .before .before .before .before .before .before .before .before .before .before .before .before .args .fields .now) (c .before .before .before .before .before .before .before .before .before .before .before .before .before .before .before .before .before .before .before .before .before .before .before .args .message .now) (c .before .before .before .before .before .before .before .before .before .before .before .before .before .before .before .before .before .before .before .before .before .before .before .args .group) (c .before .before .before .before .before .before .before .before .before .before .before .before .before .before .before .before .before .before .before .before .before .before .before .args .start) (c .before .before .before .before .before .before .before .before .before .before .before .before .loop .cursor) _ (level-step (c .before .before .before .before .before .before .before .before .before .before .before .before .before .before .before .before .before .before .before .before .before .before .before .args .words .now) (c .before .before .before .before .before .before .before .before .before .before .before .before .before .before .before .before .before .before .before .before .before .before .before .args .group) _ _ _ _ (c .before .before .before .before .before .before .before .before .before .before .before .before .before .before .before .before .members-at .ensures) (c .before .before .before .before .before .before .before .before .before .before .before .before .before .before .before .before .before .delimiter-at .ensures) (c .before .before .before .before .before .before .before .before .before .before .before .before .before .before .before .count-tags-at .ensures) (c .before .before .before .before .before .before .before .before .before .before .before .before .before .before .first-group-of .ensures) (c .before .before .before .before .before .before .before .before .before .before .before .before .before .before .before .before .before .before .before .before .before .before .before .args .fields .now) (c .before .before .before .before .before .before .before .before .before .before .before .before .before .before .before .before .before .before .before .before .before .before .before .args .start) (c .before .before .before .before .before .before .before .before .before .before .before .before .loop .cursor) _ (c .before .before .before .before .before .before .before .before .before .before .before .step-at .ensures)) _ _ _ (c .before .before .before .before .before .before .before .before .before .rank2 .given .1) .1);
+          valid = inner-valid (c .before .before .before .before .before .before .before .before .before .before .before .before .before .before .before .before .before .before .before .before .before .before .before .args .words .now) (c .before .before .before .before .before .before .before .before .before .before .before .before .before .before .before .before .before .before .before .before .before .before .before .args .fields .now) (c .before .before .before .before .before .before .before .before .before .before .before .before .before .before .before .before .before .before .before .before .before .before .before .args .message .now) (c .before .before .before .before .before .before .before .before .before .before .before .before .before .before .before .before .before .before .before .before .before .before .before .pre .1 .lent .passed) (c .before .before .before .before .before .before .before .before .before .before .before .before .before .before .before .before .before .before .before .before .before .before .before .args .group) (c .before .before .before .before .before .before .before .before .before .before .before .before .before .before .before .before .before .before .before .before .before .before .before .pre .1 .lent .valid) (c .before .before .before .before .before .before .before .before .before .before .before .before .before .before .before .before .before .before .before .before .before .before .before .args .start) (c .before .before .before .before .before .before .before .before .before .before .before .before .before .before .before .before .before .before .before .before .before .before .before .args .depth) (c .before .before .before .before .before .before .before .before .before .before .before .before .before .before .before .before .before .before .before .before .before .before .before .args .events .now) (c .before .before .before .before .before .before .before .before .before .before .before .before .before .before .before .before .before .before .before .before .before .before .before .args .at) 8 _ _ (c .before .before .before .before .before .before .before .before .before .before .before .before .loop .cursor) _ _ (c .before .before .before .before .before .before .before .before .before .before .before .before .loop .inv) _ _ (entry-nested (c .before .before .before .before .before .before .before .before .before .before .before .before .before .before .before .before .before .before .before .before .before .before .before .args .words .now) (c .before .before .before .before .before .before .before .before .before .before .before .before .before .before .before .before .before .before .before .before .before .before .before .args .fields .now) (c .before .before .before .before .before .before .before .before .before .before .before .before .before .before .before .before .before .before .before .before .before .before .before .args .message .now) (c .before .before .before .before .before .before .before .before .before .before .before .before .before .before .before .before .before .before .before .before .before .before .before .args .group) (c .before .before .before .before .before .before .before .before .before .before .before .before .before .before .before .before .before .before .before .before .before .before .before .args .start) (c .before .before .before .before .before .before .before .before .before .before .before .before .loop .cursor) _ (level-step (c .before .before .before .before .before .before .before .before .before .before .before .before .before .before .before .before .before .before .before .before .before .before .before .args .words .now) (c .before .before .before .before .before .before .before .before .before .before .before .before .before .before .before .before .before .before .before .before .before .before .before .args .group) _ _ _ _ (c .before .before .before .before .before .before .before .before .before .before .before .before .before .before .before .before .members-at .ensures) (c .before .before .before .before .before .before .before .before .before .before .before .before .before .before .before .before .before .delimiter-at .ensures) (c .before .before .before .before .before .before .before .before .before .before .before .before .before .before .before .count-tags-at .ensures) (c .before .before .before .before .before .before .before .before .before .before .before .before .before .before .first-group-of .ensures) (c .before .before .before .before .before .before .before .before .before .before .before .before .before .before .before .before .before .before .before .before .before .before .before .args .fields .now) (c .before .before .before .before .before .before .before .before .before .before .before .before .before .before .before .before .before .before .before .before .before .before .before .args .start) (c .before .before .before .before .before .before .before .before .before .before .before .before .loop .cursor) _ (c .before .before .before .before .before .before .before .before .before .before .before .step-at .ensures)) _ _ _ (c .before .before .before .before .before .before .before .before .before .rank2 .given .1) .0) _ _ (c .before .before .before .before .before .before .before .insert-rank2 .ensures .0) (c .before .before .before .before .before .before .before .insert-rank2 .ensures .1) _ (c .before .before .before .before .before .before .before .before .before .before .before .before .before .before .before .before .before .before .count-tag-at .ensures) _ _ (c .before .before .before .before .put-repeat2 .ensures) _ (c .before .spoilt-by2 .ensures) _ (entry-nested (c .before .before .before .before .before .before .before .before .before .before .before .before .before .before .before .before .before .before .before .before .before .before .before .args .words .now) (c .before .before .before .before .before .before .before .before .before .before .before .before .before .before .before .before .before .before .before .before .before .before .before .args .fields .now) (c .before .before .before .before .before .before .before .before .before .before .before .before .before .before .before .before .before .before .before .before .before .before .before .args .message .now) (c .before .before .before .before .before .before .before .before .before .before .before .before .before .before .before .before .before .before .before .before .before .before .before .args .group) (c .before .before .before .before .before .before .before .before .before .before .before .before .before .before .before .before .before .before .before .before .before .before .before .args .start) (c .before .before .before .before .before .before .before .before .before .before .before .before .loop .cursor) _ (level-step (c .before .before .before .before .before .before .before .before .before .before .before .before .before .before .before .before .before .before .before .before .before .before .before .args .words .now) (c .before .before .before .before .before .before .before .before .before .before .before .before .before .before .before .before .before .before .before .before .before .before .before .args .group) _ _ _ _ (c .before .before .before .before .before .before .before .before .before .before .before .before .before .before .before .before .members-at .ensures) (c .before .before .before .before .before .before .before .before .before .before .before .before .before .before .before .before .before .delimiter-at .ensures) (c .before .before .before .before .before .before .before .before .before .before .before .before .before .before .before .count-tags-at .ensures) (c .before .before .before .before .before .before .before .before .before .before .before .before .before .before .first-group-of .ensures) (c .before .before .before .before .before .before .before .before .before .before .before .before .before .before .before .before .before .before .before .before .before .before .before .args .fields .now) (c .before .before .before .before .before .before .before .before .before .before .before .before .before .before .before .before .before .before .before .before .before .before .before .args .start) (c .before .before .before .before .before .before .before .before .before .before .before .before .loop .cursor) _ (c .before .before .before .before .before .before .before .before .before .before .before .step-at .ensures)) _ _ _ (c .before .before .before .before .before .before .before .before .before .rank2 .given .1) .1);
           table = c .before .before .before .before .before .before .before .before .before .before .before .before .before .before .before .before .before .before .before .before .before .before .before .pre .1 .lent .table;
         };
         around = level-ascends (c .before .before .before .before .before .before .before .before .before .before .before .before .before .before .before .before .before .before .before .before .before .before .before .args .words .now) (c .before .before .before .before .before .before .before .before .before .before .before .before .before .before .before .before .before .before .before .before .before .before .before .pre .1 .lent .passed) (c .before .before .before .before .before .before .before .before .before .before .before .before .before .before .before .before .before .before .before .before .before .before .before .args .group) (c .before .before .before .before .before .before .before .before .before .before .before .before .before .before .before .before .before .before .before .before .before .before .before .pre .1 .lent .valid) _ (c .before .before .before .before .before .before .before .before .before .before .before .before .before .before .before .before .members-at .ensures);
@@ -205,10 +205,10 @@ scan-entry-walk-group-requires t c κs =
 scan-entry-loop-less-2 : (t : ℕ) → scan-entry-lts.Need-loop-less-2 (scan-entry-claims t) (scan-entry-at t) scan-entry.Post scan-entry-Inv-loop scan-entry-μ-loop
 scan-entry-loop-less-2 t c =
     let inside = field-inside (c .before .before .before .before .before .before .before .before .before .before .before .before .before .before .before .before .before .before .before .before .before .before .before .before .before .before .args .words .now) (c .before .before .before .before .before .before .before .before .before .before .before .before .before .before .before .before .before .before .before .before .before .before .before .before .before .before .args .fields .now) (c .before .before .before .before .before .before .before .before .before .before .before .before .before .before .before .before .before .before .before .before .before .before .before .before .before .before .args .message .now) (c .before .before .before .before .before .before .before .before .before .before .before .before .before .before .before .before .before .before .before .before .before .before .before .before .before .before .pre .1 .lent .passed) (c .before .before .before .before .before .before .before .before .before .before .before .before .before .before .before .before .before .before .before .before .before .before .before .before .before .before .args .group) (c .before .before .before .before .before .before .before .before .before .before .before .before .before .before .before .before .before .before .before .before .before .before .before .before .before .before .pre .1 .lent .valid) (c .before .before .before .before .before .before .before .before .before .before .before .before .before .before .before .before .before .before .before .before .before .before .before .before .before .before .args .start) (c .before .before .before .before .before .before .before .before .before .before .before .before .before .before .before .before .before .before .before .before .before .before .before .before .before .before .args .depth) (c .before .before .before .before .before .before .before .before .before .before .before .before .before .before .before .before .before .before .before .before .before .before .before .before .before .before .args .events .now) (c .before .before .before .before .before .before .before .before .before .before .before .before .before .before .before .before .before .before .before .before .before .before .before .before .before .before .args .at) 8 _ _ (c .before .before .before .before .before .before .before .before .before .before .before .before .before .before .before .loop .cursor) _ _ (c .before .before .before .before .before .before .before .before .before .before .before .before .before .before .before .loop .inv) _ _ (entry-nested (c .before .before .before .before .before .before .before .before .before .before .before .before .before .before .before .before .before .before .before .before .before .before .before .before .before .before .args .words .now) (c .before .before .before .before .before .before .before .before .before .before .before .before .before .before .before .before .before .before .before .before .before .before .before .before .before .before .args .fields .now) (c .before .before .before .before .before .before .before .before .before .before .before .before .before .before .before .before .before .before .before .before .before .before .before .before .before .before .args .message .now) (c .before .before .before .before .before .before .before .before .before .before .before .before .before .before .before .before .before .before .before .before .before .before .before .before .before .before .args .group) (c .before .before .before .before .before .before .before .before .before .before .before .before .before .before .before .before .before .before .before .before .before .before .before .before .before .before .args .start) (c .before .before .before .before .before .before .before .before .before .before .before .before .before .before .before .loop .cursor) _ (level-step (c .before .before .before .before .before .before .before .before .before .before .before .before .before .before .before .before .before .before .before .before .before .before .before .before .before .before .args .words .now) (c .before .before .before .before .before .before .before .before .before .before .before .before .before .before .before .before .before .before .before .before .before .before .before .before .before .before .args .group) _ _ _ _ (c .before .before .before .before .before .before .before .before .before .before .before .before .before .before .before .before .before .before .before .members-at .ensures) (c .before .before .before .before .before .before .before .before .before .before .before .before .before .before .before .before .before .before .before .before .delimiter-at .ensures) (c .before .before .before .before .before .before .before .before .before .before .before .before .before .before .before .before .before .before .count-tags-at .ensures) (c .before .before .before .before .before .before .before .before .before .before .before .before .before .before .before .before .before .first-group-of .ensures) (c .before .before .before .before .before .before .before .before .before .before .before .before .before .before .before .before .before .before .before .before .before .before .before .before .before .before .args .fields .now) (c .before .before .before .before .before .before .before .before .before .before .before .before .before .before .before .before .before .before .before .before .before .before .before .before .before .before .args .start) (c .before .before .before .before .before .before .before .before .before .before .before .before .before .before .before .loop .cursor) _ (c .before .before .before .before .before .before .before .before .before .before .before .before .before .before .step-at .ensures)) _ _ _ (c .before .before .before .before .before .before .before .before .before .before .before .before .rank2 .given .1) .0) in
-    omega (arith, inside, nested-moves (c .before .before .before .before .before .before .before .before .before .before .before .before .before .before .before .before .before .before .before .before .before .before .before .before .before .before .args .words .now) (c .before .before .before .before .before .before .before .before .before .before .before .before .before .before .before .before .before .before .before .before .before .before .before .before .before .before .args .fields .now) (c .before .before .before .before .before .before .before .before .before .before .before .before .before .before .before .before .before .before .before .before .before .before .before .before .before .before .args .message .now) (c .before .before .before .before .before .before .before .before .before .before .before .before .before .before .before .before .before .before .before .before .before .before .before .before .before .before .pre .1 .lent .passed) (c .before .before .before .before .before .before .before .before .before .before .before .before .before .before .before .before .before .before .before .before .before .before .before .before .before .before .args .group) (c .before .before .before .before .before .before .before .before .before .before .before .before .before .before .before .before .before .before .before .before .before .before .before .before .before .before .pre .1 .lent .valid) (c .before .before .before .before .before .before .before .before .before .before .before .before .before .before .before .before .before .before .before .before .before .before .before .before .before .before .args .start) (c .before .before .before .before .before .before .before .before .before .before .before .before .before .before .before .before .before .before .before .before .before .before .before .before .before .before .args .depth) (c .before .before .before .before .before .before .before .before .before .before .before .before .before .before .before .before .before .before .before .before .before .before .before .before .before .before .args .events .now) (c .before .before .before .before .before .before .before .before .before .before .before .before .before .before .before .before .before .before .before .before .before .before .before .before .before .before .args .at) 8 _ _ (c .before .before .before .before .before .before .before .before .before .before .before .before .before .before .before .loop .cursor) _ _ (c .before .before .before .before .before .before .before .before .before .before .before .before .before .before .before .loop .inv) _ _ (entry-nested (c .before .before .before .before .before .before .before .before .before .before .before .before .before .before .before .before .before .before .before .before .before .before .before .before .before .before .args .words .now) (c .before .before .before .before .before .before .before .before .before .before .before .before .before .before .before .before .before .before .before .before .before .before .before .before .before .before .args .fields .now) (c .before .before .before .before .before .before .before .before .before .before .before .before .before .before .before .before .before .before .before .before .before .before .before .before .before .before .args .message .now) (c .before .before .before .before .before .before .before .before .before .before .before .before .before .before .before .before .before .before .before .before .before .before .before .before .before .before .args .group) (c .before .before .before .before .before .before .before .before .before .before .before .before .before .before .before .before .before .before .before .before .before .before .before .before .before .before .args .start) (c .before .before .before .before .before .before .before .before .before .before .before .before .before .before .before .loop .cursor) _ (level-step (c .before .before .before .before .before .before .before .before .before .before .before .before .before .before .before .before .before .before .before .before .before .before .before .before .before .before .args .words .now) (c .before .before .before .before .before .before .before .before .before .before .before .before .before .before .before .before .before .before .before .before .before .before .before .before .before .before .args .group) _ _ _ _ (c .before .before .before .before .before .before .before .before .before .before .before .before .before .before .before .before .before .before .before .members-at .ensures) (c .before .before .before .before .before .before .before .before .before .before .before .before .before .before .before .before .before .before .before .before .delimiter-at .ensures) (c .before .before .before .before .before .before .before .before .before .before .before .before .before .before .before .before .before .before .count-tags-at .ensures) (c .before .before .before .before .before .before .before .before .before .before .before .before .before .before .before .before .before .first-group-of .ensures) (c .before .before .before .before .before .before .before .before .before .before .before .before .before .before .before .before .before .before .before .before .before .before .before .before .before .before .args .fields .now) (c .before .before .before .before .before .before .before .before .before .before .before .before .before .before .before .before .before .before .before .before .before .before .before .before .before .before .args .start) (c .before .before .before .before .before .before .before .before .before .before .before .before .before .before .before .loop .cursor) _ (c .before .before .before .before .before .before .before .before .before .before .before .before .before .before .step-at .ensures)) _ _ _ (c .before .before .before .before .before .before .before .before .before .before .before .before .rank2 .given .1) .0) _ _ (c .before .before .before .before .before .before .before .before .before .before .insert-rank2 .ensures .0) (c .before .before .before .before .before .before .before .before .before .before .insert-rank2 .ensures .1) _ (c .before .before .before .before .before .before .before .before .before .before .before .before .before .before .before .before .before .before .before .before .before .count-tag-at .ensures) _ _ (c .before .before .before .before .before .before .before .before .put-repeat2 .ensures) _ (c .before .before .before .before .before .spoilt-by2 .ensures) _ (entry-nested (c .before .before .before .before .before .before .before .before .before .before .before .before .before .before .before .before .before .before .before .before .before .before .before .before .before .before .args .words .now) (c .before .before .before .before .before .before .before .before .before .before .before .before .before .before .before .before .before .before .before .before .before .before .before .before .before .before .args .fields .now) (c .before .before .before .before .before .before .before .before .before .before .before .before .before .before .before .before .before .before .before .before .before .before .before .before .before .before .args .message .now) (c .before .before .before .before .before .before .before .before .before .before .before .before .before .before .before .before .before .before .before .before .before .before .before .before .before .before .args .group) (c .before .before .before .before .before .before .before .before .before .before .before .before .before .before .before .before .before .before .before .before .before .before .before .before .before .before .args .start) (c .before .before .before .before .before .before .before .before .before .before .before .before .before .before .before .loop .cursor) _ (level-step (c .before .before .before .before .before .before .before .before .before .before .before .before .before .before .before .before .before .before .before .before .before .before .before .before .before .before .args .words .now) (c .before .before .before .before .before .before .before .before .before .before .before .before .before .before .before .before .before .before .before .before .before .before .before .before .before .before .args .group) _ _ _ _ (c .before .before .before .before .before .before .before .before .before .before .before .before .before .before .before .before .before .before .before .members-at .ensures) (c .before .before .before .before .before .before .before .before .before .before .before .before .before .before .before .before .before .before .before .before .delimiter-at .ensures) (c .before .before .before .before .before .before .before .before .before .before .before .before .before .before .before .before .before .before .count-tags-at .ensures) (c .before .before .before .before .before .before .before .before .before .before .before .before .before .before .before .before .before .first-group-of .ensures) (c .before .before .before .before .before .before .before .before .before .before .before .before .before .before .before .before .before .before .before .before .before .before .before .before .before .before .args .fields .now) (c .before .before .before .before .before .before .before .before .before .before .before .before .before .before .before .before .before .before .before .before .before .before .before .before .before .before .args .start) (c .before .before .before .before .before .before .before .before .before .before .before .before .before .before .before .loop .cursor) _ (c .before .before .before .before .before .before .before .before .before .before .before .before .before .before .step-at .ensures)) _ _ _ (c .before .before .before .before .before .before .before .before .before .before .before .before .rank2 .given .1) .1) _ _ _ _ (c .before .before .before .before .before .before .before .before .before .before .before .before .before .before .before .before .before .before .before .members-at .ensures) (c .before .before .walk-group .ensures))
+    omega (arith, inside, nested-moves (c .before .before .before .before .before .before .before .before .before .before .before .before .before .before .before .before .before .before .before .before .before .before .before .before .before .before .args .words .now) (c .before .before .before .before .before .before .before .before .before .before .before .before .before .before .before .before .before .before .before .before .before .before .before .before .before .before .args .fields .now) (c .before .before .before .before .before .before .before .before .before .before .before .before .before .before .before .before .before .before .before .before .before .before .before .before .before .before .args .message .now) (c .before .before .before .before .before .before .before .before .before .before .before .before .before .before .before .before .before .before .before .before .before .before .before .before .before .before .pre .1 .lent .passed) (c .before .before .before .before .before .before .before .before .before .before .before .before .before .before .before .before .before .before .before .before .before .before .before .before .before .before .args .group) (c .before .before .before .before .before .before .before .before .before .before .before .before .before .before .before .before .before .before .before .before .before .before .before .before .before .before .pre .1 .lent .valid) (c .before .before .before .before .before .before .before .before .before .before .before .before .before .before .before .before .before .before .before .before .before .before .before .before .before .before .args .start) (c .before .before .before .before .before .before .before .before .before .before .before .before .before .before .before .before .before .before .before .before .before .before .before .before .before .before .args .depth) (c .before .before .before .before .before .before .before .before .before .before .before .before .before .before .before .before .before .before .before .before .before .before .before .before .before .before .args .events .now) (c .before .before .before .before .before .before .before .before .before .before .before .before .before .before .before .before .before .before .before .before .before .before .before .before .before .before .args .at) 8 _ _ (c .before .before .before .before .before .before .before .before .before .before .before .before .before .before .before .loop .cursor) _ _ (c .before .before .before .before .before .before .before .before .before .before .before .before .before .before .before .loop .inv) _ _ (entry-nested (c .before .before .before .before .before .before .before .before .before .before .before .before .before .before .before .before .before .before .before .before .before .before .before .before .before .before .args .words .now) (c .before .before .before .before .before .before .before .before .before .before .before .before .before .before .before .before .before .before .before .before .before .before .before .before .before .before .args .fields .now) (c .before .before .before .before .before .before .before .before .before .before .before .before .before .before .before .before .before .before .before .before .before .before .before .before .before .before .args .message .now) (c .before .before .before .before .before .before .before .before .before .before .before .before .before .before .before .before .before .before .before .before .before .before .before .before .before .before .args .group) (c .before .before .before .before .before .before .before .before .before .before .before .before .before .before .before .before .before .before .before .before .before .before .before .before .before .before .args .start) (c .before .before .before .before .before .before .before .before .before .before .before .before .before .before .before .loop .cursor) _ (level-step (c .before .before .before .before .before .before .before .before .before .before .before .before .before .before .before .before .before .before .before .before .before .before .before .before .before .before .args .words .now) (c .before .before .before .before .before .before .before .before .before .before .before .before .before .before .before .before .before .before .before .before .before .before .before .before .before .before .args .group) _ _ _ _ (c .before .before .before .before .before .before .before .before .before .before .before .before .before .before .before .before .before .before .before .members-at .ensures) (c .before .before .before .before .before .before .before .before .before .before .before .before .before .before .before .before .before .before .before .before .delimiter-at .ensures) (c .before .before .before .before .before .before .before .before .before .before .before .before .before .before .before .before .before .before .count-tags-at .ensures) (c .before .before .before .before .before .before .before .before .before .before .before .before .before .before .before .before .before .first-group-of .ensures) (c .before .before .before .before .before .before .before .before .before .before .before .before .before .before .before .before .before .before .before .before .before .before .before .before .before .before .args .fields .now) (c .before .before .before .before .before .before .before .before .before .before .before .before .before .before .before .before .before .before .before .before .before .before .before .before .before .before .args .start) (c .before .before .before .before .before .before .before .before .before .before .before .before .before .before .before .loop .cursor) _ (c .before .before .before .before .before .before .before .before .before .before .before .before .before .before .step-at .ensures)) _ _ _ (c .before .before .before .before .before .before .before .before .before .before .before .before .rank2 .given .1) .0) _ _ (c .before .before .before .before .before .before .before .before .before .before .insert-rank2 .ensures .0) (c .before .before .before .before .before .before .before .before .before .before .insert-rank2 .ensures .1) _ (c .before .before .before .before .before .before .before .before .before .before .before .before .before .before .before .before .before .before .before .before .before .count-tag-at .ensures) _ _ (c .before .before .before .before .before .before .before .put-repeat2 .ensures) _ (c .before .before .before .before .spoilt-by2 .ensures) _ (entry-nested (c .before .before .before .before .before .before .before .before .before .before .before .before .before .before .before .before .before .before .before .before .before .before .before .before .before .before .args .words .now) (c .before .before .before .before .before .before .before .before .before .before .before .before .before .before .before .before .before .before .before .before .before .before .before .before .before .before .args .fields .now) (c .before .before .before .before .before .before .before .before .before .before .before .before .before .before .before .before .before .before .before .before .before .before .before .before .before .before .args .message .now) (c .before .before .before .before .before .before .before .before .before .before .before .before .before .before .before .before .before .before .before .before .before .before .before .before .before .before .args .group) (c .before .before .before .before .before .before .before .before .before .before .before .before .before .before .before .before .before .before .before .before .before .before .before .before .before .before .args .start) (c .before .before .before .before .before .before .before .before .before .before .before .before .before .before .before .loop .cursor) _ (level-step (c .before .before .before .before .before .before .before .before .before .before .before .before .before .before .before .before .before .before .before .before .before .before .before .before .before .before .args .words .now) (c .before .before .before .before .before .before .before .before .before .before .before .before .before .before .before .before .before .before .before .before .before .before .before .before .before .before .args .group) _ _ _ _ (c .before .before .before .before .before .before .before .before .before .before .before .before .before .before .before .before .before .before .before .members-at .ensures) (c .before .before .before .before .before .before .before .before .before .before .before .before .before .before .before .before .before .before .before .before .delimiter-at .ensures) (c .before .before .before .before .before .before .before .before .before .before .before .before .before .before .before .before .before .before .count-tags-at .ensures) (c .before .before .before .before .before .before .before .before .before .before .before .before .before .before .before .before .before .first-group-of .ensures) (c .before .before .before .before .before .before .before .before .before .before .before .before .before .before .before .before .before .before .before .before .before .before .before .before .before .before .args .fields .now) (c .before .before .before .before .before .before .before .before .before .before .before .before .before .before .before .before .before .before .before .before .before .before .before .before .before .before .args .start) (c .before .before .before .before .before .before .before .before .before .before .before .before .before .before .before .loop .cursor) _ (c .before .before .before .before .before .before .before .before .before .before .before .before .before .before .step-at .ensures)) _ _ _ (c .before .before .before .before .before .before .before .before .before .before .before .before .rank2 .given .1) .1) _ _ _ _ (c .before .before .before .before .before .before .before .before .before .before .before .before .before .before .before .before .before .before .before .members-at .ensures) (c .before .before .walk-group .ensures))
 
 scan-entry-loop-again-2 : (t : ℕ) → scan-entry-lts.Need-loop-again-2 (scan-entry-claims t) (scan-entry-at t) scan-entry.Post scan-entry-Inv-loop scan-entry-μ-loop
-scan-entry-loop-again-2 t c = entry-adds-nested (c .before .before .before .before .before .before .before .before .before .before .before .before .before .before .before .before .before .before .before .before .before .before .before .before .before .before .args .words .now) (c .before .before .before .before .before .before .before .before .before .before .before .before .before .before .before .before .before .before .before .before .before .before .before .before .before .before .args .fields .now) (c .before .before .before .before .before .before .before .before .before .before .before .before .before .before .before .before .before .before .before .before .before .before .before .before .before .before .args .message .now) (c .before .before .before .before .before .before .before .before .before .before .before .before .before .before .before .before .before .before .before .before .before .before .before .before .before .before .pre .1 .lent .passed) (c .before .before .before .before .before .before .before .before .before .before .before .before .before .before .before .before .before .before .before .before .before .before .before .before .before .before .args .group) (c .before .before .before .before .before .before .before .before .before .before .before .before .before .before .before .before .before .before .before .before .before .before .before .before .before .before .pre .1 .lent .valid) (c .before .before .before .before .before .before .before .before .before .before .before .before .before .before .before .before .before .before .before .before .before .before .before .before .before .before .args .start) (c .before .before .before .before .before .before .before .before .before .before .before .before .before .before .before .before .before .before .before .before .before .before .before .before .before .before .args .depth) (c .before .before .before .before .before .before .before .before .before .before .before .before .before .before .before .before .before .before .before .before .before .before .before .before .before .before .args .events .now) (c .before .before .before .before .before .before .before .before .before .before .before .before .before .before .before .before .before .before .before .before .before .before .before .before .before .before .args .at) 8 _ _ (c .before .before .before .before .before .before .before .before .before .before .before .before .before .before .before .loop .cursor) _ _ (c .before .before .before .before .before .before .before .before .before .before .before .before .before .before .before .loop .inv) _ _ (entry-nested (c .before .before .before .before .before .before .before .before .before .before .before .before .before .before .before .before .before .before .before .before .before .before .before .before .before .before .args .words .now) (c .before .before .before .before .before .before .before .before .before .before .before .before .before .before .before .before .before .before .before .before .before .before .before .before .before .before .args .fields .now) (c .before .before .before .before .before .before .before .before .before .before .before .before .before .before .before .before .before .before .before .before .before .before .before .before .before .before .args .message .now) (c .before .before .before .before .before .before .before .before .before .before .before .before .before .before .before .before .before .before .before .before .before .before .before .before .before .before .args .group) (c .before .before .before .before .before .before .before .before .before .before .before .before .before .before .before .before .before .before .before .before .before .before .before .before .before .before .args .start) (c .before .before .before .before .before .before .before .before .before .before .before .before .before .before .before .loop .cursor) _ (level-step (c .before .before .before .before .before .before .before .before .before .before .before .before .before .before .before .before .before .before .before .before .before .before .before .before .before .before .args .words .now) (c .before .before .before .before .before .before .before .before .before .before .before .before .before .before .before .before .before .before .before .before .before .before .before .before .before .before .args .group) _ _ _ _ (c .before .before .before .before .before .before .before .before .before .before .before .before .before .before .before .before .before .before .before .members-at .ensures) (c .before .before .before .before .before .before .before .before .before .before .before .before .before .before .before .before .before .before .before .before .delimiter-at .ensures) (c .before .before .before .before .before .before .before .before .before .before .before .before .before .before .before .before .before .before .count-tags-at .ensures) (c .before .before .before .before .before .before .before .before .before .before .before .before .before .before .before .before .before .first-group-of .ensures) (c .before .before .before .before .before .before .before .before .before .before .before .before .before .before .before .before .before .before .before .before .before .before .before .before .before .before .args .fields .now) (c .before .before .before .before .before .before .before .before .before .before .before .before .before .before .before .before .before .before .before .before .before .before .before .before .before .before .args .start) (c .before .before .before .before .before .before .before .before .before .before .before .before .before .before .before .loop .cursor) _ (c .before .before .before .before .before .before .before .before .before .before .before .before .before .before .step-at .ensures)) _ _ _ (c .before .before .before .before .before .before .before .before .before .before .before .before .rank2 .given .1) .0) _ _ (c .before .before .before .before .before .before .before .before .before .before .insert-rank2 .ensures .0) (c .before .before .before .before .before .before .before .before .before .before .insert-rank2 .ensures .1) _ (c .before .before .before .before .before .before .before .before .before .before .before .before .before .before .before .before .before .before .before .before .before .count-tag-at .ensures) _ _ (c .before .before .before .before .before .before .before .before .put-repeat2 .ensures) _ (c .before .before .before .before .before .spoilt-by2 .ensures) _ (entry-nested (c .before .before .before .before .before .before .before .before .before .before .before .before .before .before .before .before .before .before .before .before .before .before .before .before .before .before .args .words .now) (c .before .before .before .before .before .before .before .before .before .before .before .before .before .before .before .before .before .before .before .before .before .before .before .before .before .before .args .fields .now) (c .before .before .before .before .before .before .before .before .before .before .before .before .before .before .before .before .before .before .before .before .before .before .before .before .before .before .args .message .now) (c .before .before .before .before .before .before .before .before .before .before .before .before .before .before .before .before .before .before .before .before .before .before .before .before .before .before .args .group) (c .before .before .before .before .before .before .before .before .before .before .before .before .before .before .before .before .before .before .before .before .before .before .before .before .before .before .args .start) (c .before .before .before .before .before .before .before .before .before .before .before .before .before .before .before .loop .cursor) _ (level-step (c .before .before .before .before .before .before .before .before .before .before .before .before .before .before .before .before .before .before .before .before .before .before .before .before .before .before .args .words .now) (c .before .before .before .before .before .before .before .before .before .before .before .before .before .before .before .before .before .before .before .before .before .before .before .before .before .before .args .group) _ _ _ _ (c .before .before .before .before .before .before .before .before .before .before .before .before .before .before .before .before .before .before .before .members-at .ensures) (c .before .before .before .before .before .before .before .before .before .before .before .before .before .before .before .before .before .before .before .before .delimiter-at .ensures) (c .before .before .before .before .before .before .before .before .before .before .before .before .before .before .before .before .before .before .count-tags-at .ensures) (c .before .before .before .before .before .before .before .before .before .before .before .before .before .before .before .before .before .first-group-of .ensures) (c .before .before .before .before .before .before .before .before .before .before .before .before .before .before .before .before .before .before .before .before .before .before .before .before .before .before .args .fields .now) (c .before .before .before .before .before .before .before .before .before .before .before .before .before .before .before .before .before .before .before .before .before .before .before .before .before .before .args .start) (c .before .before .before .before .before .before .before .before .before .before .before .before .before .before .before .loop .cursor) _ (c .before .before .before .before .before .before .before .before .before .before .before .before .before .before .step-at .ensures)) _ _ _ (c .before .before .before .before .before .before .before .before .before .before .before .before .rank2 .given .1) .1) _ _ _ _ (c .before .before .before .before .before .before .before .before .before .before .before .before .before .before .before .before .before .before .before .members-at .ensures) (c .before .before .walk-group .ensures)
+scan-entry-loop-again-2 t c = entry-adds-nested (c .before .before .before .before .before .before .before .before .before .before .before .before .before .before .before .before .before .before .before .before .before .before .before .before .before .before .args .words .now) (c .before .before .before .before .before .before .before .before .before .before .before .before .before .before .before .before .before .before .before .before .before .before .before .before .before .before .args .fields .now) (c .before .before .before .before .before .before .before .before .before .before .before .before .before .before .before .before .before .before .before .before .before .before .before .before .before .before .args .message .now) (c .before .before .before .before .before .before .before .before .before .before .before .before .before .before .before .before .before .before .before .before .before .before .before .before .before .before .pre .1 .lent .passed) (c .before .before .before .before .before .before .before .before .before .before .before .before .before .before .before .before .before .before .before .before .before .before .before .before .before .before .args .group) (c .before .before .before .before .before .before .before .before .before .before .before .before .before .before .before .before .before .before .before .before .before .before .before .before .before .before .pre .1 .lent .valid) (c .before .before .before .before .before .before .before .before .before .before .before .before .before .before .before .before .before .before .before .before .before .before .before .before .before .before .args .start) (c .before .before .before .before .before .before .before .before .before .before .before .before .before .before .before .before .before .before .before .before .before .before .before .before .before .before .args .depth) (c .before .before .before .before .before .before .before .before .before .before .before .before .before .before .before .before .before .before .before .before .before .before .before .before .before .before .args .events .now) (c .before .before .before .before .before .before .before .before .before .before .before .before .before .before .before .before .before .before .before .before .before .before .before .before .before .before .args .at) 8 _ _ (c .before .before .before .before .before .before .before .before .before .before .before .before .before .before .before .loop .cursor) _ _ (c .before .before .before .before .before .before .before .before .before .before .before .before .before .before .before .loop .inv) _ _ (entry-nested (c .before .before .before .before .before .before .before .before .before .before .before .before .before .before .before .before .before .before .before .before .before .before .before .before .before .before .args .words .now) (c .before .before .before .before .before .before .before .before .before .before .before .before .before .before .before .before .before .before .before .before .before .before .before .before .before .before .args .fields .now) (c .before .before .before .before .before .before .before .before .before .before .before .before .before .before .before .before .before .before .before .before .before .before .before .before .before .before .args .message .now) (c .before .before .before .before .before .before .before .before .before .before .before .before .before .before .before .before .before .before .before .before .before .before .before .before .before .before .args .group) (c .before .before .before .before .before .before .before .before .before .before .before .before .before .before .before .before .before .before .before .before .before .before .before .before .before .before .args .start) (c .before .before .before .before .before .before .before .before .before .before .before .before .before .before .before .loop .cursor) _ (level-step (c .before .before .before .before .before .before .before .before .before .before .before .before .before .before .before .before .before .before .before .before .before .before .before .before .before .before .args .words .now) (c .before .before .before .before .before .before .before .before .before .before .before .before .before .before .before .before .before .before .before .before .before .before .before .before .before .before .args .group) _ _ _ _ (c .before .before .before .before .before .before .before .before .before .before .before .before .before .before .before .before .before .before .before .members-at .ensures) (c .before .before .before .before .before .before .before .before .before .before .before .before .before .before .before .before .before .before .before .before .delimiter-at .ensures) (c .before .before .before .before .before .before .before .before .before .before .before .before .before .before .before .before .before .before .count-tags-at .ensures) (c .before .before .before .before .before .before .before .before .before .before .before .before .before .before .before .before .before .first-group-of .ensures) (c .before .before .before .before .before .before .before .before .before .before .before .before .before .before .before .before .before .before .before .before .before .before .before .before .before .before .args .fields .now) (c .before .before .before .before .before .before .before .before .before .before .before .before .before .before .before .before .before .before .before .before .before .before .before .before .before .before .args .start) (c .before .before .before .before .before .before .before .before .before .before .before .before .before .before .before .loop .cursor) _ (c .before .before .before .before .before .before .before .before .before .before .before .before .before .before .step-at .ensures)) _ _ _ (c .before .before .before .before .before .before .before .before .before .before .before .before .rank2 .given .1) .0) _ _ (c .before .before .before .before .before .before .before .before .before .before .insert-rank2 .ensures .0) (c .before .before .before .before .before .before .before .before .before .before .insert-rank2 .ensures .1) _ (c .before .before .before .before .before .before .before .before .before .before .before .before .before .before .before .before .before .before .before .before .before .count-tag-at .ensures) _ _ (c .before .before .before .before .before .before .before .put-repeat2 .ensures) _ (c .before .before .before .before .spoilt-by2 .ensures) _ (entry-nested (c .before .before .before .before .before .before .before .before .before .before .before .before .before .before .before .before .before .before .before .before .before .before .before .before .before .before .args .words .now) (c .before .before .before .before .before .before .before .before .before .before .before .before .before .before .before .before .before .before .before .before .before .before .before .before .before .before .args .fields .now) (c .before .before .before .before .before .before .before .before .before .before .before .before .before .before .before .before .before .before .before .before .before .before .before .before .before .before .args .message .now) (c .before .before .before .before .before .before .before .before .before .before .before .before .before .before .before .before .before .before .before .before .before .before .before .before .before .before .args .group) (c .before .before .before .before .before .before .before .before .before .before .before .before .before .before .before .before .before .before .before .before .before .before .before .before .before .before .args .start) (c .before .before .before .before .before .before .before .before .before .before .before .before .before .before .before .loop .cursor) _ (level-step (c .before .before .before .before .before .before .before .before .before .before .before .before .before .before .before .before .before .before .before .before .before .before .before .before .before .before .args .words .now) (c .before .before .before .before .before .before .before .before .before .before .before .before .before .before .before .before .before .before .before .before .before .before .before .before .before .before .args .group) _ _ _ _ (c .before .before .before .before .before .before .before .before .before .before .before .before .before .before .before .before .before .before .before .members-at .ensures) (c .before .before .before .before .before .before .before .before .before .before .before .before .before .before .before .before .before .before .before .before .delimiter-at .ensures) (c .before .before .before .before .before .before .before .before .before .before .before .before .before .before .before .before .before .before .count-tags-at .ensures) (c .before .before .before .before .before .before .before .before .before .before .before .before .before .before .before .before .before .first-group-of .ensures) (c .before .before .before .before .before .before .before .before .before .before .before .before .before .before .before .before .before .before .before .before .before .before .before .before .before .before .args .fields .now) (c .before .before .before .before .before .before .before .before .before .before .before .before .before .before .before .before .before .before .before .before .before .before .before .before .before .before .args .start) (c .before .before .before .before .before .before .before .before .before .before .before .before .before .before .before .loop .cursor) _ (c .before .before .before .before .before .before .before .before .before .before .before .before .before .before .step-at .ensures)) _ _ _ (c .before .before .before .before .before .before .before .before .before .before .before .before .rank2 .given .1) .1) _ _ _ _ (c .before .before .before .before .before .before .before .before .before .before .before .before .before .before .before .before .before .before .before .members-at .ensures) (c .before .before .walk-group .ensures)
 
 -- let count = seen.close(members.len());
 scan-entry-close-requires : (t : ℕ) → scan-entry-lts.Need-close-requires (scan-entry-claims t) (scan-entry-at t) scan-entry.Post scan-entry-Inv-loop scan-entry-μ-loop
@@ -283,11 +283,11 @@ scan-wide-enum-known-rank t c = search needs
 
 -- let inserted = seen.insert_rank(rank);
 scan-wide-insert-rank-requires : (t : ℕ) → scan-wide-lts.Need-insert-rank-requires (scan-wide-claims t) (scan-wide-at t) scan-wide.Post scan-wide-Inv-loop scan-wide-μ-loop
-scan-wide-insert-rank-requires t c κs = omega (arith, rank-low (c .before .before .before .before .before .before .before .before .before .before .before .before .before .before .before .args .words .now) (c .before .before .before .before .before .before .before .before .before .before .before .before .before .before .before .args .fields .now) (c .before .before .before .before .before .before .before .before .before .before .before .before .before .before .before .args .message .now) (c .before .before .before .before .before .before .before .before .before .before .before .before .before .before .before .pre .1 .lent .passed) (c .before .before .before .before .before .before .before .before .before .before .before .before .before .before .before .args .group) (c .before .before .before .before .before .before .before .before .before .before .before .before .before .before .before .pre .1 .lent .valid) (c .before .before .before .before .before .before .before .before .before .before .before .before .before .before .before .args .start) (c .before .before .before .before .before .before .before .before .before .before .before .before .before .before .before .args .depth) (c .before .before .before .before .before .before .before .before .before .before .before .before .before .before .before .args .events .now) (c .before .before .before .before .before .before .before .before .before .before .before .before .before .before .before .args .at) 128 _ _ (c .before .before .before .before .loop .cursor) _ _ (c .before .before .before .before .loop .inv) _ _ (entry-plain (c .before .before .before .before .before .before .before .before .before .before .before .before .before .before .before .args .words .now) (c .before .before .before .before .before .before .before .before .before .before .before .before .before .before .before .args .fields .now) (c .before .before .before .before .before .before .before .before .before .before .before .before .before .before .before .args .message .now) (c .before .before .before .before .before .before .before .before .before .before .before .before .before .before .before .args .group) (c .before .before .before .before .before .before .before .before .before .before .before .before .before .before .before .args .start) (c .before .before .before .before .loop .cursor) _ (level-step (c .before .before .before .before .before .before .before .before .before .before .before .before .before .before .before .args .words .now) (c .before .before .before .before .before .before .before .before .before .before .before .before .before .before .before .args .group) _ _ _ _ (c .before .before .before .before .before .before .before .before .members-at .ensures) (c .before .before .before .before .before .before .before .before .before .delimiter-at .ensures) (c .before .before .before .before .before .before .before .count-tags-at .ensures) (c .before .before .before .before .before .before .first-group-of .ensures) (c .before .before .before .before .before .before .before .before .before .before .before .before .before .before .before .args .fields .now) (c .before .before .before .before .before .before .before .before .before .before .before .before .before .before .before .args .start) (c .before .before .before .before .loop .cursor) _ (c .before .before .before .step-at .ensures)) _ _ (c .before .rank .given .1) .0), c .before .before .before .before .before .before .before .before .before .before .before .before .before .before .before .pre .1 .few-members)
+scan-wide-insert-rank-requires t c κs = omega (arith, rank-low (c .before .before .before .before .before .before .before .before .before .before .before .before .before .before .before .args .words .now) (c .before .before .before .before .before .before .before .before .before .before .before .before .before .before .before .args .fields .now) (c .before .before .before .before .before .before .before .before .before .before .before .before .before .before .before .args .message .now) (c .before .before .before .before .before .before .before .before .before .before .before .before .before .before .before .pre .1 .lent .passed) (c .before .before .before .before .before .before .before .before .before .before .before .before .before .before .before .args .group) (c .before .before .before .before .before .before .before .before .before .before .before .before .before .before .before .pre .1 .lent .valid) (c .before .before .before .before .before .before .before .before .before .before .before .before .before .before .before .args .start) (c .before .before .before .before .before .before .before .before .before .before .before .before .before .before .before .args .depth) (c .before .before .before .before .before .before .before .before .before .before .before .before .before .before .before .args .events .now) (c .before .before .before .before .before .before .before .before .before .before .before .before .before .before .before .args .at) 128 _ _ (c .before .before .before .before .loop .cursor) _ _ (c .before .before .before .before .loop .inv) _ _ (entry-plain (c .before .before .before .before .before .before .before .before .before .before .before .before .before .before .before .args .words .now) (c .before .before .before .before .before .before .before .before .before .before .before .before .before .before .before .args .fields .now) (c .before .before .before .before .before .before .before .before .before .before .before .before .before .before .before .args .message .now) (c .before .before .before .before .before .before .before .before .before .before .before .before .before .before .before .args .group) (c .before .before .before .before .before .before .before .before .before .before .before .before .before .before .before .args .start) (c .before .before .before .before .loop .cursor) _ (level-step (c .before .before .before .before .before .before .before .before .before .before .before .before .before .before .before .args .words .now) (c .before .before .before .before .before .before .before .before .before .before .before .before .before .before .before .args .group) _ _ _ _ (c .before .before .before .before .before .before .before .before .members-at .ensures) (c .before .before .before .before .before .before .before .before .before .delimiter-at .ensures) (c .before .before .before .before .before .before .before .count-tags-at .ensures) (c .before .before .before .before .before .before .first-group-of .ensures) (c .before .before .before .before .before .before .before .before .before .before .before .before .before .before .before .args .fields .now) (c .before .before .before .before .before .before .before .before .before .before .before .before .before .before .before .args .start) (c .before .before .before .before .loop .cursor) _ (c .before .before .before .step-at .ensures)) _ _ (c .before .rank .given .1) .0), level-length (c .before .before .before .before .before .before .before .before .before .before .before .before .before .before .before .args .words .now) (1 + c .before .before .before .before .before .before .before .before .before .before .before .before .before .before .before .args .group) _ (c .before .before .before .before .before .before .before .before .members-at .ensures), c .before .before .before .before .before .before .before .before .before .before .before .before .before .before .before .pre .1 .few-members)
 
 -- to = put_repeat(events, to, tag, depth, member, inserted.fresh);
 scan-wide-put-repeat-requires : (t : ℕ) → scan-wide-lts.Need-put-repeat-requires (scan-wide-claims t) (scan-wide-at t) scan-wide.Post scan-wide-Inv-loop scan-wide-μ-loop
-scan-wide-put-repeat-requires t c κs = omega (arith, c .before .before .before .before .before .before .loop .inv .room, c .before .before .before .before .before .before .loop .inv .within, c .before .before .before .before .before .before .before .before .before .before .before .before .before .before .before .before .before .pre .1 .room, c .before .before .before .before .before .before .before .before .before .before .before .before .before .before .before .before .before .pre .1 .lent .table .few)
+scan-wide-put-repeat-requires t c κs = omega (arith, c .before .before .before .before .before .before .before .loop .inv .room, c .before .before .before .before .before .before .before .loop .inv .within, c .before .before .before .before .before .before .before .before .before .before .before .before .before .before .before .before .before .before .pre .1 .room, c .before .before .before .before .before .before .before .before .before .before .before .before .before .before .before .before .before .before .pre .1 .lent .table .few)
 
 -- unparseable = spoilt_by(unparseable, inserted.fresh);
 scan-wide-spoilt-by-requires : (t : ℕ) → scan-wide-lts.Need-spoilt-by-requires (scan-wide-claims t) (scan-wide-at t) scan-wide.Post scan-wide-Inv-loop scan-wide-μ-loop
@@ -302,7 +302,7 @@ scan-wide-loop-less : (t : ℕ) → scan-wide-lts.Need-loop-less (scan-wide-clai
 scan-wide-loop-less t c = omega (arith, field-inside (c .before .before .before .before .before .before .before .before .before .before .before .before .before .before .before .before .before .before .before .before .before .before .args .words .now) (c .before .before .before .before .before .before .before .before .before .before .before .before .before .before .before .before .before .before .before .before .before .before .args .fields .now) (c .before .before .before .before .before .before .before .before .before .before .before .before .before .before .before .before .before .before .before .before .before .before .args .message .now) (c .before .before .before .before .before .before .before .before .before .before .before .before .before .before .before .before .before .before .before .before .before .before .pre .1 .lent .passed) (c .before .before .before .before .before .before .before .before .before .before .before .before .before .before .before .before .before .before .before .before .before .before .args .group) (c .before .before .before .before .before .before .before .before .before .before .before .before .before .before .before .before .before .before .before .before .before .before .pre .1 .lent .valid) (c .before .before .before .before .before .before .before .before .before .before .before .before .before .before .before .before .before .before .before .before .before .before .args .start) (c .before .before .before .before .before .before .before .before .before .before .before .before .before .before .before .before .before .before .before .before .before .before .args .depth) (c .before .before .before .before .before .before .before .before .before .before .before .before .before .before .before .before .before .before .before .before .before .before .args .events .now) (c .before .before .before .before .before .before .before .before .before .before .before .before .before .before .before .before .before .before .before .before .before .before .args .at) 128 _ _ (c .before .before .before .before .before .before .before .before .before .before .before .loop .cursor) _ _ (c .before .before .before .before .before .before .before .before .before .before .before .loop .inv) _ _ (entry-plain (c .before .before .before .before .before .before .before .before .before .before .before .before .before .before .before .before .before .before .before .before .before .before .args .words .now) (c .before .before .before .before .before .before .before .before .before .before .before .before .before .before .before .before .before .before .before .before .before .before .args .fields .now) (c .before .before .before .before .before .before .before .before .before .before .before .before .before .before .before .before .before .before .before .before .before .before .args .message .now) (c .before .before .before .before .before .before .before .before .before .before .before .before .before .before .before .before .before .before .before .before .before .before .args .group) (c .before .before .before .before .before .before .before .before .before .before .before .before .before .before .before .before .before .before .before .before .before .before .args .start) (c .before .before .before .before .before .before .before .before .before .before .before .loop .cursor) _ (level-step (c .before .before .before .before .before .before .before .before .before .before .before .before .before .before .before .before .before .before .before .before .before .before .args .words .now) (c .before .before .before .before .before .before .before .before .before .before .before .before .before .before .before .before .before .before .before .before .before .before .args .group) _ _ _ _ (c .before .before .before .before .before .before .before .before .before .before .before .before .before .before .before .members-at .ensures) (c .before .before .before .before .before .before .before .before .before .before .before .before .before .before .before .before .delimiter-at .ensures) (c .before .before .before .before .before .before .before .before .before .before .before .before .before .before .count-tags-at .ensures) (c .before .before .before .before .before .before .before .before .before .before .before .before .before .first-group-of .ensures) (c .before .before .before .before .before .before .before .before .before .before .before .before .before .before .before .before .before .before .before .before .before .before .args .fields .now) (c .before .before .before .before .before .before .before .before .before .before .before .before .before .before .before .before .before .before .before .before .before .before .args .start) (c .before .before .before .before .before .before .before .before .before .before .before .loop .cursor) _ (c .before .before .before .before .before .before .before .before .before .before .step-at .ensures)) _ _ (c .before .before .before .before .before .before .before .before .rank .given .1) .0))
 
 scan-wide-loop-again : (t : ℕ) → scan-wide-lts.Need-loop-again (scan-wide-claims t) (scan-wide-at t) scan-wide.Post scan-wide-Inv-loop scan-wide-μ-loop
-scan-wide-loop-again t c = entry-adds-plain (c .before .before .before .before .before .before .before .before .before .before .before .before .before .before .before .before .before .before .before .before .before .before .args .words .now) (c .before .before .before .before .before .before .before .before .before .before .before .before .before .before .before .before .before .before .before .before .before .before .args .fields .now) (c .before .before .before .before .before .before .before .before .before .before .before .before .before .before .before .before .before .before .before .before .before .before .args .message .now) (c .before .before .before .before .before .before .before .before .before .before .before .before .before .before .before .before .before .before .before .before .before .before .pre .1 .lent .passed) (c .before .before .before .before .before .before .before .before .before .before .before .before .before .before .before .before .before .before .before .before .before .before .args .group) (c .before .before .before .before .before .before .before .before .before .before .before .before .before .before .before .before .before .before .before .before .before .before .pre .1 .lent .valid) (c .before .before .before .before .before .before .before .before .before .before .before .before .before .before .before .before .before .before .before .before .before .before .args .start) (c .before .before .before .before .before .before .before .before .before .before .before .before .before .before .before .before .before .before .before .before .before .before .args .depth) (c .before .before .before .before .before .before .before .before .before .before .before .before .before .before .before .before .before .before .before .before .before .before .args .events .now) (c .before .before .before .before .before .before .before .before .before .before .before .before .before .before .before .before .before .before .before .before .before .before .args .at) 128 _ _ (c .before .before .before .before .before .before .before .before .before .before .before .loop .cursor) _ _ (c .before .before .before .before .before .before .before .before .before .before .before .loop .inv) _ _ (entry-plain (c .before .before .before .before .before .before .before .before .before .before .before .before .before .before .before .before .before .before .before .before .before .before .args .words .now) (c .before .before .before .before .before .before .before .before .before .before .before .before .before .before .before .before .before .before .before .before .before .before .args .fields .now) (c .before .before .before .before .before .before .before .before .before .before .before .before .before .before .before .before .before .before .before .before .before .before .args .message .now) (c .before .before .before .before .before .before .before .before .before .before .before .before .before .before .before .before .before .before .before .before .before .before .args .group) (c .before .before .before .before .before .before .before .before .before .before .before .before .before .before .before .before .before .before .before .before .before .before .args .start) (c .before .before .before .before .before .before .before .before .before .before .before .loop .cursor) _ (level-step (c .before .before .before .before .before .before .before .before .before .before .before .before .before .before .before .before .before .before .before .before .before .before .args .words .now) (c .before .before .before .before .before .before .before .before .before .before .before .before .before .before .before .before .before .before .before .before .before .before .args .group) _ _ _ _ (c .before .before .before .before .before .before .before .before .before .before .before .before .before .before .before .members-at .ensures) (c .before .before .before .before .before .before .before .before .before .before .before .before .before .before .before .before .delimiter-at .ensures) (c .before .before .before .before .before .before .before .before .before .before .before .before .before .before .count-tags-at .ensures) (c .before .before .before .before .before .before .before .before .before .before .before .before .before .first-group-of .ensures) (c .before .before .before .before .before .before .before .before .before .before .before .before .before .before .before .before .before .before .before .before .before .before .args .fields .now) (c .before .before .before .before .before .before .before .before .before .before .before .before .before .before .before .before .before .before .before .before .before .before .args .start) (c .before .before .before .before .before .before .before .before .before .before .before .loop .cursor) _ (c .before .before .before .before .before .before .before .before .before .before .step-at .ensures)) _ _ (c .before .before .before .before .before .before .before .before .rank .given .1) .0) _ _ (c .before .before .before .before .before .before .insert-rank .ensures .0) (c .before .before .before .before .before .before .insert-rank .ensures .1) _ (c .before .before .before .before .before .before .before .before .before .before .before .before .before .before .before .before .before .count-tag-at .ensures) _ _ (c .before .before .before .before .put-repeat .ensures) _ (c .before .spoilt-by .ensures) (entry-plain (c .before .before .before .before .before .before .before .before .before .before .before .before .before .before .before .before .before .before .before .before .before .before .args .words .now) (c .before .before .before .before .before .before .before .before .before .before .before .before .before .before .before .before .before .before .before .before .before .before .args .fields .now) (c .before .before .before .before .before .before .before .before .before .before .before .before .before .before .before .before .before .before .before .before .before .before .args .message .now) (c .before .before .before .before .before .before .before .before .before .before .before .before .before .before .before .before .before .before .before .before .before .before .args .group) (c .before .before .before .before .before .before .before .before .before .before .before .before .before .before .before .before .before .before .before .before .before .before .args .start) (c .before .before .before .before .before .before .before .before .before .before .before .loop .cursor) _ (level-step (c .before .before .before .before .before .before .before .before .before .before .before .before .before .before .before .before .before .before .before .before .before .before .args .words .now) (c .before .before .before .before .before .before .before .before .before .before .before .before .before .before .before .before .before .before .before .before .before .before .args .group) _ _ _ _ (c .before .before .before .before .before .before .before .before .before .before .before .before .before .before .before .members-at .ensures) (c .before .before .before .before .before .before .before .before .before .before .before .before .before .before .before .before .delimiter-at .ensures) (c .before .before .before .before .before .before .before .before .before .before .before .before .before .before .count-tags-at .ensures) (c .before .before .before .before .before .before .before .before .before .before .before .before .before .first-group-of .ensures) (c .before .before .before .before .before .before .before .before .before .before .before .before .before .before .before .before .before .before .before .before .before .before .args .fields .now) (c .before .before .before .before .before .before .before .before .before .before .before .before .before .before .before .before .before .before .before .before .before .before .args .start) (c .before .before .before .before .before .before .before .before .before .before .before .loop .cursor) _ (c .before .before .before .before .before .before .before .before .before .before .step-at .ensures)) _ _ (c .before .before .before .before .before .before .before .before .rank .given .1) .1)
+scan-wide-loop-again t c = entry-adds-plain (c .before .before .before .before .before .before .before .before .before .before .before .before .before .before .before .before .before .before .before .before .before .before .args .words .now) (c .before .before .before .before .before .before .before .before .before .before .before .before .before .before .before .before .before .before .before .before .before .before .args .fields .now) (c .before .before .before .before .before .before .before .before .before .before .before .before .before .before .before .before .before .before .before .before .before .before .args .message .now) (c .before .before .before .before .before .before .before .before .before .before .before .before .before .before .before .before .before .before .before .before .before .before .pre .1 .lent .passed) (c .before .before .before .before .before .before .before .before .before .before .before .before .before .before .before .before .before .before .before .before .before .before .args .group) (c .before .before .before .before .before .before .before .before .before .before .before .before .before .before .before .before .before .before .before .before .before .before .pre .1 .lent .valid) (c .before .before .before .before .before .before .before .before .before .before .before .before .before .before .before .before .before .before .before .before .before .before .args .start) (c .before .before .before .before .before .before .before .before .before .before .before .before .before .before .before .before .before .before .before .before .before .before .args .depth) (c .before .before .before .before .before .before .before .before .before .before .before .before .before .before .before .before .before .before .before .before .before .before .args .events .now) (c .before .before .before .before .before .before .before .before .before .before .before .before .before .before .before .before .before .before .before .before .before .before .args .at) 128 _ _ (c .before .before .before .before .before .before .before .before .before .before .before .loop .cursor) _ _ (c .before .before .before .before .before .before .before .before .before .before .before .loop .inv) _ _ (entry-plain (c .before .before .before .before .before .before .before .before .before .before .before .before .before .before .before .before .before .before .before .before .before .before .args .words .now) (c .before .before .before .before .before .before .before .before .before .before .before .before .before .before .before .before .before .before .before .before .before .before .args .fields .now) (c .before .before .before .before .before .before .before .before .before .before .before .before .before .before .before .before .before .before .before .before .before .before .args .message .now) (c .before .before .before .before .before .before .before .before .before .before .before .before .before .before .before .before .before .before .before .before .before .before .args .group) (c .before .before .before .before .before .before .before .before .before .before .before .before .before .before .before .before .before .before .before .before .before .before .args .start) (c .before .before .before .before .before .before .before .before .before .before .before .loop .cursor) _ (level-step (c .before .before .before .before .before .before .before .before .before .before .before .before .before .before .before .before .before .before .before .before .before .before .args .words .now) (c .before .before .before .before .before .before .before .before .before .before .before .before .before .before .before .before .before .before .before .before .before .before .args .group) _ _ _ _ (c .before .before .before .before .before .before .before .before .before .before .before .before .before .before .before .members-at .ensures) (c .before .before .before .before .before .before .before .before .before .before .before .before .before .before .before .before .delimiter-at .ensures) (c .before .before .before .before .before .before .before .before .before .before .before .before .before .before .count-tags-at .ensures) (c .before .before .before .before .before .before .before .before .before .before .before .before .before .first-group-of .ensures) (c .before .before .before .before .before .before .before .before .before .before .before .before .before .before .before .before .before .before .before .before .before .before .args .fields .now) (c .before .before .before .before .before .before .before .before .before .before .before .before .before .before .before .before .before .before .before .before .before .before .args .start) (c .before .before .before .before .before .before .before .before .before .before .before .loop .cursor) _ (c .before .before .before .before .before .before .before .before .before .before .step-at .ensures)) _ _ (c .before .before .before .before .before .before .before .before .rank .given .1) .0) _ _ (c .before .before .before .before .before .before .insert-rank .ensures .0) (c .before .before .before .before .before .before .insert-rank .ensures .1) _ (c .before .before .before .before .before .before .before .before .before .before .before .before .before .before .before .before .before .count-tag-at .ensures) _ _ (c .before .before .before .put-repeat .ensures) _ (c .spoilt-by .ensures) (entry-plain (c .before .before .before .before .before .before .before .before .before .before .before .before .before .before .before .before .before .before .before .before .before .before .args .words .now) (c .before .before .before .before .before .before .before .before .before .before .before .before .before .before .before .before .before .before .before .before .before .before .args .fields .now) (c .before .before .before .before .before .before .before .before .before .before .before .before .before .before .before .before .before .before .before .before .before .before .args .message .now) (c .before .before .before .before .before .before .before .before .before .before .before .before .before .before .before .before .before .before .before .before .before .before .args .group) (c .before .before .before .before .before .before .before .before .before .before .before .before .before .before .before .before .before .before .before .before .before .before .args .start) (c .before .before .before .before .before .before .before .before .before .before .before .loop .cursor) _ (level-step (c .before .before .before .before .before .before .before .before .before .before .before .before .before .before .before .before .before .before .before .before .before .before .args .words .now) (c .before .before .before .before .before .before .before .before .before .before .before .before .before .before .before .before .before .before .before .before .before .before .args .group) _ _ _ _ (c .before .before .before .before .before .before .before .before .before .before .before .before .before .before .before .members-at .ensures) (c .before .before .before .before .before .before .before .before .before .before .before .before .before .before .before .before .delimiter-at .ensures) (c .before .before .before .before .before .before .before .before .before .before .before .before .before .before .count-tags-at .ensures) (c .before .before .before .before .before .before .before .before .before .before .before .before .before .first-group-of .ensures) (c .before .before .before .before .before .before .before .before .before .before .before .before .before .before .before .before .before .before .before .before .before .before .args .fields .now) (c .before .before .before .before .before .before .before .before .before .before .before .before .before .before .before .before .before .before .before .before .before .before .args .start) (c .before .before .before .before .before .before .before .before .before .before .before .loop .cursor) _ (c .before .before .before .before .before .before .before .before .before .before .step-at .ensures)) _ _ (c .before .before .before .before .before .before .before .before .rank .given .1) .1)
 
 -- EntryStep::Nested(rank, member, inner) => {
 scan-wide-enum-known-rank-2 : (t : ℕ) → scan-wide-lts.Need-enum-known-rank-2 (scan-wide-claims t) (scan-wide-at t) scan-wide.Post scan-wide-Inv-loop scan-wide-μ-loop
@@ -310,11 +310,11 @@ scan-wide-enum-known-rank-2 t c = search needs
 
 -- let inserted = seen.insert_rank(rank);
 scan-wide-insert-rank-requires-2 : (t : ℕ) → scan-wide-lts.Need-insert-rank-requires-2 (scan-wide-claims t) (scan-wide-at t) scan-wide.Post scan-wide-Inv-loop scan-wide-μ-loop
-scan-wide-insert-rank-requires-2 t c κs = omega (arith, rank-low (c .before .before .before .before .before .before .before .before .before .before .before .before .before .before .before .args .words .now) (c .before .before .before .before .before .before .before .before .before .before .before .before .before .before .before .args .fields .now) (c .before .before .before .before .before .before .before .before .before .before .before .before .before .before .before .args .message .now) (c .before .before .before .before .before .before .before .before .before .before .before .before .before .before .before .pre .1 .lent .passed) (c .before .before .before .before .before .before .before .before .before .before .before .before .before .before .before .args .group) (c .before .before .before .before .before .before .before .before .before .before .before .before .before .before .before .pre .1 .lent .valid) (c .before .before .before .before .before .before .before .before .before .before .before .before .before .before .before .args .start) (c .before .before .before .before .before .before .before .before .before .before .before .before .before .before .before .args .depth) (c .before .before .before .before .before .before .before .before .before .before .before .before .before .before .before .args .events .now) (c .before .before .before .before .before .before .before .before .before .before .before .before .before .before .before .args .at) 128 _ _ (c .before .before .before .before .loop .cursor) _ _ (c .before .before .before .before .loop .inv) _ _ (entry-nested (c .before .before .before .before .before .before .before .before .before .before .before .before .before .before .before .args .words .now) (c .before .before .before .before .before .before .before .before .before .before .before .before .before .before .before .args .fields .now) (c .before .before .before .before .before .before .before .before .before .before .before .before .before .before .before .args .message .now) (c .before .before .before .before .before .before .before .before .before .before .before .before .before .before .before .args .group) (c .before .before .before .before .before .before .before .before .before .before .before .before .before .before .before .args .start) (c .before .before .before .before .loop .cursor) _ (level-step (c .before .before .before .before .before .before .before .before .before .before .before .before .before .before .before .args .words .now) (c .before .before .before .before .before .before .before .before .before .before .before .before .before .before .before .args .group) _ _ _ _ (c .before .before .before .before .before .before .before .before .members-at .ensures) (c .before .before .before .before .before .before .before .before .before .delimiter-at .ensures) (c .before .before .before .before .before .before .before .count-tags-at .ensures) (c .before .before .before .before .before .before .first-group-of .ensures) (c .before .before .before .before .before .before .before .before .before .before .before .before .before .before .before .args .fields .now) (c .before .before .before .before .before .before .before .before .before .before .before .before .before .before .before .args .start) (c .before .before .before .before .loop .cursor) _ (c .before .before .before .step-at .ensures)) _ _ _ (c .before .rank2 .given .1) .0), c .before .before .before .before .before .before .before .before .before .before .before .before .before .before .before .pre .1 .few-members)
+scan-wide-insert-rank-requires-2 t c κs = omega (arith, rank-low (c .before .before .before .before .before .before .before .before .before .before .before .before .before .before .before .args .words .now) (c .before .before .before .before .before .before .before .before .before .before .before .before .before .before .before .args .fields .now) (c .before .before .before .before .before .before .before .before .before .before .before .before .before .before .before .args .message .now) (c .before .before .before .before .before .before .before .before .before .before .before .before .before .before .before .pre .1 .lent .passed) (c .before .before .before .before .before .before .before .before .before .before .before .before .before .before .before .args .group) (c .before .before .before .before .before .before .before .before .before .before .before .before .before .before .before .pre .1 .lent .valid) (c .before .before .before .before .before .before .before .before .before .before .before .before .before .before .before .args .start) (c .before .before .before .before .before .before .before .before .before .before .before .before .before .before .before .args .depth) (c .before .before .before .before .before .before .before .before .before .before .before .before .before .before .before .args .events .now) (c .before .before .before .before .before .before .before .before .before .before .before .before .before .before .before .args .at) 128 _ _ (c .before .before .before .before .loop .cursor) _ _ (c .before .before .before .before .loop .inv) _ _ (entry-nested (c .before .before .before .before .before .before .before .before .before .before .before .before .before .before .before .args .words .now) (c .before .before .before .before .before .before .before .before .before .before .before .before .before .before .before .args .fields .now) (c .before .before .before .before .before .before .before .before .before .before .before .before .before .before .before .args .message .now) (c .before .before .before .before .before .before .before .before .before .before .before .before .before .before .before .args .group) (c .before .before .before .before .before .before .before .before .before .before .before .before .before .before .before .args .start) (c .before .before .before .before .loop .cursor) _ (level-step (c .before .before .before .before .before .before .before .before .before .before .before .before .before .before .before .args .words .now) (c .before .before .before .before .before .before .before .before .before .before .before .before .before .before .before .args .group) _ _ _ _ (c .before .before .before .before .before .before .before .before .members-at .ensures) (c .before .before .before .before .before .before .before .before .before .delimiter-at .ensures) (c .before .before .before .before .before .before .before .count-tags-at .ensures) (c .before .before .before .before .before .before .first-group-of .ensures) (c .before .before .before .before .before .before .before .before .before .before .before .before .before .before .before .args .fields .now) (c .before .before .before .before .before .before .before .before .before .before .before .before .before .before .before .args .start) (c .before .before .before .before .loop .cursor) _ (c .before .before .before .step-at .ensures)) _ _ _ (c .before .rank2 .given .1) .0), level-length (c .before .before .before .before .before .before .before .before .before .before .before .before .before .before .before .args .words .now) (1 + c .before .before .before .before .before .before .before .before .before .before .before .before .before .before .before .args .group) _ (c .before .before .before .before .before .before .before .before .members-at .ensures), c .before .before .before .before .before .before .before .before .before .before .before .before .before .before .before .pre .1 .few-members)
 
 -- to = put_repeat(events, to, tag, depth, member, inserted.fresh);
 scan-wide-put-repeat-requires-2 : (t : ℕ) → scan-wide-lts.Need-put-repeat-requires-2 (scan-wide-claims t) (scan-wide-at t) scan-wide.Post scan-wide-Inv-loop scan-wide-μ-loop
-scan-wide-put-repeat-requires-2 t c κs = omega (arith, c .before .before .before .before .before .before .loop .inv .room, c .before .before .before .before .before .before .loop .inv .within, c .before .before .before .before .before .before .before .before .before .before .before .before .before .before .before .before .before .pre .1 .room, c .before .before .before .before .before .before .before .before .before .before .before .before .before .before .before .before .before .pre .1 .lent .table .few)
+scan-wide-put-repeat-requires-2 t c κs = omega (arith, c .before .before .before .before .before .before .before .loop .inv .room, c .before .before .before .before .before .before .before .loop .inv .within, c .before .before .before .before .before .before .before .before .before .before .before .before .before .before .before .before .before .before .pre .1 .room, c .before .before .before .before .before .before .before .before .before .before .before .before .before .before .before .before .before .before .pre .1 .lent .table .few)
 
 -- unparseable = spoilt_by(unparseable, inserted.fresh);
 scan-wide-spoilt-by-requires-2 : (t : ℕ) → scan-wide-lts.Need-spoilt-by-requires-2 (scan-wide-claims t) (scan-wide-at t) scan-wide.Post scan-wide-Inv-loop scan-wide-μ-loop
@@ -328,13 +328,13 @@ scan-wide-add-below t c = omega (arith, c .before .before .before .before .befor
 scan-wide-walk-group-requires : (t : ℕ) → scan-wide-lts.Need-walk-group-requires (scan-wide-claims t) (scan-wide-at t) scan-wide.Post scan-wide-Inv-loop scan-wide-μ-loop
 scan-wide-walk-group-requires t c κs =
     let inside = field-inside (c .before .before .before .before .before .before .before .before .before .before .before .before .before .before .before .before .before .before .before .before .before .before .before .args .words .now) (c .before .before .before .before .before .before .before .before .before .before .before .before .before .before .before .before .before .before .before .before .before .before .before .args .fields .now) (c .before .before .before .before .before .before .before .before .before .before .before .before .before .before .before .before .before .before .before .before .before .before .before .args .message .now) (c .before .before .before .before .before .before .before .before .before .before .before .before .before .before .before .before .before .before .before .before .before .before .before .pre .1 .lent .passed) (c .before .before .before .before .before .before .before .before .before .before .before .before .before .before .before .before .before .before .before .before .before .before .before .args .group) (c .before .before .before .before .before .before .before .before .before .before .before .before .before .before .before .before .before .before .before .before .before .before .before .pre .1 .lent .valid) (c .before .before .before .before .before .before .before .before .before .before .before .before .before .before .before .before .before .before .before .before .before .before .before .args .start) (c .before .before .before .before .before .before .before .before .before .before .before .before .before .before .before .before .before .before .before .before .before .before .before .args .depth) (c .before .before .before .before .before .before .before .before .before .before .before .before .before .before .before .before .before .before .before .before .before .before .before .args .events .now) (c .before .before .before .before .before .before .before .before .before .before .before .before .before .before .before .before .before .before .before .before .before .before .before .args .at) 128 _ _ (c .before .before .before .before .before .before .before .before .before .before .before .before .loop .cursor) _ _ (c .before .before .before .before .before .before .before .before .before .before .before .before .loop .inv) _ _ (entry-nested (c .before .before .before .before .before .before .before .before .before .before .before .before .before .before .before .before .before .before .before .before .before .before .before .args .words .now) (c .before .before .before .before .before .before .before .before .before .before .before .before .before .before .before .before .before .before .before .before .before .before .before .args .fields .now) (c .before .before .before .before .before .before .before .before .before .before .before .before .before .before .before .before .before .before .before .before .before .before .before .args .message .now) (c .before .before .before .before .before .before .before .before .before .before .before .before .before .before .before .before .before .before .before .before .before .before .before .args .group) (c .before .before .before .before .before .before .before .before .before .before .before .before .before .before .before .before .before .before .before .before .before .before .before .args .start) (c .before .before .before .before .before .before .before .before .before .before .before .before .loop .cursor) _ (level-step (c .before .before .before .before .before .before .before .before .before .before .before .before .before .before .before .before .before .before .before .before .before .before .before .args .words .now) (c .before .before .before .before .before .before .before .before .before .before .before .before .before .before .before .before .before .before .before .before .before .before .before .args .group) _ _ _ _ (c .before .before .before .before .before .before .before .before .before .before .before .before .before .before .before .before .members-at .ensures) (c .before .before .before .before .before .before .before .before .before .before .before .before .before .before .before .before .before .delimiter-at .ensures) (c .before .before .before .before .before .before .before .before .before .before .before .before .before .before .before .count-tags-at .ensures) (c .before .before .before .before .before .before .before .before .before .before .before .before .before .before .first-group-of .ensures) (c .before .before .before .before .before .before .before .before .before .before .before .before .before .before .before .before .before .before .before .before .before .before .before .args .fields .now) (c .before .before .before .before .before .before .before .before .before .before .before .before .before .before .before .before .before .before .before .before .before .before .before .args .start) (c .before .before .before .before .before .before .before .before .before .before .before .before .loop .cursor) _ (c .before .before .before .before .before .before .before .before .before .before .before .step-at .ensures)) _ _ _ (c .before .before .before .before .before .before .before .before .before .rank2 .given .1) .0) in
-    let repeats = repeat-room (c .before .before .before .before .before .before .before .before .before .before .before .before .before .before .before .before .before .before .before .before .before .before .before .args .words .now) (c .before .before .before .before .before .before .before .before .before .before .before .before .before .before .before .before .before .before .before .before .before .before .before .args .fields .now) (c .before .before .before .before .before .before .before .before .before .before .before .before .before .before .before .before .before .before .before .before .before .before .before .args .message .now) (c .before .before .before .before .before .before .before .before .before .before .before .before .before .before .before .before .before .before .before .before .before .before .before .pre .1 .lent .passed) (c .before .before .before .before .before .before .before .before .before .before .before .before .before .before .before .before .before .before .before .before .before .before .before .args .group) (c .before .before .before .before .before .before .before .before .before .before .before .before .before .before .before .before .before .before .before .before .before .before .before .pre .1 .lent .valid) (c .before .before .before .before .before .before .before .before .before .before .before .before .before .before .before .before .before .before .before .before .before .before .before .args .start) (c .before .before .before .before .before .before .before .before .before .before .before .before .before .before .before .before .before .before .before .before .before .before .before .args .depth) (c .before .before .before .before .before .before .before .before .before .before .before .before .before .before .before .before .before .before .before .before .before .before .before .args .events .now) (c .before .before .before .before .before .before .before .before .before .before .before .before .before .before .before .before .before .before .before .before .before .before .before .args .at) 128 _ _ (c .before .before .before .before .before .before .before .before .before .before .before .before .loop .cursor) _ _ (c .before .before .before .before .before .before .before .before .before .before .before .before .loop .inv) _ _ (entry-nested (c .before .before .before .before .before .before .before .before .before .before .before .before .before .before .before .before .before .before .before .before .before .before .before .args .words .now) (c .before .before .before .before .before .before .before .before .before .before .before .before .before .before .before .before .before .before .before .before .before .before .before .args .fields .now) (c .before .before .before .before .before .before .before .before .before .before .before .before .before .before .before .before .before .before .before .before .before .before .before .args .message .now) (c .before .before .before .before .before .before .before .before .before .before .before .before .before .before .before .before .before .before .before .before .before .before .before .args .group) (c .before .before .before .before .before .before .before .before .before .before .before .before .before .before .before .before .before .before .before .before .before .before .before .args .start) (c .before .before .before .before .before .before .before .before .before .before .before .before .loop .cursor) _ (level-step (c .before .before .before .before .before .before .before .before .before .before .before .before .before .before .before .before .before .before .before .before .before .before .before .args .words .now) (c .before .before .before .before .before .before .before .before .before .before .before .before .before .before .before .before .before .before .before .before .before .before .before .args .group) _ _ _ _ (c .before .before .before .before .before .before .before .before .before .before .before .before .before .before .before .before .members-at .ensures) (c .before .before .before .before .before .before .before .before .before .before .before .before .before .before .before .before .before .delimiter-at .ensures) (c .before .before .before .before .before .before .before .before .before .before .before .before .before .before .before .count-tags-at .ensures) (c .before .before .before .before .before .before .before .before .before .before .before .before .before .before .first-group-of .ensures) (c .before .before .before .before .before .before .before .before .before .before .before .before .before .before .before .before .before .before .before .before .before .before .before .args .fields .now) (c .before .before .before .before .before .before .before .before .before .before .before .before .before .before .before .before .before .before .before .before .before .before .before .args .start) (c .before .before .before .before .before .before .before .before .before .before .before .before .loop .cursor) _ (c .before .before .before .before .before .before .before .before .before .before .before .step-at .ensures)) _ _ _ (c .before .before .before .before .before .before .before .before .before .rank2 .given .1) .0) _ _ (c .before .before .before .before .before .before .before .insert-rank2 .ensures .0) (c .before .before .before .before .before .before .before .insert-rank2 .ensures .1) _ (c .before .before .before .before .before .before .before .before .before .before .before .before .before .before .before .before .before .before .count-tag-at .ensures) _ _ (c .before .before .before .before .before .put-repeat2 .ensures) in (
+    let repeats = repeat-room (c .before .before .before .before .before .before .before .before .before .before .before .before .before .before .before .before .before .before .before .before .before .before .before .args .words .now) (c .before .before .before .before .before .before .before .before .before .before .before .before .before .before .before .before .before .before .before .before .before .before .before .args .fields .now) (c .before .before .before .before .before .before .before .before .before .before .before .before .before .before .before .before .before .before .before .before .before .before .before .args .message .now) (c .before .before .before .before .before .before .before .before .before .before .before .before .before .before .before .before .before .before .before .before .before .before .before .pre .1 .lent .passed) (c .before .before .before .before .before .before .before .before .before .before .before .before .before .before .before .before .before .before .before .before .before .before .before .args .group) (c .before .before .before .before .before .before .before .before .before .before .before .before .before .before .before .before .before .before .before .before .before .before .before .pre .1 .lent .valid) (c .before .before .before .before .before .before .before .before .before .before .before .before .before .before .before .before .before .before .before .before .before .before .before .args .start) (c .before .before .before .before .before .before .before .before .before .before .before .before .before .before .before .before .before .before .before .before .before .before .before .args .depth) (c .before .before .before .before .before .before .before .before .before .before .before .before .before .before .before .before .before .before .before .before .before .before .before .args .events .now) (c .before .before .before .before .before .before .before .before .before .before .before .before .before .before .before .before .before .before .before .before .before .before .before .args .at) 128 _ _ (c .before .before .before .before .before .before .before .before .before .before .before .before .loop .cursor) _ _ (c .before .before .before .before .before .before .before .before .before .before .before .before .loop .inv) _ _ (entry-nested (c .before .before .before .before .before .before .before .before .before .before .before .before .before .before .before .before .before .before .before .before .before .before .before .args .words .now) (c .before .before .before .before .before .before .before .before .before .before .before .before .before .before .before .before .before .before .before .before .before .before .before .args .fields .now) (c .before .before .before .before .before .before .before .before .before .before .before .before .before .before .before .before .before .before .before .before .before .before .before .args .message .now) (c .before .before .before .before .before .before .before .before .before .before .before .before .before .before .before .before .before .before .before .before .before .before .before .args .group) (c .before .before .before .before .before .before .before .before .before .before .before .before .before .before .before .before .before .before .before .before .before .before .before .args .start) (c .before .before .before .before .before .before .before .before .before .before .before .before .loop .cursor) _ (level-step (c .before .before .before .before .before .before .before .before .before .before .before .before .before .before .before .before .before .before .before .before .before .before .before .args .words .now) (c .before .before .before .before .before .before .before .before .before .before .before .before .before .before .before .before .before .before .before .before .before .before .before .args .group) _ _ _ _ (c .before .before .before .before .before .before .before .before .before .before .before .before .before .before .before .before .members-at .ensures) (c .before .before .before .before .before .before .before .before .before .before .before .before .before .before .before .before .before .delimiter-at .ensures) (c .before .before .before .before .before .before .before .before .before .before .before .before .before .before .before .count-tags-at .ensures) (c .before .before .before .before .before .before .before .before .before .before .before .before .before .before .first-group-of .ensures) (c .before .before .before .before .before .before .before .before .before .before .before .before .before .before .before .before .before .before .before .before .before .before .before .args .fields .now) (c .before .before .before .before .before .before .before .before .before .before .before .before .before .before .before .before .before .before .before .before .before .before .before .args .start) (c .before .before .before .before .before .before .before .before .before .before .before .before .loop .cursor) _ (c .before .before .before .before .before .before .before .before .before .before .before .step-at .ensures)) _ _ _ (c .before .before .before .before .before .before .before .before .before .rank2 .given .1) .0) _ _ (c .before .before .before .before .before .before .before .insert-rank2 .ensures .0) (c .before .before .before .before .before .before .before .insert-rank2 .ensures .1) _ (c .before .before .before .before .before .before .before .before .before .before .before .before .before .before .before .before .before .before .count-tag-at .ensures) _ _ (c .before .before .before .before .put-repeat2 .ensures) in (
       omega (arith, c .before .before .before .before .before .before .before .before .before .before .before .before .before .before .before .before .before .before .before .before .before .before .before .pre .0, inside, c .before .before .before .before .before .before .before .before .before .before .before .before .loop .inv .ahead, c .before .before .before .before .before .before .before .before .before .before .before .before .before .before .before .before .before .before .before .before .before .before .before .pre .1 .shallow),
       record {
         lent = record {
           passed = c .before .before .before .before .before .before .before .before .before .before .before .before .before .before .before .before .before .before .before .before .before .before .before .pre .1 .lent .passed;
           few-groups = c .before .before .before .before .before .before .before .before .before .before .before .before .before .before .before .before .before .before .before .before .before .before .before .pre .1 .lent .few-groups;
-          valid = inner-valid (c .before .before .before .before .before .before .before .before .before .before .before .before .before .before .before .before .before .before .before .before .before .before .before .args .words .now) (c .before .before .before .before .before .before .before .before .before .before .before .before .before .before .before .before .before .before .before .before .before .before .before .args .fields .now) (c .before .before .before .before .before .before .before .before .before .before .before .before .before .before .before .before .before .before .before .before .before .before .before .args .message .now) (c .before .before .before .before .before .before .before .before .before .before .before .before .before .before .before .before .before .before .before .before .before .before .before .pre .1 .lent .passed) (c .before .before .before .before .before .before .before .before .before .before .before .before .before .before .before .before .before .before .before .before .before .before .before .args .group) (c .before .before .before .before .before .before .before .before .before .before .before .before .before .before .before .before .before .before .before .before .before .before .before .pre .1 .lent .valid) (c .before .before .before .before .before .before .before .before .before .before .before .before .before .before .before .before .before .before .before .before .before .before .before .args .start) (c .before .before .before .before .before .before .before .before .before .before .before .before .before .before .before .before .before .before .before .before .before .before .before .args .depth) (c .before .before .before .before .before .before .before .before .before .before .before .before .before .before .before .before .before .before .before .before .before .before .before .args .events .now) (c .before .before .before .before .before .before .before .before .before .before .before .before .before .before .before .before .before .before .before .before .before .before .before .args .at) 128 _ _ (c .before .before .before .before .before .before .before .before .before .before .before .before .loop .cursor) _ _ (c .before .before .before .before .before .before .before .before .before .before .before .before .loop .inv) _ _ (entry-nested (c .before .before .before .before .before .before .before .before .before .before .before .before .before .before .before .before .before .before .before .before .before .before .before .args .words .now) (c .before .before .before .before .before .before .before .before .before .before .before .before .before .before .before .before .before .before .before .before .before .before .before .args .fields .now) (c .before .before .before .before .before .before .before .before .before .before .before .before .before .before .before .before .before .before .before .before .before .before .before .args .message .now) (c .before .before .before .before .before .before .before .before .before .before .before .before .before .before .before .before .before .before .before .before .before .before .before .args .group) (c .before .before .before .before .before .before .before .before .before .before .before .before .before .before .before .before .before .before .before .before .before .before .before .args .start) (c .before .before .before .before .before .before .before .before .before .before .before .before .loop .cursor) _ (level-step (c .before .before .before .before .before .before .before .before .before .before .before .before .before .before .before .before .before .before .before .before .before .before .before .args .words .now) (c .before .before .before .before .before .before .before .before .before .before .before .before .before .before .before .before .before .before .before .before .before .before .before .args .group) _ _ _ _ (c .before .before .before .before .before .before .before .before .before .before .before .before .before .before .before .before .members-at .ensures) (c .before .before .before .before .before .before .before .before .before .before .before .before .before .before .before .before .before .delimiter-at .ensures) (c .before .before .before .before .before .before .before .before .before .before .before .before .before .before .before .count-tags-at .ensures) (c .before .before .before .before .before .before .before .before .before .before .before .before .before .before .first-group-of .ensures) (c .before .before .before .before .before .before .before .before .before .before .before .before .before .before .before .before .before .before .before .before .before .before .before .args .fields .now) (c .before .before .before .before .before .before .before .before .before .before .before .before .before .before .before .before .before .before .before .before .before .before .before .args .start) (c .before .before .before .before .before .before .before .before .before .before .before .before .loop .cursor) _ (c .before .before .before .before .before .before .before .before .before .before .before .step-at .ensures)) _ _ _ (c .before .before .before .before .before .before .before .before .before .rank2 .given .1) .0) _ _ (c .before .before .before .before .before .before .before .insert-rank2 .ensures .0) (c .before .before .before .before .before .before .before .insert-rank2 .ensures .1) _ (c .before .before .before .before .before .before .before .before .before .before .before .before .before .before .before .before .before .before .count-tag-at .ensures) _ _ (c .before .before .before .before .before .put-repeat2 .ensures) _ (c .before .before .spoilt-by2 .ensures) _ (entry-nested (c .before .before .before .before .before .before .before .before .before .before .before .before .before .before .before .before .before .before .before .before .before .before .before .args .words .now) (c .before .before .before .before .before .before .before .before .before .before .before .before .before .before .before .before .before .before .before .before .before .before .before .args .fields .now) (c .before .before .before .before .before .before .before .before .before .before .before .before .before .before .before .before .before .before .before .before .before .before .before .args .message .now) (c .before .before .before .before .before .before .before .before .before .before .before .before .before .before .before .before .before .before .before .before .before .before .before .args .group) (c .before .before .before .before .before .before .before .before .before .before .before .before .before .before .before .before .before .before .before .before .before .before .before .args .start) (c .before .before .before .before .before .before .before .before .before .before .before .before .loop .cursor) _ (level-step (c .before .before .before .before .before .before .before .before .before .before .before .before .before .before .before .before .before .before .before .before .before .before .before .args .words .now) (c .before .before .before .before .before .before .before .before .before .before .before .before .before .before .before .before .before .before .before .before .before .before .before .args .group) _ _ _ _ (c .before .before .before .before .before .before .before .before .before .before .before .before .before .before .before .before .members-at .ensures) (c .before .before .before .before .before .before .before .before .before .before .before .before .before .before .before .before .before .delimiter-at .ensures) (c .before .before .before .before .before .before .before .before .before .before .before .before .before .before .before .count-tags-at .ensures) (c .before .before .before .before .before .before .before .before .before .before .before .before .before .before .first-group-of .ensures) (c .before .before .before .before .before .before .before .before .before .before .before .before .before .before .before .before .before .before .before .before .before .before .before .args .fields .now) (c .before .before .before .before .before .before .before .before .before .before .before .before .before .before .before .before .before .before .before .before .before .before .before .args .start) (c .before .before .before .before .before .before .before .before .before .before .before .before .loop .cursor) _ (c .before .before .before .before .before .before .before .before .before .before .before .step-at .ensures)) _ _ _ (c .before .before .before .before .before .before .before .before .before .rank2 .given .1) .1);
+          valid = inner-valid (c .before .before .before .before .before .before .before .before .before .before .before .before .before .before .before .before .before .before .before .before .before .before .before .args .words .now) (c .before .before .before .before .before .before .before .before .before .before .before .before .before .before .before .before .before .before .before .before .before .before .before .args .fields .now) (c .before .before .before .before .before .before .before .before .before .before .before .before .before .before .before .before .before .before .before .before .before .before .before .args .message .now) (c .before .before .before .before .before .before .before .before .before .before .before .before .before .before .before .before .before .before .before .before .before .before .before .pre .1 .lent .passed) (c .before .before .before .before .before .before .before .before .before .before .before .before .before .before .before .before .before .before .before .before .before .before .before .args .group) (c .before .before .before .before .before .before .before .before .before .before .before .before .before .before .before .before .before .before .before .before .before .before .before .pre .1 .lent .valid) (c .before .before .before .before .before .before .before .before .before .before .before .before .before .before .before .before .before .before .before .before .before .before .before .args .start) (c .before .before .before .before .before .before .before .before .before .before .before .before .before .before .before .before .before .before .before .before .before .before .before .args .depth) (c .before .before .before .before .before .before .before .before .before .before .before .before .before .before .before .before .before .before .before .before .before .before .before .args .events .now) (c .before .before .before .before .before .before .before .before .before .before .before .before .before .before .before .before .before .before .before .before .before .before .before .args .at) 128 _ _ (c .before .before .before .before .before .before .before .before .before .before .before .before .loop .cursor) _ _ (c .before .before .before .before .before .before .before .before .before .before .before .before .loop .inv) _ _ (entry-nested (c .before .before .before .before .before .before .before .before .before .before .before .before .before .before .before .before .before .before .before .before .before .before .before .args .words .now) (c .before .before .before .before .before .before .before .before .before .before .before .before .before .before .before .before .before .before .before .before .before .before .before .args .fields .now) (c .before .before .before .before .before .before .before .before .before .before .before .before .before .before .before .before .before .before .before .before .before .before .before .args .message .now) (c .before .before .before .before .before .before .before .before .before .before .before .before .before .before .before .before .before .before .before .before .before .before .before .args .group) (c .before .before .before .before .before .before .before .before .before .before .before .before .before .before .before .before .before .before .before .before .before .before .before .args .start) (c .before .before .before .before .before .before .before .before .before .before .before .before .loop .cursor) _ (level-step (c .before .before .before .before .before .before .before .before .before .before .before .before .before .before .before .before .before .before .before .before .before .before .before .args .words .now) (c .before .before .before .before .before .before .before .before .before .before .before .before .before .before .before .before .before .before .before .before .before .before .before .args .group) _ _ _ _ (c .before .before .before .before .before .before .before .before .before .before .before .before .before .before .before .before .members-at .ensures) (c .before .before .before .before .before .before .before .before .before .before .before .before .before .before .before .before .before .delimiter-at .ensures) (c .before .before .before .before .before .before .before .before .before .before .before .before .before .before .before .count-tags-at .ensures) (c .before .before .before .before .before .before .before .before .before .before .before .before .before .before .first-group-of .ensures) (c .before .before .before .before .before .before .before .before .before .before .before .before .before .before .before .before .before .before .before .before .before .before .before .args .fields .now) (c .before .before .before .before .before .before .before .before .before .before .before .before .before .before .before .before .before .before .before .before .before .before .before .args .start) (c .before .before .before .before .before .before .before .before .before .before .before .before .loop .cursor) _ (c .before .before .before .before .before .before .before .before .before .before .before .step-at .ensures)) _ _ _ (c .before .before .before .before .before .before .before .before .before .rank2 .given .1) .0) _ _ (c .before .before .before .before .before .before .before .insert-rank2 .ensures .0) (c .before .before .before .before .before .before .before .insert-rank2 .ensures .1) _ (c .before .before .before .before .before .before .before .before .before .before .before .before .before .before .before .before .before .before .count-tag-at .ensures) _ _ (c .before .before .before .before .put-repeat2 .ensures) _ (c .before .spoilt-by2 .ensures) _ (entry-nested (c .before .before .before .before .before .before .before .before .before .before .before .before .before .before .before .before .before .before .before .before .before .before .before .args .words .now) (c .before .before .before .before .before .before .before .before .before .before .before .before .before .before .before .before .before .before .before .before .before .before .before .args .fields .now) (c .before .before .before .before .before .before .before .before .before .before .before .before .before .before .before .before .before .before .before .before .before .before .before .args .message .now) (c .before .before .before .before .before .before .before .before .before .before .before .before .before .before .before .before .before .before .before .before .before .before .before .args .group) (c .before .before .before .before .before .before .before .before .before .before .before .before .before .before .before .before .before .before .before .before .before .before .before .args .start) (c .before .before .before .before .before .before .before .before .before .before .before .before .loop .cursor) _ (level-step (c .before .before .before .before .before .before .before .before .before .before .before .before .before .before .before .before .before .before .before .before .before .before .before .args .words .now) (c .before .before .before .before .before .before .before .before .before .before .before .before .before .before .before .before .before .before .before .before .before .before .before .args .group) _ _ _ _ (c .before .before .before .before .before .before .before .before .before .before .before .before .before .before .before .before .members-at .ensures) (c .before .before .before .before .before .before .before .before .before .before .before .before .before .before .before .before .before .delimiter-at .ensures) (c .before .before .before .before .before .before .before .before .before .before .before .before .before .before .before .count-tags-at .ensures) (c .before .before .before .before .before .before .before .before .before .before .before .before .before .before .first-group-of .ensures) (c .before .before .before .before .before .before .before .before .before .before .before .before .before .before .before .before .before .before .before .before .before .before .before .args .fields .now) (c .before .before .before .before .before .before .before .before .before .before .before .before .before .before .before .before .before .before .before .before .before .before .before .args .start) (c .before .before .before .before .before .before .before .before .before .before .before .before .loop .cursor) _ (c .before .before .before .before .before .before .before .before .before .before .before .step-at .ensures)) _ _ _ (c .before .before .before .before .before .before .before .before .before .rank2 .given .1) .1);
           table = c .before .before .before .before .before .before .before .before .before .before .before .before .before .before .before .before .before .before .before .before .before .before .before .pre .1 .lent .table;
         };
         around = level-ascends (c .before .before .before .before .before .before .before .before .before .before .before .before .before .before .before .before .before .before .before .before .before .before .before .args .words .now) (c .before .before .before .before .before .before .before .before .before .before .before .before .before .before .before .before .before .before .before .before .before .before .before .pre .1 .lent .passed) (c .before .before .before .before .before .before .before .before .before .before .before .before .before .before .before .before .before .before .before .before .before .before .before .args .group) (c .before .before .before .before .before .before .before .before .before .before .before .before .before .before .before .before .before .before .before .before .before .before .before .pre .1 .lent .valid) _ (c .before .before .before .before .before .before .before .before .before .before .before .before .before .before .before .before .members-at .ensures);
@@ -347,10 +347,10 @@ scan-wide-walk-group-requires t c κs =
 scan-wide-loop-less-2 : (t : ℕ) → scan-wide-lts.Need-loop-less-2 (scan-wide-claims t) (scan-wide-at t) scan-wide.Post scan-wide-Inv-loop scan-wide-μ-loop
 scan-wide-loop-less-2 t c =
     let inside = field-inside (c .before .before .before .before .before .before .before .before .before .before .before .before .before .before .before .before .before .before .before .before .before .before .before .before .before .before .args .words .now) (c .before .before .before .before .before .before .before .before .before .before .before .before .before .before .before .before .before .before .before .before .before .before .before .before .before .before .args .fields .now) (c .before .before .before .before .before .before .before .before .before .before .before .before .before .before .before .before .before .before .before .before .before .before .before .before .before .before .args .message .now) (c .before .before .before .before .before .before .before .before .before .before .before .before .before .before .before .before .before .before .before .before .before .before .before .before .before .before .pre .1 .lent .passed) (c .before .before .before .before .before .before .before .before .before .before .before .before .before .before .before .before .before .before .before .before .before .before .before .before .before .before .args .group) (c .before .before .before .before .before .before .before .before .before .before .before .before .before .before .before .before .before .before .before .before .before .before .before .before .before .before .pre .1 .lent .valid) (c .before .before .before .before .before .before .before .before .before .before .before .before .before .before .before .before .before .before .before .before .before .before .before .before .before .before .args .start) (c .before .before .before .before .before .before .before .before .before .before .before .before .before .before .before .before .before .before .before .before .before .before .before .before .before .before .args .depth) (c .before .before .before .before .before .before .before .before .before .before .before .before .before .before .before .before .before .before .before .before .before .before .before .before .before .before .args .events .now) (c .before .before .before .before .before .before .before .before .before .before .before .before .before .before .before .before .before .before .before .before .before .before .before .before .before .before .args .at) 128 _ _ (c .before .before .before .before .before .before .before .before .before .before .before .before .before .before .before .loop .cursor) _ _ (c .before .before .before .before .before .before .before .before .before .before .before .before .before .before .before .loop .inv) _ _ (entry-nested (c .before .before .before .before .before .before .before .before .before .before .before .before .before .before .before .before .before .before .before .before .before .before .before .before .before .before .args .words .now) (c .before .before .before .before .before .before .before .before .before .before .before .before .before .before .before .before .before .before .before .before .before .before .before .before .before .before .args .fields .now) (c .before .before .before .before .before .before .before .before .before .before .before .before .before .before .before .before .before .before .before .before .before .before .before .before .before .before .args .message .now) (c .before .before .before .before .before .before .before .before .before .before .before .before .before .before .before .before .before .before .before .before .before .before .before .before .before .before .args .group) (c .before .before .before .before .before .before .before .before .before .before .before .before .before .before .before .before .before .before .before .before .before .before .before .before .before .before .args .start) (c .before .before .before .before .before .before .before .before .before .before .before .before .before .before .before .loop .cursor) _ (level-step (c .before .before .before .before .before .before .before .before .before .before .before .before .before .before .before .before .before .before .before .before .before .before .before .before .before .before .args .words .now) (c .before .before .before .before .before .before .before .before .before .before .before .before .before .before .before .before .before .before .before .before .before .before .before .before .before .before .args .group) _ _ _ _ (c .before .before .before .before .before .before .before .before .before .before .before .before .before .before .before .before .before .before .before .members-at .ensures) (c .before .before .before .before .before .before .before .before .before .before .before .before .before .before .before .before .before .before .before .before .delimiter-at .ensures) (c .before .before .before .before .before .before .before .before .before .before .before .before .before .before .before .before .before .before .count-tags-at .ensures) (c .before .before .before .before .before .before .before .before .before .before .before .before .before .before .before .before .before .first-group-of .ensures) (c .before .before .before .before .before .before .before .before .before .before .before .before .before .before .before .before .before .before .before .before .before .before .before .before .before .before .args .fields .now) (c .before .before .before .before .before .before .before .before .before .before .before .before .before .before .before .before .before .before .before .before .before .before .before .before .before .before .args .start) (c .before .before .before .before .before .before .before .before .before .before .before .before .before .before .before .loop .cursor) _ (c .before .before .before .before .before .before .before .before .before .before .before .before .before .before .step-at .ensures)) _ _ _ (c .before .before .before .before .before .before .before .before .before .before .before .before .rank2 .given .1) .0) in
-    omega (arith, inside, nested-moves (c .before .before .before .before .before .before .before .before .before .before .before .before .before .before .before .before .before .before .before .before .before .before .before .before .before .before .args .words .now) (c .before .before .before .before .before .before .before .before .before .before .before .before .before .before .before .before .before .before .before .before .before .before .before .before .before .before .args .fields .now) (c .before .before .before .before .before .before .before .before .before .before .before .before .before .before .before .before .before .before .before .before .before .before .before .before .before .before .args .message .now) (c .before .before .before .before .before .before .before .before .before .before .before .before .before .before .before .before .before .before .before .before .before .before .before .before .before .before .pre .1 .lent .passed) (c .before .before .before .before .before .before .before .before .before .before .before .before .before .before .before .before .before .before .before .before .before .before .before .before .before .before .args .group) (c .before .before .before .before .before .before .before .before .before .before .before .before .before .before .before .before .before .before .before .before .before .before .before .before .before .before .pre .1 .lent .valid) (c .before .before .before .before .before .before .before .before .before .before .before .before .before .before .before .before .before .before .before .before .before .before .before .before .before .before .args .start) (c .before .before .before .before .before .before .before .before .before .before .before .before .before .before .before .before .before .before .before .before .before .before .before .before .before .before .args .depth) (c .before .before .before .before .before .before .before .before .before .before .before .before .before .before .before .before .before .before .before .before .before .before .before .before .before .before .args .events .now) (c .before .before .before .before .before .before .before .before .before .before .before .before .before .before .before .before .before .before .before .before .before .before .before .before .before .before .args .at) 128 _ _ (c .before .before .before .before .before .before .before .before .before .before .before .before .before .before .before .loop .cursor) _ _ (c .before .before .before .before .before .before .before .before .before .before .before .before .before .before .before .loop .inv) _ _ (entry-nested (c .before .before .before .before .before .before .before .before .before .before .before .before .before .before .before .before .before .before .before .before .before .before .before .before .before .before .args .words .now) (c .before .before .before .before .before .before .before .before .before .before .before .before .before .before .before .before .before .before .before .before .before .before .before .before .before .before .args .fields .now) (c .before .before .before .before .before .before .before .before .before .before .before .before .before .before .before .before .before .before .before .before .before .before .before .before .before .before .args .message .now) (c .before .before .before .before .before .before .before .before .before .before .before .before .before .before .before .before .before .before .before .before .before .before .before .before .before .before .args .group) (c .before .before .before .before .before .before .before .before .before .before .before .before .before .before .before .before .before .before .before .before .before .before .before .before .before .before .args .start) (c .before .before .before .before .before .before .before .before .before .before .before .before .before .before .before .loop .cursor) _ (level-step (c .before .before .before .before .before .before .before .before .before .before .before .before .before .before .before .before .before .before .before .before .before .before .before .before .before .before .args .words .now) (c .before .before .before .before .before .before .before .before .before .before .before .before .before .before .before .before .before .before .before .before .before .before .before .before .before .before .args .group) _ _ _ _ (c .before .before .before .before .before .before .before .before .before .before .before .before .before .before .before .before .before .before .before .members-at .ensures) (c .before .before .before .before .before .before .before .before .before .before .before .before .before .before .before .before .before .before .before .before .delimiter-at .ensures) (c .before .before .before .before .before .before .before .before .before .before .before .before .before .before .before .before .before .before .count-tags-at .ensures) (c .before .before .before .before .before .before .before .before .before .before .before .before .before .before .before .before .before .first-group-of .ensures) (c .before .before .before .before .before .before .before .before .before .before .before .before .before .before .before .before .before .before .before .before .before .before .before .before .before .before .args .fields .now) (c .before .before .before .before .before .before .before .before .before .before .before .before .before .before .before .before .before .before .before .before .before .before .before .before .before .before .args .start) (c .before .before .before .before .before .before .before .before .before .before .before .before .before .before .before .loop .cursor) _ (c .before .before .before .before .before .before .before .before .before .before .before .before .before .before .step-at .ensures)) _ _ _ (c .before .before .before .before .before .before .before .before .before .before .before .before .rank2 .given .1) .0) _ _ (c .before .before .before .before .before .before .before .before .before .before .insert-rank2 .ensures .0) (c .before .before .before .before .before .before .before .before .before .before .insert-rank2 .ensures .1) _ (c .before .before .before .before .before .before .before .before .before .before .before .before .before .before .before .before .before .before .before .before .before .count-tag-at .ensures) _ _ (c .before .before .before .before .before .before .before .before .put-repeat2 .ensures) _ (c .before .before .before .before .before .spoilt-by2 .ensures) _ (entry-nested (c .before .before .before .before .before .before .before .before .before .before .before .before .before .before .before .before .before .before .before .before .before .before .before .before .before .before .args .words .now) (c .before .before .before .before .before .before .before .before .before .before .before .before .before .before .before .before .before .before .before .before .before .before .before .before .before .before .args .fields .now) (c .before .before .before .before .before .before .before .before .before .before .before .before .before .before .before .before .before .before .before .before .before .before .before .before .before .before .args .message .now) (c .before .before .before .before .before .before .before .before .before .before .before .before .before .before .before .before .before .before .before .before .before .before .before .before .before .before .args .group) (c .before .before .before .before .before .before .before .before .before .before .before .before .before .before .before .before .before .before .before .before .before .before .before .before .before .before .args .start) (c .before .before .before .before .before .before .before .before .before .before .before .before .before .before .before .loop .cursor) _ (level-step (c .before .before .before .before .before .before .before .before .before .before .before .before .before .before .before .before .before .before .before .before .before .before .before .before .before .before .args .words .now) (c .before .before .before .before .before .before .before .before .before .before .before .before .before .before .before .before .before .before .before .before .before .before .before .before .before .before .args .group) _ _ _ _ (c .before .before .before .before .before .before .before .before .before .before .before .before .before .before .before .before .before .before .before .members-at .ensures) (c .before .before .before .before .before .before .before .before .before .before .before .before .before .before .before .before .before .before .before .before .delimiter-at .ensures) (c .before .before .before .before .before .before .before .before .before .before .before .before .before .before .before .before .before .before .count-tags-at .ensures) (c .before .before .before .before .before .before .before .before .before .before .before .before .before .before .before .before .before .first-group-of .ensures) (c .before .before .before .before .before .before .before .before .before .before .before .before .before .before .before .before .before .before .before .before .before .before .before .before .before .before .args .fields .now) (c .before .before .before .before .before .before .before .before .before .before .before .before .before .before .before .before .before .before .before .before .before .before .before .before .before .before .args .start) (c .before .before .before .before .before .before .before .before .before .before .before .before .before .before .before .loop .cursor) _ (c .before .before .before .before .before .before .before .before .before .before .before .before .before .before .step-at .ensures)) _ _ _ (c .before .before .before .before .before .before .before .before .before .before .before .before .rank2 .given .1) .1) _ _ _ _ (c .before .before .before .before .before .before .before .before .before .before .before .before .before .before .before .before .before .before .before .members-at .ensures) (c .before .before .walk-group .ensures))
+    omega (arith, inside, nested-moves (c .before .before .before .before .before .before .before .before .before .before .before .before .before .before .before .before .before .before .before .before .before .before .before .before .before .before .args .words .now) (c .before .before .before .before .before .before .before .before .before .before .before .before .before .before .before .before .before .before .before .before .before .before .before .before .before .before .args .fields .now) (c .before .before .before .before .before .before .before .before .before .before .before .before .before .before .before .before .before .before .before .before .before .before .before .before .before .before .args .message .now) (c .before .before .before .before .before .before .before .before .before .before .before .before .before .before .before .before .before .before .before .before .before .before .before .before .before .before .pre .1 .lent .passed) (c .before .before .before .before .before .before .before .before .before .before .before .before .before .before .before .before .before .before .before .before .before .before .before .before .before .before .args .group) (c .before .before .before .before .before .before .before .before .before .before .before .before .before .before .before .before .before .before .before .before .before .before .before .before .before .before .pre .1 .lent .valid) (c .before .before .before .before .before .before .before .before .before .before .before .before .before .before .before .before .before .before .before .before .before .before .before .before .before .before .args .start) (c .before .before .before .before .before .before .before .before .before .before .before .before .before .before .before .before .before .before .before .before .before .before .before .before .before .before .args .depth) (c .before .before .before .before .before .before .before .before .before .before .before .before .before .before .before .before .before .before .before .before .before .before .before .before .before .before .args .events .now) (c .before .before .before .before .before .before .before .before .before .before .before .before .before .before .before .before .before .before .before .before .before .before .before .before .before .before .args .at) 128 _ _ (c .before .before .before .before .before .before .before .before .before .before .before .before .before .before .before .loop .cursor) _ _ (c .before .before .before .before .before .before .before .before .before .before .before .before .before .before .before .loop .inv) _ _ (entry-nested (c .before .before .before .before .before .before .before .before .before .before .before .before .before .before .before .before .before .before .before .before .before .before .before .before .before .before .args .words .now) (c .before .before .before .before .before .before .before .before .before .before .before .before .before .before .before .before .before .before .before .before .before .before .before .before .before .before .args .fields .now) (c .before .before .before .before .before .before .before .before .before .before .before .before .before .before .before .before .before .before .before .before .before .before .before .before .before .before .args .message .now) (c .before .before .before .before .before .before .before .before .before .before .before .before .before .before .before .before .before .before .before .before .before .before .before .before .before .before .args .group) (c .before .before .before .before .before .before .before .before .before .before .before .before .before .before .before .before .before .before .before .before .before .before .before .before .before .before .args .start) (c .before .before .before .before .before .before .before .before .before .before .before .before .before .before .before .loop .cursor) _ (level-step (c .before .before .before .before .before .before .before .before .before .before .before .before .before .before .before .before .before .before .before .before .before .before .before .before .before .before .args .words .now) (c .before .before .before .before .before .before .before .before .before .before .before .before .before .before .before .before .before .before .before .before .before .before .before .before .before .before .args .group) _ _ _ _ (c .before .before .before .before .before .before .before .before .before .before .before .before .before .before .before .before .before .before .before .members-at .ensures) (c .before .before .before .before .before .before .before .before .before .before .before .before .before .before .before .before .before .before .before .before .delimiter-at .ensures) (c .before .before .before .before .before .before .before .before .before .before .before .before .before .before .before .before .before .before .count-tags-at .ensures) (c .before .before .before .before .before .before .before .before .before .before .before .before .before .before .before .before .before .first-group-of .ensures) (c .before .before .before .before .before .before .before .before .before .before .before .before .before .before .before .before .before .before .before .before .before .before .before .before .before .before .args .fields .now) (c .before .before .before .before .before .before .before .before .before .before .before .before .before .before .before .before .before .before .before .before .before .before .before .before .before .before .args .start) (c .before .before .before .before .before .before .before .before .before .before .before .before .before .before .before .loop .cursor) _ (c .before .before .before .before .before .before .before .before .before .before .before .before .before .before .step-at .ensures)) _ _ _ (c .before .before .before .before .before .before .before .before .before .before .before .before .rank2 .given .1) .0) _ _ (c .before .before .before .before .before .before .before .before .before .before .insert-rank2 .ensures .0) (c .before .before .before .before .before .before .before .before .before .before .insert-rank2 .ensures .1) _ (c .before .before .before .before .before .before .before .before .before .before .before .before .before .before .before .before .before .before .before .before .before .count-tag-at .ensures) _ _ (c .before .before .before .before .before .before .before .put-repeat2 .ensures) _ (c .before .before .before .before .spoilt-by2 .ensures) _ (entry-nested (c .before .before .before .before .before .before .before .before .before .before .before .before .before .before .before .before .before .before .before .before .before .before .before .before .before .before .args .words .now) (c .before .before .before .before .before .before .before .before .before .before .before .before .before .before .before .before .before .before .before .before .before .before .before .before .before .before .args .fields .now) (c .before .before .before .before .before .before .before .before .before .before .before .before .before .before .before .before .before .before .before .before .before .before .before .before .before .before .args .message .now) (c .before .before .before .before .before .before .before .before .before .before .before .before .before .before .before .before .before .before .before .before .before .before .before .before .before .before .args .group) (c .before .before .before .before .before .before .before .before .before .before .before .before .before .before .before .before .before .before .before .before .before .before .before .before .before .before .args .start) (c .before .before .before .before .before .before .before .before .before .before .before .before .before .before .before .loop .cursor) _ (level-step (c .before .before .before .before .before .before .before .before .before .before .before .before .before .before .before .before .before .before .before .before .before .before .before .before .before .before .args .words .now) (c .before .before .before .before .before .before .before .before .before .before .before .before .before .before .before .before .before .before .before .before .before .before .before .before .before .before .args .group) _ _ _ _ (c .before .before .before .before .before .before .before .before .before .before .before .before .before .before .before .before .before .before .before .members-at .ensures) (c .before .before .before .before .before .before .before .before .before .before .before .before .before .before .before .before .before .before .before .before .delimiter-at .ensures) (c .before .before .before .before .before .before .before .before .before .before .before .before .before .before .before .before .before .before .count-tags-at .ensures) (c .before .before .before .before .before .before .before .before .before .before .before .before .before .before .before .before .before .first-group-of .ensures) (c .before .before .before .before .before .before .before .before .before .before .before .before .before .before .before .before .before .before .before .before .before .before .before .before .before .before .args .fields .now) (c .before .before .before .before .before .before .before .before .before .before .before .before .before .before .before .before .before .before .before .before .before .before .before .before .before .before .args .start) (c .before .before .before .before .before .before .before .before .before .before .before .before .before .before .before .loop .cursor) _ (c .before .before .before .before .before .before .before .before .before .before .before .before .before .before .step-at .ensures)) _ _ _ (c .before .before .before .before .before .before .before .before .before .before .before .before .rank2 .given .1) .1) _ _ _ _ (c .before .before .before .before .before .before .before .before .before .before .before .before .before .before .before .before .before .before .before .members-at .ensures) (c .before .before .walk-group .ensures))
 
 scan-wide-loop-again-2 : (t : ℕ) → scan-wide-lts.Need-loop-again-2 (scan-wide-claims t) (scan-wide-at t) scan-wide.Post scan-wide-Inv-loop scan-wide-μ-loop
-scan-wide-loop-again-2 t c = entry-adds-nested (c .before .before .before .before .before .before .before .before .before .before .before .before .before .before .before .before .before .before .before .before .before .before .before .before .before .before .args .words .now) (c .before .before .before .before .before .before .before .before .before .before .before .before .before .before .before .before .before .before .before .before .before .before .before .before .before .before .args .fields .now) (c .before .before .before .before .before .before .before .before .before .before .before .before .before .before .before .before .before .before .before .before .before .before .before .before .before .before .args .message .now) (c .before .before .before .before .before .before .before .before .before .before .before .before .before .before .before .before .before .before .before .before .before .before .before .before .before .before .pre .1 .lent .passed) (c .before .before .before .before .before .before .before .before .before .before .before .before .before .before .before .before .before .before .before .before .before .before .before .before .before .before .args .group) (c .before .before .before .before .before .before .before .before .before .before .before .before .before .before .before .before .before .before .before .before .before .before .before .before .before .before .pre .1 .lent .valid) (c .before .before .before .before .before .before .before .before .before .before .before .before .before .before .before .before .before .before .before .before .before .before .before .before .before .before .args .start) (c .before .before .before .before .before .before .before .before .before .before .before .before .before .before .before .before .before .before .before .before .before .before .before .before .before .before .args .depth) (c .before .before .before .before .before .before .before .before .before .before .before .before .before .before .before .before .before .before .before .before .before .before .before .before .before .before .args .events .now) (c .before .before .before .before .before .before .before .before .before .before .before .before .before .before .before .before .before .before .before .before .before .before .before .before .before .before .args .at) 128 _ _ (c .before .before .before .before .before .before .before .before .before .before .before .before .before .before .before .loop .cursor) _ _ (c .before .before .before .before .before .before .before .before .before .before .before .before .before .before .before .loop .inv) _ _ (entry-nested (c .before .before .before .before .before .before .before .before .before .before .before .before .before .before .before .before .before .before .before .before .before .before .before .before .before .before .args .words .now) (c .before .before .before .before .before .before .before .before .before .before .before .before .before .before .before .before .before .before .before .before .before .before .before .before .before .before .args .fields .now) (c .before .before .before .before .before .before .before .before .before .before .before .before .before .before .before .before .before .before .before .before .before .before .before .before .before .before .args .message .now) (c .before .before .before .before .before .before .before .before .before .before .before .before .before .before .before .before .before .before .before .before .before .before .before .before .before .before .args .group) (c .before .before .before .before .before .before .before .before .before .before .before .before .before .before .before .before .before .before .before .before .before .before .before .before .before .before .args .start) (c .before .before .before .before .before .before .before .before .before .before .before .before .before .before .before .loop .cursor) _ (level-step (c .before .before .before .before .before .before .before .before .before .before .before .before .before .before .before .before .before .before .before .before .before .before .before .before .before .before .args .words .now) (c .before .before .before .before .before .before .before .before .before .before .before .before .before .before .before .before .before .before .before .before .before .before .before .before .before .before .args .group) _ _ _ _ (c .before .before .before .before .before .before .before .before .before .before .before .before .before .before .before .before .before .before .before .members-at .ensures) (c .before .before .before .before .before .before .before .before .before .before .before .before .before .before .before .before .before .before .before .before .delimiter-at .ensures) (c .before .before .before .before .before .before .before .before .before .before .before .before .before .before .before .before .before .before .count-tags-at .ensures) (c .before .before .before .before .before .before .before .before .before .before .before .before .before .before .before .before .before .first-group-of .ensures) (c .before .before .before .before .before .before .before .before .before .before .before .before .before .before .before .before .before .before .before .before .before .before .before .before .before .before .args .fields .now) (c .before .before .before .before .before .before .before .before .before .before .before .before .before .before .before .before .before .before .before .before .before .before .before .before .before .before .args .start) (c .before .before .before .before .before .before .before .before .before .before .before .before .before .before .before .loop .cursor) _ (c .before .before .before .before .before .before .before .before .before .before .before .before .before .before .step-at .ensures)) _ _ _ (c .before .before .before .before .before .before .before .before .before .before .before .before .rank2 .given .1) .0) _ _ (c .before .before .before .before .before .before .before .before .before .before .insert-rank2 .ensures .0) (c .before .before .before .before .before .before .before .before .before .before .insert-rank2 .ensures .1) _ (c .before .before .before .before .before .before .before .before .before .before .before .before .before .before .before .before .before .before .before .before .before .count-tag-at .ensures) _ _ (c .before .before .before .before .before .before .before .before .put-repeat2 .ensures) _ (c .before .before .before .before .before .spoilt-by2 .ensures) _ (entry-nested (c .before .before .before .before .before .before .before .before .before .before .before .before .before .before .before .before .before .before .before .before .before .before .before .before .before .before .args .words .now) (c .before .before .before .before .before .before .before .before .before .before .before .before .before .before .before .before .before .before .before .before .before .before .before .before .before .before .args .fields .now) (c .before .before .before .before .before .before .before .before .before .before .before .before .before .before .before .before .before .before .before .before .before .before .before .before .before .before .args .message .now) (c .before .before .before .before .before .before .before .before .before .before .before .before .before .before .before .before .before .before .before .before .before .before .before .before .before .before .args .group) (c .before .before .before .before .before .before .before .before .before .before .before .before .before .before .before .before .before .before .before .before .before .before .before .before .before .before .args .start) (c .before .before .before .before .before .before .before .before .before .before .before .before .before .before .before .loop .cursor) _ (level-step (c .before .before .before .before .before .before .before .before .before .before .before .before .before .before .before .before .before .before .before .before .before .before .before .before .before .before .args .words .now) (c .before .before .before .before .before .before .before .before .before .before .before .before .before .before .before .before .before .before .before .before .before .before .before .before .before .before .args .group) _ _ _ _ (c .before .before .before .before .before .before .before .before .before .before .before .before .before .before .before .before .before .before .before .members-at .ensures) (c .before .before .before .before .before .before .before .before .before .before .before .before .before .before .before .before .before .before .before .before .delimiter-at .ensures) (c .before .before .before .before .before .before .before .before .before .before .before .before .before .before .before .before .before .before .count-tags-at .ensures) (c .before .before .before .before .before .before .before .before .before .before .before .before .before .before .before .before .before .first-group-of .ensures) (c .before .before .before .before .before .before .before .before .before .before .before .before .before .before .before .before .before .before .before .before .before .before .before .before .before .before .args .fields .now) (c .before .before .before .before .before .before .before .before .before .before .before .before .before .before .before .before .before .before .before .before .before .before .before .before .before .before .args .start) (c .before .before .before .before .before .before .before .before .before .before .before .before .before .before .before .loop .cursor) _ (c .before .before .before .before .before .before .before .before .before .before .before .before .before .before .step-at .ensures)) _ _ _ (c .before .before .before .before .before .before .before .before .before .before .before .before .rank2 .given .1) .1) _ _ _ _ (c .before .before .before .before .before .before .before .before .before .before .before .before .before .before .before .before .before .before .before .members-at .ensures) (c .before .before .walk-group .ensures)
+scan-wide-loop-again-2 t c = entry-adds-nested (c .before .before .before .before .before .before .before .before .before .before .before .before .before .before .before .before .before .before .before .before .before .before .before .before .before .before .args .words .now) (c .before .before .before .before .before .before .before .before .before .before .before .before .before .before .before .before .before .before .before .before .before .before .before .before .before .before .args .fields .now) (c .before .before .before .before .before .before .before .before .before .before .before .before .before .before .before .before .before .before .before .before .before .before .before .before .before .before .args .message .now) (c .before .before .before .before .before .before .before .before .before .before .before .before .before .before .before .before .before .before .before .before .before .before .before .before .before .before .pre .1 .lent .passed) (c .before .before .before .before .before .before .before .before .before .before .before .before .before .before .before .before .before .before .before .before .before .before .before .before .before .before .args .group) (c .before .before .before .before .before .before .before .before .before .before .before .before .before .before .before .before .before .before .before .before .before .before .before .before .before .before .pre .1 .lent .valid) (c .before .before .before .before .before .before .before .before .before .before .before .before .before .before .before .before .before .before .before .before .before .before .before .before .before .before .args .start) (c .before .before .before .before .before .before .before .before .before .before .before .before .before .before .before .before .before .before .before .before .before .before .before .before .before .before .args .depth) (c .before .before .before .before .before .before .before .before .before .before .before .before .before .before .before .before .before .before .before .before .before .before .before .before .before .before .args .events .now) (c .before .before .before .before .before .before .before .before .before .before .before .before .before .before .before .before .before .before .before .before .before .before .before .before .before .before .args .at) 128 _ _ (c .before .before .before .before .before .before .before .before .before .before .before .before .before .before .before .loop .cursor) _ _ (c .before .before .before .before .before .before .before .before .before .before .before .before .before .before .before .loop .inv) _ _ (entry-nested (c .before .before .before .before .before .before .before .before .before .before .before .before .before .before .before .before .before .before .before .before .before .before .before .before .before .before .args .words .now) (c .before .before .before .before .before .before .before .before .before .before .before .before .before .before .before .before .before .before .before .before .before .before .before .before .before .before .args .fields .now) (c .before .before .before .before .before .before .before .before .before .before .before .before .before .before .before .before .before .before .before .before .before .before .before .before .before .before .args .message .now) (c .before .before .before .before .before .before .before .before .before .before .before .before .before .before .before .before .before .before .before .before .before .before .before .before .before .before .args .group) (c .before .before .before .before .before .before .before .before .before .before .before .before .before .before .before .before .before .before .before .before .before .before .before .before .before .before .args .start) (c .before .before .before .before .before .before .before .before .before .before .before .before .before .before .before .loop .cursor) _ (level-step (c .before .before .before .before .before .before .before .before .before .before .before .before .before .before .before .before .before .before .before .before .before .before .before .before .before .before .args .words .now) (c .before .before .before .before .before .before .before .before .before .before .before .before .before .before .before .before .before .before .before .before .before .before .before .before .before .before .args .group) _ _ _ _ (c .before .before .before .before .before .before .before .before .before .before .before .before .before .before .before .before .before .before .before .members-at .ensures) (c .before .before .before .before .before .before .before .before .before .before .before .before .before .before .before .before .before .before .before .before .delimiter-at .ensures) (c .before .before .before .before .before .before .before .before .before .before .before .before .before .before .before .before .before .before .count-tags-at .ensures) (c .before .before .before .before .before .before .before .before .before .before .before .before .before .before .before .before .before .first-group-of .ensures) (c .before .before .before .before .before .before .before .before .before .before .before .before .before .before .before .before .before .before .before .before .before .before .before .before .before .before .args .fields .now) (c .before .before .before .before .before .before .before .before .before .before .before .before .before .before .before .before .before .before .before .before .before .before .before .before .before .before .args .start) (c .before .before .before .before .before .before .before .before .before .before .before .before .before .before .before .loop .cursor) _ (c .before .before .before .before .before .before .before .before .before .before .before .before .before .before .step-at .ensures)) _ _ _ (c .before .before .before .before .before .before .before .before .before .before .before .before .rank2 .given .1) .0) _ _ (c .before .before .before .before .before .before .before .before .before .before .insert-rank2 .ensures .0) (c .before .before .before .before .before .before .before .before .before .before .insert-rank2 .ensures .1) _ (c .before .before .before .before .before .before .before .before .before .before .before .before .before .before .before .before .before .before .before .before .before .count-tag-at .ensures) _ _ (c .before .before .before .before .before .before .before .put-repeat2 .ensures) _ (c .before .before .before .before .spoilt-by2 .ensures) _ (entry-nested (c .before .before .before .before .before .before .before .before .before .before .before .before .before .before .before .before .before .before .before .before .before .before .before .before .before .before .args .words .now) (c .before .before .before .before .before .before .before .before .before .before .before .before .before .before .before .before .before .before .before .before .before .before .before .before .before .before .args .fields .now) (c .before .before .before .before .before .before .before .before .before .before .before .before .before .before .before .before .before .before .before .before .before .before .before .before .before .before .args .message .now) (c .before .before .before .before .before .before .before .before .before .before .before .before .before .before .before .before .before .before .before .before .before .before .before .before .before .before .args .group) (c .before .before .before .before .before .before .before .before .before .before .before .before .before .before .before .before .before .before .before .before .before .before .before .before .before .before .args .start) (c .before .before .before .before .before .before .before .before .before .before .before .before .before .before .before .loop .cursor) _ (level-step (c .before .before .before .before .before .before .before .before .before .before .before .before .before .before .before .before .before .before .before .before .before .before .before .before .before .before .args .words .now) (c .before .before .before .before .before .before .before .before .before .before .before .before .before .before .before .before .before .before .before .before .before .before .before .before .before .before .args .group) _ _ _ _ (c .before .before .before .before .before .before .before .before .before .before .before .before .before .before .before .before .before .before .before .members-at .ensures) (c .before .before .before .before .before .before .before .before .before .before .before .before .before .before .before .before .before .before .before .before .delimiter-at .ensures) (c .before .before .before .before .before .before .before .before .before .before .before .before .before .before .before .before .before .before .count-tags-at .ensures) (c .before .before .before .before .before .before .before .before .before .before .before .before .before .before .before .before .before .first-group-of .ensures) (c .before .before .before .before .before .before .before .before .before .before .before .before .before .before .before .before .before .before .before .before .before .before .before .before .before .before .args .fields .now) (c .before .before .before .before .before .before .before .before .before .before .before .before .before .before .before .before .before .before .before .before .before .before .before .before .before .before .args .start) (c .before .before .before .before .before .before .before .before .before .before .before .before .before .before .before .loop .cursor) _ (c .before .before .before .before .before .before .before .before .before .before .before .before .before .before .step-at .ensures)) _ _ _ (c .before .before .before .before .before .before .before .before .before .before .before .before .rank2 .given .1) .1) _ _ _ _ (c .before .before .before .before .before .before .before .before .before .before .before .before .before .before .before .before .before .before .before .members-at .ensures) (c .before .before .walk-group .ensures)
 
 -- let count = seen.close(members.len());
 scan-wide-close-requires : (t : ℕ) → scan-wide-lts.Need-close-requires (scan-wide-claims t) (scan-wide-at t) scan-wide.Post scan-wide-Inv-loop scan-wide-μ-loop
@@ -436,28 +436,35 @@ walk-group-opening-at-requires t c κs = (level-ascends (c .before .before .befo
 walk-group-enum-told : (t : ℕ) → walk-group-lts.Need-enum-told (walk-group-claims t) (walk-group-at t) walk-group.Post walk-group-Inv-loop walk-group-μ-loop
 walk-group-enum-told t c = search needs
 
--- if members.len() <= 512 {
 walk-group-enum-told-2 : (t : ℕ) → walk-group-lts.Need-enum-told-2 (walk-group-claims t) (walk-group-at t) walk-group.Post walk-group-Inv-loop walk-group-μ-loop
 walk-group-enum-told-2 t c = search needs
 
--- let entry = scan_entry(
+-- Turn::Lead(member) => {
+walk-group-enum-known-member : (t : ℕ) → walk-group-lts.Need-enum-known-member (walk-group-claims t) (walk-group-at t) walk-group.Post walk-group-Inv-loop walk-group-μ-loop
+walk-group-enum-known-member t c = search needs
+
+-- to = put_event(events, to, tag, depth, Kind::Delim(member));
+walk-group-put-event-requires-2 : (t : ℕ) → walk-group-lts.Need-put-event-requires-2 (walk-group-claims t) (walk-group-at t) walk-group.Post walk-group-Inv-loop walk-group-μ-loop
+walk-group-put-event-requires-2 t c κs = omega (arith, c .before .before .before .before .before .loop .inv .room, c .before .before .before .before .before .loop .inv .within, c .before .before .before .before .before .before .before .before .before .before .before .before .before .before .before .before .before .before .before .before .before .before .pre .1 .lent .table .few)
+
+-- let entry = scan_entry(fields, message, words, group, cursor, depth, events, to);
 walk-group-scan-entry-requires : (t : ℕ) → walk-group-lts.Need-scan-entry-requires (walk-group-claims t) (walk-group-at t) walk-group.Post walk-group-Inv-loop walk-group-μ-loop
 walk-group-scan-entry-requires t c κs =
-    let within = entry-inside (c .before .before .before .before .before .before .before .before .before .before .before .before .before .before .before .before .before .before .before .before .before .before .args .words .now) (c .before .before .before .before .before .before .before .before .before .before .before .before .before .before .before .before .before .before .before .before .before .before .args .fields .now) (c .before .before .before .before .before .before .before .before .before .before .before .before .before .before .before .before .before .before .before .before .before .before .args .message .now) (c .before .before .before .before .before .before .before .before .before .before .before .before .before .before .before .before .before .before .before .before .before .before .args .enclosing .now) (c .before .before .before .before .before .before .before .before .before .before .before .before .before .before .before .before .before .before .before .before .before .before .pre .1 .lent .passed) (c .before .before .before .before .before .before .before .before .before .before .before .before .before .before .before .before .before .before .before .before .before .before .args .group) (c .before .before .before .before .before .before .before .before .before .before .before .before .before .before .before .before .before .before .before .before .before .before .pre .1 .lent .valid) (c .before .before .before .before .before .before .before .before .before .before .before .before .before .before .before .before .before .before .before .before .before .before .args .index) (c .before .before .before .before .before .before .before .before .before .before .before .before .before .before .before .before .before .before .before .before .before .before .args .depth) _ _ (omega (arith, c .before .before .before .before .before .before .before .before .before .before .before .before .before .before .before .before .row-count .ensures, c .before .before .before .before .before .before .before .before .before .before .before .before .before .before .before .if1 .left)) (c .before .before .before .before .before .before .before .before .before .before .before .before .before .if2 .left) (c .before .before .before .before .before .before .before .before .before .before .before .before .count-at .result) (c .before .before .before .before .before .before .before .before .before .before .before .before .count-at .ensures) _ (c .before .before .before .before .before .before .before .before .before .before .before .before .before .before .count-tag-at .ensures) _ _ (c .before .before .before .before .before .loop .cursor) (c .before .before .before .before .before .loop .entries) (c .before .before .before .before .before .loop .unparseable) (c .before .before .before .before .before .loop .inv) (turn-entry (c .before .before .before .before .before .before .before .before .before .before .before .before .before .before .before .before .before .before .before .before .before .before .args .words .now) (c .before .before .before .before .before .before .before .before .before .before .before .before .before .before .before .before .before .before .before .before .before .before .args .fields .now) (c .before .before .before .before .before .before .before .before .before .before .before .before .before .before .before .before .before .before .before .before .before .before .args .message .now) (c .before .before .before .before .before .before .before .before .before .before .before .before .before .before .before .before .before .before .before .before .before .before .args .enclosing .now) (c .before .before .before .before .before .before .before .before .before .before .before .before .before .before .before .before .before .before .before .before .before .before .args .group) (c .before .before .before .before .before .before .before .before .before .before .before .before .count-at .result) (c .before .before .before .before .before .loop .entries) (c .before .before .before .before .before .loop .cursor) _ (level-turn (c .before .before .before .before .before .before .before .before .before .before .before .before .before .before .before .before .before .before .before .before .before .before .args .words .now) (c .before .before .before .before .before .before .before .before .before .before .before .before .before .before .before .before .before .before .before .before .before .before .args .group) _ _ (c .before .before .before .before .before .before .before .before .before .before .before .members-at .ensures) (c .before .before .before .before .before .before .before .before .before .before .delimiter-at .ensures) (c .before .before .before .before .before .before .before .before .before .before .before .before .before .before .before .before .before .before .before .before .before .before .args .fields .now) (c .before .before .before .before .before .before .before .before .before .before .before .before .before .before .before .before .before .before .before .before .before .before .args .enclosing .now) (c .before .before .before .before .before .before .before .before .before .before .before .before .count-at .result) (c .before .before .before .before .before .loop .entries) (c .before .before .before .before .before .loop .cursor) _ (c .before .before .before .before .opening-at .ensures)) (c .before .before .enum-told2 .given .1) .0) in (
-      omega (arith, c .before .before .before .before .before .before .before .before .before .before .before .before .before .before .before .before .before .before .before .before .before .before .pre .0, within, c .before .before .before .before .before .loop .inv .ahead),
+    let opened = one-opens (c .before .before .before .before .before .before .before .before .before .before .before .before .before .before .before .before .before .before .before .before .before .args .words .now) (c .before .before .before .before .before .before .before .before .before .before .before .before .before .before .before .before .before .before .before .before .before .args .fields .now) (c .before .before .before .before .before .before .before .before .before .before .before .before .before .before .before .before .before .before .before .before .before .args .message .now) (c .before .before .before .before .before .before .before .before .before .before .before .before .before .before .before .before .before .before .before .before .before .args .enclosing .now) (c .before .before .before .before .before .before .before .before .before .before .before .before .before .before .before .before .before .before .before .before .before .pre .1 .lent .passed) (c .before .before .before .before .before .before .before .before .before .before .before .before .before .before .before .before .before .before .before .before .before .args .group) (c .before .before .before .before .before .before .before .before .before .before .before .before .before .before .before .before .before .before .before .before .before .pre .1 .lent .valid) (c .before .before .before .before .before .before .before .before .before .before .before .before .before .before .before .before .before .before .before .before .before .args .index) (c .before .before .before .before .before .before .before .before .before .before .before .before .before .before .before .before .before .before .before .before .before .args .depth) _ _ (omega (arith, c .before .before .before .before .before .before .before .before .before .before .before .before .before .before .before .row-count .ensures, c .before .before .before .before .before .before .before .before .before .before .before .before .before .before .if1 .left)) (c .before .before .before .before .before .before .before .before .before .before .before .before .if2 .left) (c .before .before .before .before .before .before .before .before .before .before .before .count-at .result) (c .before .before .before .before .before .before .before .before .before .before .before .count-at .ensures) _ (c .before .before .before .before .before .before .before .before .before .before .before .before .before .count-tag-at .ensures) _ _ (c .before .before .before .before .loop .cursor) (c .before .before .before .before .loop .entries) (c .before .before .before .before .loop .unparseable) (c .before .before .before .before .loop .inv) (c .before .before .match .events) (c .before .before .match .to) (c .before .before .match .unparseable) (λ way. let begins = turn-entry (c .before .before .before .before .before .before .before .before .before .before .before .before .before .before .before .before .before .before .before .before .before .args .words .now) (c .before .before .before .before .before .before .before .before .before .before .before .before .before .before .before .before .before .before .before .before .before .args .fields .now) (c .before .before .before .before .before .before .before .before .before .before .before .before .before .before .before .before .before .before .before .before .before .args .message .now) (c .before .before .before .before .before .before .before .before .before .before .before .before .before .before .before .before .before .before .before .before .before .args .enclosing .now) (c .before .before .before .before .before .before .before .before .before .before .before .before .before .before .before .before .before .before .before .before .before .args .group) (c .before .before .before .before .before .before .before .before .before .before .before .count-at .result) (c .before .before .before .before .loop .entries) (c .before .before .before .before .loop .cursor) _ (level-turn (c .before .before .before .before .before .before .before .before .before .before .before .before .before .before .before .before .before .before .before .before .before .args .words .now) (c .before .before .before .before .before .before .before .before .before .before .before .before .before .before .before .before .before .before .before .before .before .args .group) _ _ (c .before .before .before .before .before .before .before .before .before .before .members-at .ensures) (c .before .before .before .before .before .before .before .before .before .delimiter-at .ensures) (c .before .before .before .before .before .before .before .before .before .before .before .before .before .before .before .before .before .before .before .before .before .args .fields .now) (c .before .before .before .before .before .before .before .before .before .before .before .before .before .before .before .before .before .before .before .before .before .args .enclosing .now) (c .before .before .before .before .before .before .before .before .before .before .before .count-at .result) (c .before .before .before .before .loop .entries) (c .before .before .before .before .loop .cursor) _ (c .before .before .before .opening-at .ensures)) (way .1 .given .1) in entry-opens (c .before .before .before .before .before .before .before .before .before .before .before .before .before .before .before .before .before .before .before .before .before .args .words .now) (c .before .before .before .before .before .before .before .before .before .before .before .before .before .before .before .before .before .before .before .before .before .args .fields .now) (c .before .before .before .before .before .before .before .before .before .before .before .before .before .before .before .before .before .before .before .before .before .args .message .now) (c .before .before .before .before .before .before .before .before .before .before .before .before .before .before .before .before .before .before .before .before .before .args .enclosing .now) (c .before .before .before .before .before .before .before .before .before .before .before .before .before .before .before .before .before .before .before .before .before .pre .1 .lent .passed) (c .before .before .before .before .before .before .before .before .before .before .before .before .before .before .before .before .before .before .before .before .before .args .group) (c .before .before .before .before .before .before .before .before .before .before .before .before .before .before .before .before .before .before .before .before .before .pre .1 .lent .valid) (c .before .before .before .before .before .before .before .before .before .before .before .before .before .before .before .before .before .before .before .before .before .args .index) (c .before .before .before .before .before .before .before .before .before .before .before .before .before .before .before .before .before .before .before .before .before .args .depth) _ _ (omega (arith, c .before .before .before .before .before .before .before .before .before .before .before .before .before .before .before .row-count .ensures, c .before .before .before .before .before .before .before .before .before .before .before .before .before .before .if1 .left)) (c .before .before .before .before .before .before .before .before .before .before .before .before .if2 .left) (c .before .before .before .before .before .before .before .before .before .before .before .count-at .result) (c .before .before .before .before .before .before .before .before .before .before .before .count-at .ensures) _ (c .before .before .before .before .before .before .before .before .before .before .before .before .before .count-tag-at .ensures) _ _ (c .before .before .before .before .loop .cursor) (c .before .before .before .before .loop .entries) (c .before .before .before .before .loop .unparseable) (c .before .before .before .before .loop .inv) (begins .0) (begins .1) _ (way .2) _ (way .3) _ (way .4)) (λ way. let leads = turn-lead (c .before .before .before .before .before .before .before .before .before .before .before .before .before .before .before .before .before .before .before .before .before .args .words .now) (c .before .before .before .before .before .before .before .before .before .before .before .before .before .before .before .before .before .before .before .before .before .args .fields .now) (c .before .before .before .before .before .before .before .before .before .before .before .before .before .before .before .before .before .before .before .before .before .args .message .now) (c .before .before .before .before .before .before .before .before .before .before .before .before .before .before .before .before .before .before .before .before .before .args .enclosing .now) (c .before .before .before .before .before .before .before .before .before .before .before .before .before .before .before .before .before .before .before .before .before .args .group) (c .before .before .before .before .before .before .before .before .before .before .before .count-at .result) (c .before .before .before .before .loop .entries) (c .before .before .before .before .loop .cursor) _ (level-turn (c .before .before .before .before .before .before .before .before .before .before .before .before .before .before .before .before .before .before .before .before .before .args .words .now) (c .before .before .before .before .before .before .before .before .before .before .before .before .before .before .before .before .before .before .before .before .before .args .group) _ _ (c .before .before .before .before .before .before .before .before .before .before .members-at .ensures) (c .before .before .before .before .before .before .before .before .before .delimiter-at .ensures) (c .before .before .before .before .before .before .before .before .before .before .before .before .before .before .before .before .before .before .before .before .before .args .fields .now) (c .before .before .before .before .before .before .before .before .before .before .before .before .before .before .before .before .before .before .before .before .before .args .enclosing .now) (c .before .before .before .before .before .before .before .before .before .before .before .count-at .result) (c .before .before .before .before .loop .entries) (c .before .before .before .before .loop .cursor) _ (c .before .before .before .opening-at .ensures)) _ (way .1 .given .1) in lead-opens (c .before .before .before .before .before .before .before .before .before .before .before .before .before .before .before .before .before .before .before .before .before .args .words .now) (c .before .before .before .before .before .before .before .before .before .before .before .before .before .before .before .before .before .before .before .before .before .args .fields .now) (c .before .before .before .before .before .before .before .before .before .before .before .before .before .before .before .before .before .before .before .before .before .args .message .now) (c .before .before .before .before .before .before .before .before .before .before .before .before .before .before .before .before .before .before .before .before .before .args .enclosing .now) (c .before .before .before .before .before .before .before .before .before .before .before .before .before .before .before .before .before .before .before .before .before .pre .1 .lent .passed) (c .before .before .before .before .before .before .before .before .before .before .before .before .before .before .before .before .before .before .before .before .before .args .group) (c .before .before .before .before .before .before .before .before .before .before .before .before .before .before .before .before .before .before .before .before .before .pre .1 .lent .valid) (c .before .before .before .before .before .before .before .before .before .before .before .before .before .before .before .before .before .before .before .before .before .args .index) (c .before .before .before .before .before .before .before .before .before .before .before .before .before .before .before .before .before .before .before .before .before .args .depth) _ _ (omega (arith, c .before .before .before .before .before .before .before .before .before .before .before .before .before .before .before .row-count .ensures, c .before .before .before .before .before .before .before .before .before .before .before .before .before .before .if1 .left)) (c .before .before .before .before .before .before .before .before .before .before .before .before .if2 .left) (c .before .before .before .before .before .before .before .before .before .before .before .count-at .result) (c .before .before .before .before .before .before .before .before .before .before .before .count-at .ensures) _ (c .before .before .before .before .before .before .before .before .before .before .before .before .before .count-tag-at .ensures) _ _ (c .before .before .before .before .loop .cursor) (c .before .before .before .before .loop .entries) (c .before .before .before .before .loop .unparseable) (c .before .before .before .before .loop .inv) (leads .0) (leads .1) _ (leads .2) _ _ (way .4 .ensures) _ (way .7) _ (way .8) _ (way .9)) (c .before .before .match .came) in (
+      omega (arith, c .before .before .before .before .before .before .before .before .before .before .before .before .before .before .before .before .before .before .before .before .before .pre .0, opened .inside, c .before .before .before .before .loop .inv .ahead),
       record {
-        lent = c .before .before .before .before .before .before .before .before .before .before .before .before .before .before .before .before .before .before .before .before .before .before .pre .1 .lent;
-        few-members = omega (arith, level-length (c .before .before .before .before .before .before .before .before .before .before .before .before .before .before .before .before .before .before .before .before .before .before .args .words .now) (1 + c .before .before .before .before .before .before .before .before .before .before .before .before .before .before .before .before .before .before .before .before .before .before .args .group) _ (c .before .before .before .before .before .before .before .before .before .before .before .members-at .ensures), c .before .if3 .taken);
-        taken = entry-taken (c .before .before .before .before .before .before .before .before .before .before .before .before .before .before .before .before .before .before .before .before .before .before .args .words .now) (c .before .before .before .before .before .before .before .before .before .before .before .before .before .before .before .before .before .before .before .before .before .before .args .fields .now) (c .before .before .before .before .before .before .before .before .before .before .before .before .before .before .before .before .before .before .before .before .before .before .args .message .now) (c .before .before .before .before .before .before .before .before .before .before .before .before .before .before .before .before .before .before .before .before .before .before .args .enclosing .now) (c .before .before .before .before .before .before .before .before .before .before .before .before .before .before .before .before .before .before .before .before .before .before .pre .1 .lent .passed) (c .before .before .before .before .before .before .before .before .before .before .before .before .before .before .before .before .before .before .before .before .before .before .args .group) (c .before .before .before .before .before .before .before .before .before .before .before .before .before .before .before .before .before .before .before .before .before .before .pre .1 .lent .valid) (c .before .before .before .before .before .before .before .before .before .before .before .before .before .before .before .before .before .before .before .before .before .before .args .index) (c .before .before .before .before .before .before .before .before .before .before .before .before .before .before .before .before .before .before .before .before .before .before .args .depth) _ _ (omega (arith, c .before .before .before .before .before .before .before .before .before .before .before .before .before .before .before .before .row-count .ensures, c .before .before .before .before .before .before .before .before .before .before .before .before .before .before .before .if1 .left)) (c .before .before .before .before .before .before .before .before .before .before .before .before .before .if2 .left) (c .before .before .before .before .before .before .before .before .before .before .before .before .count-at .result) (c .before .before .before .before .before .before .before .before .before .before .before .before .count-at .ensures) _ (c .before .before .before .before .before .before .before .before .before .before .before .before .before .before .count-tag-at .ensures) _ _ (c .before .before .before .before .before .loop .cursor) (c .before .before .before .before .before .loop .entries) (c .before .before .before .before .before .loop .unparseable) (c .before .before .before .before .before .loop .inv) (turn-entry (c .before .before .before .before .before .before .before .before .before .before .before .before .before .before .before .before .before .before .before .before .before .before .args .words .now) (c .before .before .before .before .before .before .before .before .before .before .before .before .before .before .before .before .before .before .before .before .before .before .args .fields .now) (c .before .before .before .before .before .before .before .before .before .before .before .before .before .before .before .before .before .before .before .before .before .before .args .message .now) (c .before .before .before .before .before .before .before .before .before .before .before .before .before .before .before .before .before .before .before .before .before .before .args .enclosing .now) (c .before .before .before .before .before .before .before .before .before .before .before .before .before .before .before .before .before .before .before .before .before .before .args .group) (c .before .before .before .before .before .before .before .before .before .before .before .before .count-at .result) (c .before .before .before .before .before .loop .entries) (c .before .before .before .before .before .loop .cursor) _ (level-turn (c .before .before .before .before .before .before .before .before .before .before .before .before .before .before .before .before .before .before .before .before .before .before .args .words .now) (c .before .before .before .before .before .before .before .before .before .before .before .before .before .before .before .before .before .before .before .before .before .before .args .group) _ _ (c .before .before .before .before .before .before .before .before .before .before .before .members-at .ensures) (c .before .before .before .before .before .before .before .before .before .before .delimiter-at .ensures) (c .before .before .before .before .before .before .before .before .before .before .before .before .before .before .before .before .before .before .before .before .before .before .args .fields .now) (c .before .before .before .before .before .before .before .before .before .before .before .before .before .before .before .before .before .before .before .before .before .before .args .enclosing .now) (c .before .before .before .before .before .before .before .before .before .before .before .before .count-at .result) (c .before .before .before .before .before .loop .entries) (c .before .before .before .before .before .loop .cursor) _ (c .before .before .before .before .opening-at .ensures)) (c .before .before .enum-told2 .given .1) .0);
-        inside = within;
-        shallow = c .before .before .before .before .before .before .before .before .before .before .before .before .before .if2 .left;
-        room = c .before .before .before .before .before .loop .inv .room;
+        lent = c .before .before .before .before .before .before .before .before .before .before .before .before .before .before .before .before .before .before .before .before .before .pre .1 .lent;
+        few-members = omega (arith, level-length (c .before .before .before .before .before .before .before .before .before .before .before .before .before .before .before .before .before .before .before .before .before .args .words .now) (1 + c .before .before .before .before .before .before .before .before .before .before .before .before .before .before .before .before .before .before .before .before .before .args .group) _ (c .before .before .before .before .before .before .before .before .before .before .members-at .ensures), c .before .if3 .taken);
+        taken = opened .taken;
+        inside = opened .inside;
+        shallow = c .before .before .before .before .before .before .before .before .before .before .before .before .if2 .left;
+        room = opened .room;
       },
     )
 
 -- to = put_event(events, entry.at, tag, depth, close);
-walk-group-put-event-requires-2 : (t : ℕ) → walk-group-lts.Need-put-event-requires-2 (walk-group-claims t) (walk-group-at t) walk-group.Post walk-group-Inv-loop walk-group-μ-loop
-walk-group-put-event-requires-2 t c κs = omega (arith, c .before .before .before .scan-entry .ensures .few, c .before .before .before .scan-entry .ensures .within, c .before .before .before .before .before .before .before .before .before .loop .inv .room, c .before .before .before .before .before .before .before .before .before .before .before .before .before .before .before .before .before .before .before .before .before .before .before .before .before .before .pre .1 .lent .table .few)
+walk-group-put-event-requires-3 : (t : ℕ) → walk-group-lts.Need-put-event-requires-3 (walk-group-claims t) (walk-group-at t) walk-group.Post walk-group-Inv-loop walk-group-μ-loop
+walk-group-put-event-requires-3 t c κs = let opened = one-opens (c .before .before .before .before .before .before .before .before .before .before .before .before .before .before .before .before .before .before .before .before .before .before .before .before .before .args .words .now) (c .before .before .before .before .before .before .before .before .before .before .before .before .before .before .before .before .before .before .before .before .before .before .before .before .before .args .fields .now) (c .before .before .before .before .before .before .before .before .before .before .before .before .before .before .before .before .before .before .before .before .before .before .before .before .before .args .message .now) (c .before .before .before .before .before .before .before .before .before .before .before .before .before .before .before .before .before .before .before .before .before .before .before .before .before .args .enclosing .now) (c .before .before .before .before .before .before .before .before .before .before .before .before .before .before .before .before .before .before .before .before .before .before .before .before .before .pre .1 .lent .passed) (c .before .before .before .before .before .before .before .before .before .before .before .before .before .before .before .before .before .before .before .before .before .before .before .before .before .args .group) (c .before .before .before .before .before .before .before .before .before .before .before .before .before .before .before .before .before .before .before .before .before .before .before .before .before .pre .1 .lent .valid) (c .before .before .before .before .before .before .before .before .before .before .before .before .before .before .before .before .before .before .before .before .before .before .before .before .before .args .index) (c .before .before .before .before .before .before .before .before .before .before .before .before .before .before .before .before .before .before .before .before .before .before .before .before .before .args .depth) _ _ (omega (arith, c .before .before .before .before .before .before .before .before .before .before .before .before .before .before .before .before .before .before .before .row-count .ensures, c .before .before .before .before .before .before .before .before .before .before .before .before .before .before .before .before .before .before .if1 .left)) (c .before .before .before .before .before .before .before .before .before .before .before .before .before .before .before .before .if2 .left) (c .before .before .before .before .before .before .before .before .before .before .before .before .before .before .before .count-at .result) (c .before .before .before .before .before .before .before .before .before .before .before .before .before .before .before .count-at .ensures) _ (c .before .before .before .before .before .before .before .before .before .before .before .before .before .before .before .before .before .count-tag-at .ensures) _ _ (c .before .before .before .before .before .before .before .before .loop .cursor) (c .before .before .before .before .before .before .before .before .loop .entries) (c .before .before .before .before .before .before .before .before .loop .unparseable) (c .before .before .before .before .before .before .before .before .loop .inv) (c .before .before .before .before .before .before .match .events) (c .before .before .before .before .before .before .match .to) (c .before .before .before .before .before .before .match .unparseable) (λ way. let begins = turn-entry (c .before .before .before .before .before .before .before .before .before .before .before .before .before .before .before .before .before .before .before .before .before .before .before .before .before .args .words .now) (c .before .before .before .before .before .before .before .before .before .before .before .before .before .before .before .before .before .before .before .before .before .before .before .before .before .args .fields .now) (c .before .before .before .before .before .before .before .before .before .before .before .before .before .before .before .before .before .before .before .before .before .before .before .before .before .args .message .now) (c .before .before .before .before .before .before .before .before .before .before .before .before .before .before .before .before .before .before .before .before .before .before .before .before .before .args .enclosing .now) (c .before .before .before .before .before .before .before .before .before .before .before .before .before .before .before .before .before .before .before .before .before .before .before .before .before .args .group) (c .before .before .before .before .before .before .before .before .before .before .before .before .before .before .before .count-at .result) (c .before .before .before .before .before .before .before .before .loop .entries) (c .before .before .before .before .before .before .before .before .loop .cursor) _ (level-turn (c .before .before .before .before .before .before .before .before .before .before .before .before .before .before .before .before .before .before .before .before .before .before .before .before .before .args .words .now) (c .before .before .before .before .before .before .before .before .before .before .before .before .before .before .before .before .before .before .before .before .before .before .before .before .before .args .group) _ _ (c .before .before .before .before .before .before .before .before .before .before .before .before .before .before .members-at .ensures) (c .before .before .before .before .before .before .before .before .before .before .before .before .before .delimiter-at .ensures) (c .before .before .before .before .before .before .before .before .before .before .before .before .before .before .before .before .before .before .before .before .before .before .before .before .before .args .fields .now) (c .before .before .before .before .before .before .before .before .before .before .before .before .before .before .before .before .before .before .before .before .before .before .before .before .before .args .enclosing .now) (c .before .before .before .before .before .before .before .before .before .before .before .before .before .before .before .count-at .result) (c .before .before .before .before .before .before .before .before .loop .entries) (c .before .before .before .before .before .before .before .before .loop .cursor) _ (c .before .before .before .before .before .before .before .opening-at .ensures)) (way .1 .given .1) in entry-opens (c .before .before .before .before .before .before .before .before .before .before .before .before .before .before .before .before .before .before .before .before .before .before .before .before .before .args .words .now) (c .before .before .before .before .before .before .before .before .before .before .before .before .before .before .before .before .before .before .before .before .before .before .before .before .before .args .fields .now) (c .before .before .before .before .before .before .before .before .before .before .before .before .before .before .before .before .before .before .before .before .before .before .before .before .before .args .message .now) (c .before .before .before .before .before .before .before .before .before .before .before .before .before .before .before .before .before .before .before .before .before .before .before .before .before .args .enclosing .now) (c .before .before .before .before .before .before .before .before .before .before .before .before .before .before .before .before .before .before .before .before .before .before .before .before .before .pre .1 .lent .passed) (c .before .before .before .before .before .before .before .before .before .before .before .before .before .before .before .before .before .before .before .before .before .before .before .before .before .args .group) (c .before .before .before .before .before .before .before .before .before .before .before .before .before .before .before .before .before .before .before .before .before .before .before .before .before .pre .1 .lent .valid) (c .before .before .before .before .before .before .before .before .before .before .before .before .before .before .before .before .before .before .before .before .before .before .before .before .before .args .index) (c .before .before .before .before .before .before .before .before .before .before .before .before .before .before .before .before .before .before .before .before .before .before .before .before .before .args .depth) _ _ (omega (arith, c .before .before .before .before .before .before .before .before .before .before .before .before .before .before .before .before .before .before .before .row-count .ensures, c .before .before .before .before .before .before .before .before .before .before .before .before .before .before .before .before .before .before .if1 .left)) (c .before .before .before .before .before .before .before .before .before .before .before .before .before .before .before .before .if2 .left) (c .before .before .before .before .before .before .before .before .before .before .before .before .before .before .before .count-at .result) (c .before .before .before .before .before .before .before .before .before .before .before .before .before .before .before .count-at .ensures) _ (c .before .before .before .before .before .before .before .before .before .before .before .before .before .before .before .before .before .count-tag-at .ensures) _ _ (c .before .before .before .before .before .before .before .before .loop .cursor) (c .before .before .before .before .before .before .before .before .loop .entries) (c .before .before .before .before .before .before .before .before .loop .unparseable) (c .before .before .before .before .before .before .before .before .loop .inv) (begins .0) (begins .1) _ (way .2) _ (way .3) _ (way .4)) (λ way. let leads = turn-lead (c .before .before .before .before .before .before .before .before .before .before .before .before .before .before .before .before .before .before .before .before .before .before .before .before .before .args .words .now) (c .before .before .before .before .before .before .before .before .before .before .before .before .before .before .before .before .before .before .before .before .before .before .before .before .before .args .fields .now) (c .before .before .before .before .before .before .before .before .before .before .before .before .before .before .before .before .before .before .before .before .before .before .before .before .before .args .message .now) (c .before .before .before .before .before .before .before .before .before .before .before .before .before .before .before .before .before .before .before .before .before .before .before .before .before .args .enclosing .now) (c .before .before .before .before .before .before .before .before .before .before .before .before .before .before .before .before .before .before .before .before .before .before .before .before .before .args .group) (c .before .before .before .before .before .before .before .before .before .before .before .before .before .before .before .count-at .result) (c .before .before .before .before .before .before .before .before .loop .entries) (c .before .before .before .before .before .before .before .before .loop .cursor) _ (level-turn (c .before .before .before .before .before .before .before .before .before .before .before .before .before .before .before .before .before .before .before .before .before .before .before .before .before .args .words .now) (c .before .before .before .before .before .before .before .before .before .before .before .before .before .before .before .before .before .before .before .before .before .before .before .before .before .args .group) _ _ (c .before .before .before .before .before .before .before .before .before .before .before .before .before .before .members-at .ensures) (c .before .before .before .before .before .before .before .before .before .before .before .before .before .delimiter-at .ensures) (c .before .before .before .before .before .before .before .before .before .before .before .before .before .before .before .before .before .before .before .before .before .before .before .before .before .args .fields .now) (c .before .before .before .before .before .before .before .before .before .before .before .before .before .before .before .before .before .before .before .before .before .before .before .before .before .args .enclosing .now) (c .before .before .before .before .before .before .before .before .before .before .before .before .before .before .before .count-at .result) (c .before .before .before .before .before .before .before .before .loop .entries) (c .before .before .before .before .before .before .before .before .loop .cursor) _ (c .before .before .before .before .before .before .before .opening-at .ensures)) _ (way .1 .given .1) in lead-opens (c .before .before .before .before .before .before .before .before .before .before .before .before .before .before .before .before .before .before .before .before .before .before .before .before .before .args .words .now) (c .before .before .before .before .before .before .before .before .before .before .before .before .before .before .before .before .before .before .before .before .before .before .before .before .before .args .fields .now) (c .before .before .before .before .before .before .before .before .before .before .before .before .before .before .before .before .before .before .before .before .before .before .before .before .before .args .message .now) (c .before .before .before .before .before .before .before .before .before .before .before .before .before .before .before .before .before .before .before .before .before .before .before .before .before .args .enclosing .now) (c .before .before .before .before .before .before .before .before .before .before .before .before .before .before .before .before .before .before .before .before .before .before .before .before .before .pre .1 .lent .passed) (c .before .before .before .before .before .before .before .before .before .before .before .before .before .before .before .before .before .before .before .before .before .before .before .before .before .args .group) (c .before .before .before .before .before .before .before .before .before .before .before .before .before .before .before .before .before .before .before .before .before .before .before .before .before .pre .1 .lent .valid) (c .before .before .before .before .before .before .before .before .before .before .before .before .before .before .before .before .before .before .before .before .before .before .before .before .before .args .index) (c .before .before .before .before .before .before .before .before .before .before .before .before .before .before .before .before .before .before .before .before .before .before .before .before .before .args .depth) _ _ (omega (arith, c .before .before .before .before .before .before .before .before .before .before .before .before .before .before .before .before .before .before .before .row-count .ensures, c .before .before .before .before .before .before .before .before .before .before .before .before .before .before .before .before .before .before .if1 .left)) (c .before .before .before .before .before .before .before .before .before .before .before .before .before .before .before .before .if2 .left) (c .before .before .before .before .before .before .before .before .before .before .before .before .before .before .before .count-at .result) (c .before .before .before .before .before .before .before .before .before .before .before .before .before .before .before .count-at .ensures) _ (c .before .before .before .before .before .before .before .before .before .before .before .before .before .before .before .before .before .count-tag-at .ensures) _ _ (c .before .before .before .before .before .before .before .before .loop .cursor) (c .before .before .before .before .before .before .before .before .loop .entries) (c .before .before .before .before .before .before .before .before .loop .unparseable) (c .before .before .before .before .before .before .before .before .loop .inv) (leads .0) (leads .1) _ (leads .2) _ _ (way .4 .ensures) _ (way .7) _ (way .8) _ (way .9)) (c .before .before .before .before .before .before .match .came) in omega (arith, c .before .before .before .scan-entry .ensures .few, c .before .before .before .scan-entry .ensures .within, opened .room, c .before .before .before .before .before .before .before .before .before .before .before .before .before .before .before .before .before .before .before .before .before .before .before .before .before .pre .1 .lent .table .few)
 
 -- unparseable = either(unparseable, entry.unparseable);
 walk-group-either-requires : (t : ℕ) → walk-group-lts.Need-either-requires (walk-group-claims t) (walk-group-at t) walk-group.Post walk-group-Inv-loop walk-group-μ-loop
@@ -465,33 +472,33 @@ walk-group-either-requires t c κs = search needs
 
 -- entries += 1;
 walk-group-add-entries : (t : ℕ) → walk-group-lts.Need-add-entries (walk-group-claims t) (walk-group-at t) walk-group.Post walk-group-Inv-loop walk-group-μ-loop
-walk-group-add-entries t c = omega (arith, c .before .before .before .before .before .before .before .before .before .before .before .before .before .loop .inv .ahead, c .before .before .before .before .before .before .before .before .before .before .before .before .before .loop .inv .within, c .before .before .before .before .before .before .before .before .before .before .before .before .before .before .before .before .before .before .before .before .before .before .before .before .before .before .before .before .before .before .pre .1 .lent .table .few)
+walk-group-add-entries t c = omega (arith, c .before .before .before .before .before .before .before .before .before .before .before .before .loop .inv .ahead, c .before .before .before .before .before .before .before .before .before .before .before .before .loop .inv .within, c .before .before .before .before .before .before .before .before .before .before .before .before .before .before .before .before .before .before .before .before .before .before .before .before .before .before .before .before .before .pre .1 .lent .table .few)
 
 -- loop {
 walk-group-loop-less : (t : ℕ) → walk-group-lts.Need-loop-less (walk-group-claims t) (walk-group-at t) walk-group.Post walk-group-Inv-loop walk-group-μ-loop
 walk-group-loop-less t c = omega (arith, c .before .before .before .before .before .before .before .scan-entry .ensures .moves, c .before .before .before .before .before .before .before .scan-entry .ensures .within)
 
 walk-group-loop-again : (t : ℕ) → walk-group-lts.Need-loop-again (walk-group-claims t) (walk-group-at t) walk-group.Post walk-group-Inv-loop walk-group-μ-loop
-walk-group-loop-again t c = group-adds-entry (c .before .before .before .before .before .before .before .before .before .before .before .before .before .before .before .before .before .before .before .before .before .before .before .before .before .before .before .before .before .before .args .words .now) (c .before .before .before .before .before .before .before .before .before .before .before .before .before .before .before .before .before .before .before .before .before .before .before .before .before .before .before .before .before .before .args .fields .now) (c .before .before .before .before .before .before .before .before .before .before .before .before .before .before .before .before .before .before .before .before .before .before .before .before .before .before .before .before .before .before .args .message .now) (c .before .before .before .before .before .before .before .before .before .before .before .before .before .before .before .before .before .before .before .before .before .before .before .before .before .before .before .before .before .before .args .enclosing .now) (c .before .before .before .before .before .before .before .before .before .before .before .before .before .before .before .before .before .before .before .before .before .before .before .before .before .before .before .before .before .before .pre .1 .lent .passed) (c .before .before .before .before .before .before .before .before .before .before .before .before .before .before .before .before .before .before .before .before .before .before .before .before .before .before .before .before .before .before .args .group) (c .before .before .before .before .before .before .before .before .before .before .before .before .before .before .before .before .before .before .before .before .before .before .before .before .before .before .before .before .before .before .pre .1 .lent .valid) (c .before .before .before .before .before .before .before .before .before .before .before .before .before .before .before .before .before .before .before .before .before .before .before .before .before .before .before .before .before .before .args .index) (c .before .before .before .before .before .before .before .before .before .before .before .before .before .before .before .before .before .before .before .before .before .before .before .before .before .before .before .before .before .before .args .depth) _ _ (omega (arith, c .before .before .before .before .before .before .before .before .before .before .before .before .before .before .before .before .before .before .before .before .before .before .before .before .row-count .ensures, c .before .before .before .before .before .before .before .before .before .before .before .before .before .before .before .before .before .before .before .before .before .before .before .if1 .left)) (c .before .before .before .before .before .before .before .before .before .before .before .before .before .before .before .before .before .before .before .before .before .if2 .left) (c .before .before .before .before .before .before .before .before .before .before .before .before .before .before .before .before .before .before .before .before .count-at .result) (c .before .before .before .before .before .before .before .before .before .before .before .before .before .before .before .before .before .before .before .before .count-at .ensures) _ (c .before .before .before .before .before .before .before .before .before .before .before .before .before .before .before .before .before .before .before .before .before .before .count-tag-at .ensures) _ _ (c .before .before .before .before .before .before .before .before .before .before .before .before .before .loop .cursor) (c .before .before .before .before .before .before .before .before .before .before .before .before .before .loop .entries) (c .before .before .before .before .before .before .before .before .before .before .before .before .before .loop .unparseable) (c .before .before .before .before .before .before .before .before .before .before .before .before .before .loop .inv) (turn-entry (c .before .before .before .before .before .before .before .before .before .before .before .before .before .before .before .before .before .before .before .before .before .before .before .before .before .before .before .before .before .before .args .words .now) (c .before .before .before .before .before .before .before .before .before .before .before .before .before .before .before .before .before .before .before .before .before .before .before .before .before .before .before .before .before .before .args .fields .now) (c .before .before .before .before .before .before .before .before .before .before .before .before .before .before .before .before .before .before .before .before .before .before .before .before .before .before .before .before .before .before .args .message .now) (c .before .before .before .before .before .before .before .before .before .before .before .before .before .before .before .before .before .before .before .before .before .before .before .before .before .before .before .before .before .before .args .enclosing .now) (c .before .before .before .before .before .before .before .before .before .before .before .before .before .before .before .before .before .before .before .before .before .before .before .before .before .before .before .before .before .before .args .group) (c .before .before .before .before .before .before .before .before .before .before .before .before .before .before .before .before .before .before .before .before .count-at .result) (c .before .before .before .before .before .before .before .before .before .before .before .before .before .loop .entries) (c .before .before .before .before .before .before .before .before .before .before .before .before .before .loop .cursor) _ (level-turn (c .before .before .before .before .before .before .before .before .before .before .before .before .before .before .before .before .before .before .before .before .before .before .before .before .before .before .before .before .before .before .args .words .now) (c .before .before .before .before .before .before .before .before .before .before .before .before .before .before .before .before .before .before .before .before .before .before .before .before .before .before .before .before .before .before .args .group) _ _ (c .before .before .before .before .before .before .before .before .before .before .before .before .before .before .before .before .before .before .before .members-at .ensures) (c .before .before .before .before .before .before .before .before .before .before .before .before .before .before .before .before .before .before .delimiter-at .ensures) (c .before .before .before .before .before .before .before .before .before .before .before .before .before .before .before .before .before .before .before .before .before .before .before .before .before .before .before .before .before .before .args .fields .now) (c .before .before .before .before .before .before .before .before .before .before .before .before .before .before .before .before .before .before .before .before .before .before .before .before .before .before .before .before .before .before .args .enclosing .now) (c .before .before .before .before .before .before .before .before .before .before .before .before .before .before .before .before .before .before .before .before .count-at .result) (c .before .before .before .before .before .before .before .before .before .before .before .before .before .loop .entries) (c .before .before .before .before .before .before .before .before .before .before .before .before .before .loop .cursor) _ (c .before .before .before .before .before .before .before .before .before .before .before .before .opening-at .ensures)) (c .before .before .before .before .before .before .before .before .before .before .enum-told2 .given .1) .0) (turn-entry (c .before .before .before .before .before .before .before .before .before .before .before .before .before .before .before .before .before .before .before .before .before .before .before .before .before .before .before .before .before .before .args .words .now) (c .before .before .before .before .before .before .before .before .before .before .before .before .before .before .before .before .before .before .before .before .before .before .before .before .before .before .before .before .before .before .args .fields .now) (c .before .before .before .before .before .before .before .before .before .before .before .before .before .before .before .before .before .before .before .before .before .before .before .before .before .before .before .before .before .before .args .message .now) (c .before .before .before .before .before .before .before .before .before .before .before .before .before .before .before .before .before .before .before .before .before .before .before .before .before .before .before .before .before .before .args .enclosing .now) (c .before .before .before .before .before .before .before .before .before .before .before .before .before .before .before .before .before .before .before .before .before .before .before .before .before .before .before .before .before .before .args .group) (c .before .before .before .before .before .before .before .before .before .before .before .before .before .before .before .before .before .before .before .before .count-at .result) (c .before .before .before .before .before .before .before .before .before .before .before .before .before .loop .entries) (c .before .before .before .before .before .before .before .before .before .before .before .before .before .loop .cursor) _ (level-turn (c .before .before .before .before .before .before .before .before .before .before .before .before .before .before .before .before .before .before .before .before .before .before .before .before .before .before .before .before .before .before .args .words .now) (c .before .before .before .before .before .before .before .before .before .before .before .before .before .before .before .before .before .before .before .before .before .before .before .before .before .before .before .before .before .before .args .group) _ _ (c .before .before .before .before .before .before .before .before .before .before .before .before .before .before .before .before .before .before .before .members-at .ensures) (c .before .before .before .before .before .before .before .before .before .before .before .before .before .before .before .before .before .before .delimiter-at .ensures) (c .before .before .before .before .before .before .before .before .before .before .before .before .before .before .before .before .before .before .before .before .before .before .before .before .before .before .before .before .before .before .args .fields .now) (c .before .before .before .before .before .before .before .before .before .before .before .before .before .before .before .before .before .before .before .before .before .before .before .before .before .before .before .before .before .before .args .enclosing .now) (c .before .before .before .before .before .before .before .before .before .before .before .before .before .before .before .before .before .before .before .before .count-at .result) (c .before .before .before .before .before .before .before .before .before .before .before .before .before .loop .entries) (c .before .before .before .before .before .before .before .before .before .before .before .before .before .loop .cursor) _ (c .before .before .before .before .before .before .before .before .before .before .before .before .opening-at .ensures)) (c .before .before .before .before .before .before .before .before .before .before .enum-told2 .given .1) .1) _ _ _ _ _ (c .before .before .before .before .before .before .before .scan-entry .ensures) _ _ (c .before .before .before .put-event2 .ensures) _ (c .either .ensures)
+walk-group-loop-again t c = let opened = one-opens (c .before .before .before .before .before .before .before .before .before .before .before .before .before .before .before .before .before .before .before .before .before .before .before .before .before .before .before .before .before .args .words .now) (c .before .before .before .before .before .before .before .before .before .before .before .before .before .before .before .before .before .before .before .before .before .before .before .before .before .before .before .before .before .args .fields .now) (c .before .before .before .before .before .before .before .before .before .before .before .before .before .before .before .before .before .before .before .before .before .before .before .before .before .before .before .before .before .args .message .now) (c .before .before .before .before .before .before .before .before .before .before .before .before .before .before .before .before .before .before .before .before .before .before .before .before .before .before .before .before .before .args .enclosing .now) (c .before .before .before .before .before .before .before .before .before .before .before .before .before .before .before .before .before .before .before .before .before .before .before .before .before .before .before .before .before .pre .1 .lent .passed) (c .before .before .before .before .before .before .before .before .before .before .before .before .before .before .before .before .before .before .before .before .before .before .before .before .before .before .before .before .before .args .group) (c .before .before .before .before .before .before .before .before .before .before .before .before .before .before .before .before .before .before .before .before .before .before .before .before .before .before .before .before .before .pre .1 .lent .valid) (c .before .before .before .before .before .before .before .before .before .before .before .before .before .before .before .before .before .before .before .before .before .before .before .before .before .before .before .before .before .args .index) (c .before .before .before .before .before .before .before .before .before .before .before .before .before .before .before .before .before .before .before .before .before .before .before .before .before .before .before .before .before .args .depth) _ _ (omega (arith, c .before .before .before .before .before .before .before .before .before .before .before .before .before .before .before .before .before .before .before .before .before .before .before .row-count .ensures, c .before .before .before .before .before .before .before .before .before .before .before .before .before .before .before .before .before .before .before .before .before .before .if1 .left)) (c .before .before .before .before .before .before .before .before .before .before .before .before .before .before .before .before .before .before .before .before .if2 .left) (c .before .before .before .before .before .before .before .before .before .before .before .before .before .before .before .before .before .before .before .count-at .result) (c .before .before .before .before .before .before .before .before .before .before .before .before .before .before .before .before .before .before .before .count-at .ensures) _ (c .before .before .before .before .before .before .before .before .before .before .before .before .before .before .before .before .before .before .before .before .before .count-tag-at .ensures) _ _ (c .before .before .before .before .before .before .before .before .before .before .before .before .loop .cursor) (c .before .before .before .before .before .before .before .before .before .before .before .before .loop .entries) (c .before .before .before .before .before .before .before .before .before .before .before .before .loop .unparseable) (c .before .before .before .before .before .before .before .before .before .before .before .before .loop .inv) (c .before .before .before .before .before .before .before .before .before .before .match .events) (c .before .before .before .before .before .before .before .before .before .before .match .to) (c .before .before .before .before .before .before .before .before .before .before .match .unparseable) (λ way. let begins = turn-entry (c .before .before .before .before .before .before .before .before .before .before .before .before .before .before .before .before .before .before .before .before .before .before .before .before .before .before .before .before .before .args .words .now) (c .before .before .before .before .before .before .before .before .before .before .before .before .before .before .before .before .before .before .before .before .before .before .before .before .before .before .before .before .before .args .fields .now) (c .before .before .before .before .before .before .before .before .before .before .before .before .before .before .before .before .before .before .before .before .before .before .before .before .before .before .before .before .before .args .message .now) (c .before .before .before .before .before .before .before .before .before .before .before .before .before .before .before .before .before .before .before .before .before .before .before .before .before .before .before .before .before .args .enclosing .now) (c .before .before .before .before .before .before .before .before .before .before .before .before .before .before .before .before .before .before .before .before .before .before .before .before .before .before .before .before .before .args .group) (c .before .before .before .before .before .before .before .before .before .before .before .before .before .before .before .before .before .before .before .count-at .result) (c .before .before .before .before .before .before .before .before .before .before .before .before .loop .entries) (c .before .before .before .before .before .before .before .before .before .before .before .before .loop .cursor) _ (level-turn (c .before .before .before .before .before .before .before .before .before .before .before .before .before .before .before .before .before .before .before .before .before .before .before .before .before .before .before .before .before .args .words .now) (c .before .before .before .before .before .before .before .before .before .before .before .before .before .before .before .before .before .before .before .before .before .before .before .before .before .before .before .before .before .args .group) _ _ (c .before .before .before .before .before .before .before .before .before .before .before .before .before .before .before .before .before .before .members-at .ensures) (c .before .before .before .before .before .before .before .before .before .before .before .before .before .before .before .before .before .delimiter-at .ensures) (c .before .before .before .before .before .before .before .before .before .before .before .before .before .before .before .before .before .before .before .before .before .before .before .before .before .before .before .before .before .args .fields .now) (c .before .before .before .before .before .before .before .before .before .before .before .before .before .before .before .before .before .before .before .before .before .before .before .before .before .before .before .before .before .args .enclosing .now) (c .before .before .before .before .before .before .before .before .before .before .before .before .before .before .before .before .before .before .before .count-at .result) (c .before .before .before .before .before .before .before .before .before .before .before .before .loop .entries) (c .before .before .before .before .before .before .before .before .before .before .before .before .loop .cursor) _ (c .before .before .before .before .before .before .before .before .before .before .before .opening-at .ensures)) (way .1 .given .1) in entry-opens (c .before .before .before .before .before .before .before .before .before .before .before .before .before .before .before .before .before .before .before .before .before .before .before .before .before .before .before .before .before .args .words .now) (c .before .before .before .before .before .before .before .before .before .before .before .before .before .before .before .before .before .before .before .before .before .before .before .before .before .before .before .before .before .args .fields .now) (c .before .before .before .before .before .before .before .before .before .before .before .before .before .before .before .before .before .before .before .before .before .before .before .before .before .before .before .before .before .args .message .now) (c .before .before .before .before .before .before .before .before .before .before .before .before .before .before .before .before .before .before .before .before .before .before .before .before .before .before .before .before .before .args .enclosing .now) (c .before .before .before .before .before .before .before .before .before .before .before .before .before .before .before .before .before .before .before .before .before .before .before .before .before .before .before .before .before .pre .1 .lent .passed) (c .before .before .before .before .before .before .before .before .before .before .before .before .before .before .before .before .before .before .before .before .before .before .before .before .before .before .before .before .before .args .group) (c .before .before .before .before .before .before .before .before .before .before .before .before .before .before .before .before .before .before .before .before .before .before .before .before .before .before .before .before .before .pre .1 .lent .valid) (c .before .before .before .before .before .before .before .before .before .before .before .before .before .before .before .before .before .before .before .before .before .before .before .before .before .before .before .before .before .args .index) (c .before .before .before .before .before .before .before .before .before .before .before .before .before .before .before .before .before .before .before .before .before .before .before .before .before .before .before .before .before .args .depth) _ _ (omega (arith, c .before .before .before .before .before .before .before .before .before .before .before .before .before .before .before .before .before .before .before .before .before .before .before .row-count .ensures, c .before .before .before .before .before .before .before .before .before .before .before .before .before .before .before .before .before .before .before .before .before .before .if1 .left)) (c .before .before .before .before .before .before .before .before .before .before .before .before .before .before .before .before .before .before .before .before .if2 .left) (c .before .before .before .before .before .before .before .before .before .before .before .before .before .before .before .before .before .before .before .count-at .result) (c .before .before .before .before .before .before .before .before .before .before .before .before .before .before .before .before .before .before .before .count-at .ensures) _ (c .before .before .before .before .before .before .before .before .before .before .before .before .before .before .before .before .before .before .before .before .before .count-tag-at .ensures) _ _ (c .before .before .before .before .before .before .before .before .before .before .before .before .loop .cursor) (c .before .before .before .before .before .before .before .before .before .before .before .before .loop .entries) (c .before .before .before .before .before .before .before .before .before .before .before .before .loop .unparseable) (c .before .before .before .before .before .before .before .before .before .before .before .before .loop .inv) (begins .0) (begins .1) _ (way .2) _ (way .3) _ (way .4)) (λ way. let leads = turn-lead (c .before .before .before .before .before .before .before .before .before .before .before .before .before .before .before .before .before .before .before .before .before .before .before .before .before .before .before .before .before .args .words .now) (c .before .before .before .before .before .before .before .before .before .before .before .before .before .before .before .before .before .before .before .before .before .before .before .before .before .before .before .before .before .args .fields .now) (c .before .before .before .before .before .before .before .before .before .before .before .before .before .before .before .before .before .before .before .before .before .before .before .before .before .before .before .before .before .args .message .now) (c .before .before .before .before .before .before .before .before .before .before .before .before .before .before .before .before .before .before .before .before .before .before .before .before .before .before .before .before .before .args .enclosing .now) (c .before .before .before .before .before .before .before .before .before .before .before .before .before .before .before .before .before .before .before .before .before .before .before .before .before .before .before .before .before .args .group) (c .before .before .before .before .before .before .before .before .before .before .before .before .before .before .before .before .before .before .before .count-at .result) (c .before .before .before .before .before .before .before .before .before .before .before .before .loop .entries) (c .before .before .before .before .before .before .before .before .before .before .before .before .loop .cursor) _ (level-turn (c .before .before .before .before .before .before .before .before .before .before .before .before .before .before .before .before .before .before .before .before .before .before .before .before .before .before .before .before .before .args .words .now) (c .before .before .before .before .before .before .before .before .before .before .before .before .before .before .before .before .before .before .before .before .before .before .before .before .before .before .before .before .before .args .group) _ _ (c .before .before .before .before .before .before .before .before .before .before .before .before .before .before .before .before .before .before .members-at .ensures) (c .before .before .before .before .before .before .before .before .before .before .before .before .before .before .before .before .before .delimiter-at .ensures) (c .before .before .before .before .before .before .before .before .before .before .before .before .before .before .before .before .before .before .before .before .before .before .before .before .before .before .before .before .before .args .fields .now) (c .before .before .before .before .before .before .before .before .before .before .before .before .before .before .before .before .before .before .before .before .before .before .before .before .before .before .before .before .before .args .enclosing .now) (c .before .before .before .before .before .before .before .before .before .before .before .before .before .before .before .before .before .before .before .count-at .result) (c .before .before .before .before .before .before .before .before .before .before .before .before .loop .entries) (c .before .before .before .before .before .before .before .before .before .before .before .before .loop .cursor) _ (c .before .before .before .before .before .before .before .before .before .before .before .opening-at .ensures)) _ (way .1 .given .1) in lead-opens (c .before .before .before .before .before .before .before .before .before .before .before .before .before .before .before .before .before .before .before .before .before .before .before .before .before .before .before .before .before .args .words .now) (c .before .before .before .before .before .before .before .before .before .before .before .before .before .before .before .before .before .before .before .before .before .before .before .before .before .before .before .before .before .args .fields .now) (c .before .before .before .before .before .before .before .before .before .before .before .before .before .before .before .before .before .before .before .before .before .before .before .before .before .before .before .before .before .args .message .now) (c .before .before .before .before .before .before .before .before .before .before .before .before .before .before .before .before .before .before .before .before .before .before .before .before .before .before .before .before .before .args .enclosing .now) (c .before .before .before .before .before .before .before .before .before .before .before .before .before .before .before .before .before .before .before .before .before .before .before .before .before .before .before .before .before .pre .1 .lent .passed) (c .before .before .before .before .before .before .before .before .before .before .before .before .before .before .before .before .before .before .before .before .before .before .before .before .before .before .before .before .before .args .group) (c .before .before .before .before .before .before .before .before .before .before .before .before .before .before .before .before .before .before .before .before .before .before .before .before .before .before .before .before .before .pre .1 .lent .valid) (c .before .before .before .before .before .before .before .before .before .before .before .before .before .before .before .before .before .before .before .before .before .before .before .before .before .before .before .before .before .args .index) (c .before .before .before .before .before .before .before .before .before .before .before .before .before .before .before .before .before .before .before .before .before .before .before .before .before .before .before .before .before .args .depth) _ _ (omega (arith, c .before .before .before .before .before .before .before .before .before .before .before .before .before .before .before .before .before .before .before .before .before .before .before .row-count .ensures, c .before .before .before .before .before .before .before .before .before .before .before .before .before .before .before .before .before .before .before .before .before .before .if1 .left)) (c .before .before .before .before .before .before .before .before .before .before .before .before .before .before .before .before .before .before .before .before .if2 .left) (c .before .before .before .before .before .before .before .before .before .before .before .before .before .before .before .before .before .before .before .count-at .result) (c .before .before .before .before .before .before .before .before .before .before .before .before .before .before .before .before .before .before .before .count-at .ensures) _ (c .before .before .before .before .before .before .before .before .before .before .before .before .before .before .before .before .before .before .before .before .before .count-tag-at .ensures) _ _ (c .before .before .before .before .before .before .before .before .before .before .before .before .loop .cursor) (c .before .before .before .before .before .before .before .before .before .before .before .before .loop .entries) (c .before .before .before .before .before .before .before .before .before .before .before .before .loop .unparseable) (c .before .before .before .before .before .before .before .before .before .before .before .before .loop .inv) (leads .0) (leads .1) _ (leads .2) _ _ (way .4 .ensures) _ (way .7) _ (way .8) _ (way .9)) (c .before .before .before .before .before .before .before .before .before .before .match .came) in opened .adds _ _ _ _ _ (c .before .before .before .before .before .before .before .scan-entry .ensures) _ _ (c .before .before .before .put-event3 .ensures) _ (c .either .ensures)
 
 -- let entry = scan_wide(fields, message, words, group, cursor, depth, events, to);
 walk-group-scan-wide-requires : (t : ℕ) → walk-group-lts.Need-scan-wide-requires (walk-group-claims t) (walk-group-at t) walk-group.Post walk-group-Inv-loop walk-group-μ-loop
 walk-group-scan-wide-requires t c κs =
-    let within = entry-inside (c .before .before .before .before .before .before .before .before .before .before .before .before .before .before .before .before .before .before .before .before .before .before .args .words .now) (c .before .before .before .before .before .before .before .before .before .before .before .before .before .before .before .before .before .before .before .before .before .before .args .fields .now) (c .before .before .before .before .before .before .before .before .before .before .before .before .before .before .before .before .before .before .before .before .before .before .args .message .now) (c .before .before .before .before .before .before .before .before .before .before .before .before .before .before .before .before .before .before .before .before .before .before .args .enclosing .now) (c .before .before .before .before .before .before .before .before .before .before .before .before .before .before .before .before .before .before .before .before .before .before .pre .1 .lent .passed) (c .before .before .before .before .before .before .before .before .before .before .before .before .before .before .before .before .before .before .before .before .before .before .args .group) (c .before .before .before .before .before .before .before .before .before .before .before .before .before .before .before .before .before .before .before .before .before .before .pre .1 .lent .valid) (c .before .before .before .before .before .before .before .before .before .before .before .before .before .before .before .before .before .before .before .before .before .before .args .index) (c .before .before .before .before .before .before .before .before .before .before .before .before .before .before .before .before .before .before .before .before .before .before .args .depth) _ _ (omega (arith, c .before .before .before .before .before .before .before .before .before .before .before .before .before .before .before .before .row-count .ensures, c .before .before .before .before .before .before .before .before .before .before .before .before .before .before .before .if1 .left)) (c .before .before .before .before .before .before .before .before .before .before .before .before .before .if2 .left) (c .before .before .before .before .before .before .before .before .before .before .before .before .count-at .result) (c .before .before .before .before .before .before .before .before .before .before .before .before .count-at .ensures) _ (c .before .before .before .before .before .before .before .before .before .before .before .before .before .before .count-tag-at .ensures) _ _ (c .before .before .before .before .before .loop .cursor) (c .before .before .before .before .before .loop .entries) (c .before .before .before .before .before .loop .unparseable) (c .before .before .before .before .before .loop .inv) (turn-entry (c .before .before .before .before .before .before .before .before .before .before .before .before .before .before .before .before .before .before .before .before .before .before .args .words .now) (c .before .before .before .before .before .before .before .before .before .before .before .before .before .before .before .before .before .before .before .before .before .before .args .fields .now) (c .before .before .before .before .before .before .before .before .before .before .before .before .before .before .before .before .before .before .before .before .before .before .args .message .now) (c .before .before .before .before .before .before .before .before .before .before .before .before .before .before .before .before .before .before .before .before .before .before .args .enclosing .now) (c .before .before .before .before .before .before .before .before .before .before .before .before .before .before .before .before .before .before .before .before .before .before .args .group) (c .before .before .before .before .before .before .before .before .before .before .before .before .count-at .result) (c .before .before .before .before .before .loop .entries) (c .before .before .before .before .before .loop .cursor) _ (level-turn (c .before .before .before .before .before .before .before .before .before .before .before .before .before .before .before .before .before .before .before .before .before .before .args .words .now) (c .before .before .before .before .before .before .before .before .before .before .before .before .before .before .before .before .before .before .before .before .before .before .args .group) _ _ (c .before .before .before .before .before .before .before .before .before .before .before .members-at .ensures) (c .before .before .before .before .before .before .before .before .before .before .delimiter-at .ensures) (c .before .before .before .before .before .before .before .before .before .before .before .before .before .before .before .before .before .before .before .before .before .before .args .fields .now) (c .before .before .before .before .before .before .before .before .before .before .before .before .before .before .before .before .before .before .before .before .before .before .args .enclosing .now) (c .before .before .before .before .before .before .before .before .before .before .before .before .count-at .result) (c .before .before .before .before .before .loop .entries) (c .before .before .before .before .before .loop .cursor) _ (c .before .before .before .before .opening-at .ensures)) (c .before .before .enum-told2 .given .1) .0) in (
-      omega (arith, c .before .before .before .before .before .before .before .before .before .before .before .before .before .before .before .before .before .before .before .before .before .before .pre .0, within, c .before .before .before .before .before .loop .inv .ahead),
+    let opened = one-opens (c .before .before .before .before .before .before .before .before .before .before .before .before .before .before .before .before .before .before .before .before .before .args .words .now) (c .before .before .before .before .before .before .before .before .before .before .before .before .before .before .before .before .before .before .before .before .before .args .fields .now) (c .before .before .before .before .before .before .before .before .before .before .before .before .before .before .before .before .before .before .before .before .before .args .message .now) (c .before .before .before .before .before .before .before .before .before .before .before .before .before .before .before .before .before .before .before .before .before .args .enclosing .now) (c .before .before .before .before .before .before .before .before .before .before .before .before .before .before .before .before .before .before .before .before .before .pre .1 .lent .passed) (c .before .before .before .before .before .before .before .before .before .before .before .before .before .before .before .before .before .before .before .before .before .args .group) (c .before .before .before .before .before .before .before .before .before .before .before .before .before .before .before .before .before .before .before .before .before .pre .1 .lent .valid) (c .before .before .before .before .before .before .before .before .before .before .before .before .before .before .before .before .before .before .before .before .before .args .index) (c .before .before .before .before .before .before .before .before .before .before .before .before .before .before .before .before .before .before .before .before .before .args .depth) _ _ (omega (arith, c .before .before .before .before .before .before .before .before .before .before .before .before .before .before .before .row-count .ensures, c .before .before .before .before .before .before .before .before .before .before .before .before .before .before .if1 .left)) (c .before .before .before .before .before .before .before .before .before .before .before .before .if2 .left) (c .before .before .before .before .before .before .before .before .before .before .before .count-at .result) (c .before .before .before .before .before .before .before .before .before .before .before .count-at .ensures) _ (c .before .before .before .before .before .before .before .before .before .before .before .before .before .count-tag-at .ensures) _ _ (c .before .before .before .before .loop .cursor) (c .before .before .before .before .loop .entries) (c .before .before .before .before .loop .unparseable) (c .before .before .before .before .loop .inv) (c .before .before .match .events) (c .before .before .match .to) (c .before .before .match .unparseable) (λ way. let begins = turn-entry (c .before .before .before .before .before .before .before .before .before .before .before .before .before .before .before .before .before .before .before .before .before .args .words .now) (c .before .before .before .before .before .before .before .before .before .before .before .before .before .before .before .before .before .before .before .before .before .args .fields .now) (c .before .before .before .before .before .before .before .before .before .before .before .before .before .before .before .before .before .before .before .before .before .args .message .now) (c .before .before .before .before .before .before .before .before .before .before .before .before .before .before .before .before .before .before .before .before .before .args .enclosing .now) (c .before .before .before .before .before .before .before .before .before .before .before .before .before .before .before .before .before .before .before .before .before .args .group) (c .before .before .before .before .before .before .before .before .before .before .before .count-at .result) (c .before .before .before .before .loop .entries) (c .before .before .before .before .loop .cursor) _ (level-turn (c .before .before .before .before .before .before .before .before .before .before .before .before .before .before .before .before .before .before .before .before .before .args .words .now) (c .before .before .before .before .before .before .before .before .before .before .before .before .before .before .before .before .before .before .before .before .before .args .group) _ _ (c .before .before .before .before .before .before .before .before .before .before .members-at .ensures) (c .before .before .before .before .before .before .before .before .before .delimiter-at .ensures) (c .before .before .before .before .before .before .before .before .before .before .before .before .before .before .before .before .before .before .before .before .before .args .fields .now) (c .before .before .before .before .before .before .before .before .before .before .before .before .before .before .before .before .before .before .before .before .before .args .enclosing .now) (c .before .before .before .before .before .before .before .before .before .before .before .count-at .result) (c .before .before .before .before .loop .entries) (c .before .before .before .before .loop .cursor) _ (c .before .before .before .opening-at .ensures)) (way .1 .given .1) in entry-opens (c .before .before .before .before .before .before .before .before .before .before .before .before .before .before .before .before .before .before .before .before .before .args .words .now) (c .before .before .before .before .before .before .before .before .before .before .before .before .before .before .before .before .before .before .before .before .before .args .fields .now) (c .before .before .before .before .before .before .before .before .before .before .before .before .before .before .before .before .before .before .before .before .before .args .message .now) (c .before .before .before .before .before .before .before .before .before .before .before .before .before .before .before .before .before .before .before .before .before .args .enclosing .now) (c .before .before .before .before .before .before .before .before .before .before .before .before .before .before .before .before .before .before .before .before .before .pre .1 .lent .passed) (c .before .before .before .before .before .before .before .before .before .before .before .before .before .before .before .before .before .before .before .before .before .args .group) (c .before .before .before .before .before .before .before .before .before .before .before .before .before .before .before .before .before .before .before .before .before .pre .1 .lent .valid) (c .before .before .before .before .before .before .before .before .before .before .before .before .before .before .before .before .before .before .before .before .before .args .index) (c .before .before .before .before .before .before .before .before .before .before .before .before .before .before .before .before .before .before .before .before .before .args .depth) _ _ (omega (arith, c .before .before .before .before .before .before .before .before .before .before .before .before .before .before .before .row-count .ensures, c .before .before .before .before .before .before .before .before .before .before .before .before .before .before .if1 .left)) (c .before .before .before .before .before .before .before .before .before .before .before .before .if2 .left) (c .before .before .before .before .before .before .before .before .before .before .before .count-at .result) (c .before .before .before .before .before .before .before .before .before .before .before .count-at .ensures) _ (c .before .before .before .before .before .before .before .before .before .before .before .before .before .count-tag-at .ensures) _ _ (c .before .before .before .before .loop .cursor) (c .before .before .before .before .loop .entries) (c .before .before .before .before .loop .unparseable) (c .before .before .before .before .loop .inv) (begins .0) (begins .1) _ (way .2) _ (way .3) _ (way .4)) (λ way. let leads = turn-lead (c .before .before .before .before .before .before .before .before .before .before .before .before .before .before .before .before .before .before .before .before .before .args .words .now) (c .before .before .before .before .before .before .before .before .before .before .before .before .before .before .before .before .before .before .before .before .before .args .fields .now) (c .before .before .before .before .before .before .before .before .before .before .before .before .before .before .before .before .before .before .before .before .before .args .message .now) (c .before .before .before .before .before .before .before .before .before .before .before .before .before .before .before .before .before .before .before .before .before .args .enclosing .now) (c .before .before .before .before .before .before .before .before .before .before .before .before .before .before .before .before .before .before .before .before .before .args .group) (c .before .before .before .before .before .before .before .before .before .before .before .count-at .result) (c .before .before .before .before .loop .entries) (c .before .before .before .before .loop .cursor) _ (level-turn (c .before .before .before .before .before .before .before .before .before .before .before .before .before .before .before .before .before .before .before .before .before .args .words .now) (c .before .before .before .before .before .before .before .before .before .before .before .before .before .before .before .before .before .before .before .before .before .args .group) _ _ (c .before .before .before .before .before .before .before .before .before .before .members-at .ensures) (c .before .before .before .before .before .before .before .before .before .delimiter-at .ensures) (c .before .before .before .before .before .before .before .before .before .before .before .before .before .before .before .before .before .before .before .before .before .args .fields .now) (c .before .before .before .before .before .before .before .before .before .before .before .before .before .before .before .before .before .before .before .before .before .args .enclosing .now) (c .before .before .before .before .before .before .before .before .before .before .before .count-at .result) (c .before .before .before .before .loop .entries) (c .before .before .before .before .loop .cursor) _ (c .before .before .before .opening-at .ensures)) _ (way .1 .given .1) in lead-opens (c .before .before .before .before .before .before .before .before .before .before .before .before .before .before .before .before .before .before .before .before .before .args .words .now) (c .before .before .before .before .before .before .before .before .before .before .before .before .before .before .before .before .before .before .before .before .before .args .fields .now) (c .before .before .before .before .before .before .before .before .before .before .before .before .before .before .before .before .before .before .before .before .before .args .message .now) (c .before .before .before .before .before .before .before .before .before .before .before .before .before .before .before .before .before .before .before .before .before .args .enclosing .now) (c .before .before .before .before .before .before .before .before .before .before .before .before .before .before .before .before .before .before .before .before .before .pre .1 .lent .passed) (c .before .before .before .before .before .before .before .before .before .before .before .before .before .before .before .before .before .before .before .before .before .args .group) (c .before .before .before .before .before .before .before .before .before .before .before .before .before .before .before .before .before .before .before .before .before .pre .1 .lent .valid) (c .before .before .before .before .before .before .before .before .before .before .before .before .before .before .before .before .before .before .before .before .before .args .index) (c .before .before .before .before .before .before .before .before .before .before .before .before .before .before .before .before .before .before .before .before .before .args .depth) _ _ (omega (arith, c .before .before .before .before .before .before .before .before .before .before .before .before .before .before .before .row-count .ensures, c .before .before .before .before .before .before .before .before .before .before .before .before .before .before .if1 .left)) (c .before .before .before .before .before .before .before .before .before .before .before .before .if2 .left) (c .before .before .before .before .before .before .before .before .before .before .before .count-at .result) (c .before .before .before .before .before .before .before .before .before .before .before .count-at .ensures) _ (c .before .before .before .before .before .before .before .before .before .before .before .before .before .count-tag-at .ensures) _ _ (c .before .before .before .before .loop .cursor) (c .before .before .before .before .loop .entries) (c .before .before .before .before .loop .unparseable) (c .before .before .before .before .loop .inv) (leads .0) (leads .1) _ (leads .2) _ _ (way .4 .ensures) _ (way .7) _ (way .8) _ (way .9)) (c .before .before .match .came) in (
+      omega (arith, c .before .before .before .before .before .before .before .before .before .before .before .before .before .before .before .before .before .before .before .before .before .pre .0, opened .inside, c .before .before .before .before .loop .inv .ahead),
       record {
-        lent = c .before .before .before .before .before .before .before .before .before .before .before .before .before .before .before .before .before .before .before .before .before .before .pre .1 .lent;
-        few-members = members-few-here (c .before .before .before .before .before .before .before .before .before .before .before .before .before .before .before .before .before .before .before .before .before .before .args .words .now) (c .before .before .before .before .before .before .before .before .before .before .before .before .before .before .before .before .before .before .before .before .before .before .pre .1 .lent .passed) (1 + c .before .before .before .before .before .before .before .before .before .before .before .before .before .before .before .before .before .before .before .before .before .before .args .group) (omega (arith, c .before .before .before .before .before .before .before .before .before .before .before .before .before .before .before .before .before .before .before .before .before .before .pre .1 .lent .valid));
-        taken = entry-taken (c .before .before .before .before .before .before .before .before .before .before .before .before .before .before .before .before .before .before .before .before .before .before .args .words .now) (c .before .before .before .before .before .before .before .before .before .before .before .before .before .before .before .before .before .before .before .before .before .before .args .fields .now) (c .before .before .before .before .before .before .before .before .before .before .before .before .before .before .before .before .before .before .before .before .before .before .args .message .now) (c .before .before .before .before .before .before .before .before .before .before .before .before .before .before .before .before .before .before .before .before .before .before .args .enclosing .now) (c .before .before .before .before .before .before .before .before .before .before .before .before .before .before .before .before .before .before .before .before .before .before .pre .1 .lent .passed) (c .before .before .before .before .before .before .before .before .before .before .before .before .before .before .before .before .before .before .before .before .before .before .args .group) (c .before .before .before .before .before .before .before .before .before .before .before .before .before .before .before .before .before .before .before .before .before .before .pre .1 .lent .valid) (c .before .before .before .before .before .before .before .before .before .before .before .before .before .before .before .before .before .before .before .before .before .before .args .index) (c .before .before .before .before .before .before .before .before .before .before .before .before .before .before .before .before .before .before .before .before .before .before .args .depth) _ _ (omega (arith, c .before .before .before .before .before .before .before .before .before .before .before .before .before .before .before .before .row-count .ensures, c .before .before .before .before .before .before .before .before .before .before .before .before .before .before .before .if1 .left)) (c .before .before .before .before .before .before .before .before .before .before .before .before .before .if2 .left) (c .before .before .before .before .before .before .before .before .before .before .before .before .count-at .result) (c .before .before .before .before .before .before .before .before .before .before .before .before .count-at .ensures) _ (c .before .before .before .before .before .before .before .before .before .before .before .before .before .before .count-tag-at .ensures) _ _ (c .before .before .before .before .before .loop .cursor) (c .before .before .before .before .before .loop .entries) (c .before .before .before .before .before .loop .unparseable) (c .before .before .before .before .before .loop .inv) (turn-entry (c .before .before .before .before .before .before .before .before .before .before .before .before .before .before .before .before .before .before .before .before .before .before .args .words .now) (c .before .before .before .before .before .before .before .before .before .before .before .before .before .before .before .before .before .before .before .before .before .before .args .fields .now) (c .before .before .before .before .before .before .before .before .before .before .before .before .before .before .before .before .before .before .before .before .before .before .args .message .now) (c .before .before .before .before .before .before .before .before .before .before .before .before .before .before .before .before .before .before .before .before .before .before .args .enclosing .now) (c .before .before .before .before .before .before .before .before .before .before .before .before .before .before .before .before .before .before .before .before .before .before .args .group) (c .before .before .before .before .before .before .before .before .before .before .before .before .count-at .result) (c .before .before .before .before .before .loop .entries) (c .before .before .before .before .before .loop .cursor) _ (level-turn (c .before .before .before .before .before .before .before .before .before .before .before .before .before .before .before .before .before .before .before .before .before .before .args .words .now) (c .before .before .before .before .before .before .before .before .before .before .before .before .before .before .before .before .before .before .before .before .before .before .args .group) _ _ (c .before .before .before .before .before .before .before .before .before .before .before .members-at .ensures) (c .before .before .before .before .before .before .before .before .before .before .delimiter-at .ensures) (c .before .before .before .before .before .before .before .before .before .before .before .before .before .before .before .before .before .before .before .before .before .before .args .fields .now) (c .before .before .before .before .before .before .before .before .before .before .before .before .before .before .before .before .before .before .before .before .before .before .args .enclosing .now) (c .before .before .before .before .before .before .before .before .before .before .before .before .count-at .result) (c .before .before .before .before .before .loop .entries) (c .before .before .before .before .before .loop .cursor) _ (c .before .before .before .before .opening-at .ensures)) (c .before .before .enum-told2 .given .1) .0);
-        inside = within;
-        shallow = c .before .before .before .before .before .before .before .before .before .before .before .before .before .if2 .left;
-        room = c .before .before .before .before .before .loop .inv .room;
+        lent = c .before .before .before .before .before .before .before .before .before .before .before .before .before .before .before .before .before .before .before .before .before .pre .1 .lent;
+        few-members = members-few-here (c .before .before .before .before .before .before .before .before .before .before .before .before .before .before .before .before .before .before .before .before .before .args .words .now) (c .before .before .before .before .before .before .before .before .before .before .before .before .before .before .before .before .before .before .before .before .before .pre .1 .lent .passed) (1 + c .before .before .before .before .before .before .before .before .before .before .before .before .before .before .before .before .before .before .before .before .before .args .group) (omega (arith, c .before .before .before .before .before .before .before .before .before .before .before .before .before .before .before .before .before .before .before .before .before .pre .1 .lent .valid));
+        taken = opened .taken;
+        inside = opened .inside;
+        shallow = c .before .before .before .before .before .before .before .before .before .before .before .before .if2 .left;
+        room = opened .room;
       },
     )
 
 -- to = put_event(events, entry.at, tag, depth, close);
-walk-group-put-event-requires-3 : (t : ℕ) → walk-group-lts.Need-put-event-requires-3 (walk-group-claims t) (walk-group-at t) walk-group.Post walk-group-Inv-loop walk-group-μ-loop
-walk-group-put-event-requires-3 t c κs = omega (arith, c .before .before .before .scan-wide .ensures .few, c .before .before .before .scan-wide .ensures .within, c .before .before .before .before .before .before .before .before .before .loop .inv .room, c .before .before .before .before .before .before .before .before .before .before .before .before .before .before .before .before .before .before .before .before .before .before .before .before .before .before .pre .1 .lent .table .few)
+walk-group-put-event-requires-4 : (t : ℕ) → walk-group-lts.Need-put-event-requires-4 (walk-group-claims t) (walk-group-at t) walk-group.Post walk-group-Inv-loop walk-group-μ-loop
+walk-group-put-event-requires-4 t c κs = let opened = one-opens (c .before .before .before .before .before .before .before .before .before .before .before .before .before .before .before .before .before .before .before .before .before .before .before .before .before .args .words .now) (c .before .before .before .before .before .before .before .before .before .before .before .before .before .before .before .before .before .before .before .before .before .before .before .before .before .args .fields .now) (c .before .before .before .before .before .before .before .before .before .before .before .before .before .before .before .before .before .before .before .before .before .before .before .before .before .args .message .now) (c .before .before .before .before .before .before .before .before .before .before .before .before .before .before .before .before .before .before .before .before .before .before .before .before .before .args .enclosing .now) (c .before .before .before .before .before .before .before .before .before .before .before .before .before .before .before .before .before .before .before .before .before .before .before .before .before .pre .1 .lent .passed) (c .before .before .before .before .before .before .before .before .before .before .before .before .before .before .before .before .before .before .before .before .before .before .before .before .before .args .group) (c .before .before .before .before .before .before .before .before .before .before .before .before .before .before .before .before .before .before .before .before .before .before .before .before .before .pre .1 .lent .valid) (c .before .before .before .before .before .before .before .before .before .before .before .before .before .before .before .before .before .before .before .before .before .before .before .before .before .args .index) (c .before .before .before .before .before .before .before .before .before .before .before .before .before .before .before .before .before .before .before .before .before .before .before .before .before .args .depth) _ _ (omega (arith, c .before .before .before .before .before .before .before .before .before .before .before .before .before .before .before .before .before .before .before .row-count .ensures, c .before .before .before .before .before .before .before .before .before .before .before .before .before .before .before .before .before .before .if1 .left)) (c .before .before .before .before .before .before .before .before .before .before .before .before .before .before .before .before .if2 .left) (c .before .before .before .before .before .before .before .before .before .before .before .before .before .before .before .count-at .result) (c .before .before .before .before .before .before .before .before .before .before .before .before .before .before .before .count-at .ensures) _ (c .before .before .before .before .before .before .before .before .before .before .before .before .before .before .before .before .before .count-tag-at .ensures) _ _ (c .before .before .before .before .before .before .before .before .loop .cursor) (c .before .before .before .before .before .before .before .before .loop .entries) (c .before .before .before .before .before .before .before .before .loop .unparseable) (c .before .before .before .before .before .before .before .before .loop .inv) (c .before .before .before .before .before .before .match .events) (c .before .before .before .before .before .before .match .to) (c .before .before .before .before .before .before .match .unparseable) (λ way. let begins = turn-entry (c .before .before .before .before .before .before .before .before .before .before .before .before .before .before .before .before .before .before .before .before .before .before .before .before .before .args .words .now) (c .before .before .before .before .before .before .before .before .before .before .before .before .before .before .before .before .before .before .before .before .before .before .before .before .before .args .fields .now) (c .before .before .before .before .before .before .before .before .before .before .before .before .before .before .before .before .before .before .before .before .before .before .before .before .before .args .message .now) (c .before .before .before .before .before .before .before .before .before .before .before .before .before .before .before .before .before .before .before .before .before .before .before .before .before .args .enclosing .now) (c .before .before .before .before .before .before .before .before .before .before .before .before .before .before .before .before .before .before .before .before .before .before .before .before .before .args .group) (c .before .before .before .before .before .before .before .before .before .before .before .before .before .before .before .count-at .result) (c .before .before .before .before .before .before .before .before .loop .entries) (c .before .before .before .before .before .before .before .before .loop .cursor) _ (level-turn (c .before .before .before .before .before .before .before .before .before .before .before .before .before .before .before .before .before .before .before .before .before .before .before .before .before .args .words .now) (c .before .before .before .before .before .before .before .before .before .before .before .before .before .before .before .before .before .before .before .before .before .before .before .before .before .args .group) _ _ (c .before .before .before .before .before .before .before .before .before .before .before .before .before .before .members-at .ensures) (c .before .before .before .before .before .before .before .before .before .before .before .before .before .delimiter-at .ensures) (c .before .before .before .before .before .before .before .before .before .before .before .before .before .before .before .before .before .before .before .before .before .before .before .before .before .args .fields .now) (c .before .before .before .before .before .before .before .before .before .before .before .before .before .before .before .before .before .before .before .before .before .before .before .before .before .args .enclosing .now) (c .before .before .before .before .before .before .before .before .before .before .before .before .before .before .before .count-at .result) (c .before .before .before .before .before .before .before .before .loop .entries) (c .before .before .before .before .before .before .before .before .loop .cursor) _ (c .before .before .before .before .before .before .before .opening-at .ensures)) (way .1 .given .1) in entry-opens (c .before .before .before .before .before .before .before .before .before .before .before .before .before .before .before .before .before .before .before .before .before .before .before .before .before .args .words .now) (c .before .before .before .before .before .before .before .before .before .before .before .before .before .before .before .before .before .before .before .before .before .before .before .before .before .args .fields .now) (c .before .before .before .before .before .before .before .before .before .before .before .before .before .before .before .before .before .before .before .before .before .before .before .before .before .args .message .now) (c .before .before .before .before .before .before .before .before .before .before .before .before .before .before .before .before .before .before .before .before .before .before .before .before .before .args .enclosing .now) (c .before .before .before .before .before .before .before .before .before .before .before .before .before .before .before .before .before .before .before .before .before .before .before .before .before .pre .1 .lent .passed) (c .before .before .before .before .before .before .before .before .before .before .before .before .before .before .before .before .before .before .before .before .before .before .before .before .before .args .group) (c .before .before .before .before .before .before .before .before .before .before .before .before .before .before .before .before .before .before .before .before .before .before .before .before .before .pre .1 .lent .valid) (c .before .before .before .before .before .before .before .before .before .before .before .before .before .before .before .before .before .before .before .before .before .before .before .before .before .args .index) (c .before .before .before .before .before .before .before .before .before .before .before .before .before .before .before .before .before .before .before .before .before .before .before .before .before .args .depth) _ _ (omega (arith, c .before .before .before .before .before .before .before .before .before .before .before .before .before .before .before .before .before .before .before .row-count .ensures, c .before .before .before .before .before .before .before .before .before .before .before .before .before .before .before .before .before .before .if1 .left)) (c .before .before .before .before .before .before .before .before .before .before .before .before .before .before .before .before .if2 .left) (c .before .before .before .before .before .before .before .before .before .before .before .before .before .before .before .count-at .result) (c .before .before .before .before .before .before .before .before .before .before .before .before .before .before .before .count-at .ensures) _ (c .before .before .before .before .before .before .before .before .before .before .before .before .before .before .before .before .before .count-tag-at .ensures) _ _ (c .before .before .before .before .before .before .before .before .loop .cursor) (c .before .before .before .before .before .before .before .before .loop .entries) (c .before .before .before .before .before .before .before .before .loop .unparseable) (c .before .before .before .before .before .before .before .before .loop .inv) (begins .0) (begins .1) _ (way .2) _ (way .3) _ (way .4)) (λ way. let leads = turn-lead (c .before .before .before .before .before .before .before .before .before .before .before .before .before .before .before .before .before .before .before .before .before .before .before .before .before .args .words .now) (c .before .before .before .before .before .before .before .before .before .before .before .before .before .before .before .before .before .before .before .before .before .before .before .before .before .args .fields .now) (c .before .before .before .before .before .before .before .before .before .before .before .before .before .before .before .before .before .before .before .before .before .before .before .before .before .args .message .now) (c .before .before .before .before .before .before .before .before .before .before .before .before .before .before .before .before .before .before .before .before .before .before .before .before .before .args .enclosing .now) (c .before .before .before .before .before .before .before .before .before .before .before .before .before .before .before .before .before .before .before .before .before .before .before .before .before .args .group) (c .before .before .before .before .before .before .before .before .before .before .before .before .before .before .before .count-at .result) (c .before .before .before .before .before .before .before .before .loop .entries) (c .before .before .before .before .before .before .before .before .loop .cursor) _ (level-turn (c .before .before .before .before .before .before .before .before .before .before .before .before .before .before .before .before .before .before .before .before .before .before .before .before .before .args .words .now) (c .before .before .before .before .before .before .before .before .before .before .before .before .before .before .before .before .before .before .before .before .before .before .before .before .before .args .group) _ _ (c .before .before .before .before .before .before .before .before .before .before .before .before .before .before .members-at .ensures) (c .before .before .before .before .before .before .before .before .before .before .before .before .before .delimiter-at .ensures) (c .before .before .before .before .before .before .before .before .before .before .before .before .before .before .before .before .before .before .before .before .before .before .before .before .before .args .fields .now) (c .before .before .before .before .before .before .before .before .before .before .before .before .before .before .before .before .before .before .before .before .before .before .before .before .before .args .enclosing .now) (c .before .before .before .before .before .before .before .before .before .before .before .before .before .before .before .count-at .result) (c .before .before .before .before .before .before .before .before .loop .entries) (c .before .before .before .before .before .before .before .before .loop .cursor) _ (c .before .before .before .before .before .before .before .opening-at .ensures)) _ (way .1 .given .1) in lead-opens (c .before .before .before .before .before .before .before .before .before .before .before .before .before .before .before .before .before .before .before .before .before .before .before .before .before .args .words .now) (c .before .before .before .before .before .before .before .before .before .before .before .before .before .before .before .before .before .before .before .before .before .before .before .before .before .args .fields .now) (c .before .before .before .before .before .before .before .before .before .before .before .before .before .before .before .before .before .before .before .before .before .before .before .before .before .args .message .now) (c .before .before .before .before .before .before .before .before .before .before .before .before .before .before .before .before .before .before .before .before .before .before .before .before .before .args .enclosing .now) (c .before .before .before .before .before .before .before .before .before .before .before .before .before .before .before .before .before .before .before .before .before .before .before .before .before .pre .1 .lent .passed) (c .before .before .before .before .before .before .before .before .before .before .before .before .before .before .before .before .before .before .before .before .before .before .before .before .before .args .group) (c .before .before .before .before .before .before .before .before .before .before .before .before .before .before .before .before .before .before .before .before .before .before .before .before .before .pre .1 .lent .valid) (c .before .before .before .before .before .before .before .before .before .before .before .before .before .before .before .before .before .before .before .before .before .before .before .before .before .args .index) (c .before .before .before .before .before .before .before .before .before .before .before .before .before .before .before .before .before .before .before .before .before .before .before .before .before .args .depth) _ _ (omega (arith, c .before .before .before .before .before .before .before .before .before .before .before .before .before .before .before .before .before .before .before .row-count .ensures, c .before .before .before .before .before .before .before .before .before .before .before .before .before .before .before .before .before .before .if1 .left)) (c .before .before .before .before .before .before .before .before .before .before .before .before .before .before .before .before .if2 .left) (c .before .before .before .before .before .before .before .before .before .before .before .before .before .before .before .count-at .result) (c .before .before .before .before .before .before .before .before .before .before .before .before .before .before .before .count-at .ensures) _ (c .before .before .before .before .before .before .before .before .before .before .before .before .before .before .before .before .before .count-tag-at .ensures) _ _ (c .before .before .before .before .before .before .before .before .loop .cursor) (c .before .before .before .before .before .before .before .before .loop .entries) (c .before .before .before .before .before .before .before .before .loop .unparseable) (c .before .before .before .before .before .before .before .before .loop .inv) (leads .0) (leads .1) _ (leads .2) _ _ (way .4 .ensures) _ (way .7) _ (way .8) _ (way .9)) (c .before .before .before .before .before .before .match .came) in omega (arith, c .before .before .before .scan-wide .ensures .few, c .before .before .before .scan-wide .ensures .within, opened .room, c .before .before .before .before .before .before .before .before .before .before .before .before .before .before .before .before .before .before .before .before .before .before .before .before .before .pre .1 .lent .table .few)
 
 -- unparseable = either(unparseable, entry.unparseable);
 walk-group-either-requires-2 : (t : ℕ) → walk-group-lts.Need-either-requires-2 (walk-group-claims t) (walk-group-at t) walk-group.Post walk-group-Inv-loop walk-group-μ-loop
@@ -499,82 +506,14 @@ walk-group-either-requires-2 t c κs = search needs
 
 -- entries += 1;
 walk-group-add-entries-2 : (t : ℕ) → walk-group-lts.Need-add-entries-2 (walk-group-claims t) (walk-group-at t) walk-group.Post walk-group-Inv-loop walk-group-μ-loop
-walk-group-add-entries-2 t c = omega (arith, c .before .before .before .before .before .before .before .before .before .before .before .before .before .loop .inv .ahead, c .before .before .before .before .before .before .before .before .before .before .before .before .before .loop .inv .within, c .before .before .before .before .before .before .before .before .before .before .before .before .before .before .before .before .before .before .before .before .before .before .before .before .before .before .before .before .before .before .pre .1 .lent .table .few)
+walk-group-add-entries-2 t c = omega (arith, c .before .before .before .before .before .before .before .before .before .before .before .before .loop .inv .ahead, c .before .before .before .before .before .before .before .before .before .before .before .before .loop .inv .within, c .before .before .before .before .before .before .before .before .before .before .before .before .before .before .before .before .before .before .before .before .before .before .before .before .before .before .before .before .before .pre .1 .lent .table .few)
 
 -- loop {
 walk-group-loop-less-2 : (t : ℕ) → walk-group-lts.Need-loop-less-2 (walk-group-claims t) (walk-group-at t) walk-group.Post walk-group-Inv-loop walk-group-μ-loop
 walk-group-loop-less-2 t c = omega (arith, c .before .before .before .before .before .before .before .scan-wide .ensures .moves, c .before .before .before .before .before .before .before .scan-wide .ensures .within)
 
 walk-group-loop-again-2 : (t : ℕ) → walk-group-lts.Need-loop-again-2 (walk-group-claims t) (walk-group-at t) walk-group.Post walk-group-Inv-loop walk-group-μ-loop
-walk-group-loop-again-2 t c = group-adds-entry (c .before .before .before .before .before .before .before .before .before .before .before .before .before .before .before .before .before .before .before .before .before .before .before .before .before .before .before .before .before .before .args .words .now) (c .before .before .before .before .before .before .before .before .before .before .before .before .before .before .before .before .before .before .before .before .before .before .before .before .before .before .before .before .before .before .args .fields .now) (c .before .before .before .before .before .before .before .before .before .before .before .before .before .before .before .before .before .before .before .before .before .before .before .before .before .before .before .before .before .before .args .message .now) (c .before .before .before .before .before .before .before .before .before .before .before .before .before .before .before .before .before .before .before .before .before .before .before .before .before .before .before .before .before .before .args .enclosing .now) (c .before .before .before .before .before .before .before .before .before .before .before .before .before .before .before .before .before .before .before .before .before .before .before .before .before .before .before .before .before .before .pre .1 .lent .passed) (c .before .before .before .before .before .before .before .before .before .before .before .before .before .before .before .before .before .before .before .before .before .before .before .before .before .before .before .before .before .before .args .group) (c .before .before .before .before .before .before .before .before .before .before .before .before .before .before .before .before .before .before .before .before .before .before .before .before .before .before .before .before .before .before .pre .1 .lent .valid) (c .before .before .before .before .before .before .before .before .before .before .before .before .before .before .before .before .before .before .before .before .before .before .before .before .before .before .before .before .before .before .args .index) (c .before .before .before .before .before .before .before .before .before .before .before .before .before .before .before .before .before .before .before .before .before .before .before .before .before .before .before .before .before .before .args .depth) _ _ (omega (arith, c .before .before .before .before .before .before .before .before .before .before .before .before .before .before .before .before .before .before .before .before .before .before .before .before .row-count .ensures, c .before .before .before .before .before .before .before .before .before .before .before .before .before .before .before .before .before .before .before .before .before .before .before .if1 .left)) (c .before .before .before .before .before .before .before .before .before .before .before .before .before .before .before .before .before .before .before .before .before .if2 .left) (c .before .before .before .before .before .before .before .before .before .before .before .before .before .before .before .before .before .before .before .before .count-at .result) (c .before .before .before .before .before .before .before .before .before .before .before .before .before .before .before .before .before .before .before .before .count-at .ensures) _ (c .before .before .before .before .before .before .before .before .before .before .before .before .before .before .before .before .before .before .before .before .before .before .count-tag-at .ensures) _ _ (c .before .before .before .before .before .before .before .before .before .before .before .before .before .loop .cursor) (c .before .before .before .before .before .before .before .before .before .before .before .before .before .loop .entries) (c .before .before .before .before .before .before .before .before .before .before .before .before .before .loop .unparseable) (c .before .before .before .before .before .before .before .before .before .before .before .before .before .loop .inv) (turn-entry (c .before .before .before .before .before .before .before .before .before .before .before .before .before .before .before .before .before .before .before .before .before .before .before .before .before .before .before .before .before .before .args .words .now) (c .before .before .before .before .before .before .before .before .before .before .before .before .before .before .before .before .before .before .before .before .before .before .before .before .before .before .before .before .before .before .args .fields .now) (c .before .before .before .before .before .before .before .before .before .before .before .before .before .before .before .before .before .before .before .before .before .before .before .before .before .before .before .before .before .before .args .message .now) (c .before .before .before .before .before .before .before .before .before .before .before .before .before .before .before .before .before .before .before .before .before .before .before .before .before .before .before .before .before .before .args .enclosing .now) (c .before .before .before .before .before .before .before .before .before .before .before .before .before .before .before .before .before .before .before .before .before .before .before .before .before .before .before .before .before .before .args .group) (c .before .before .before .before .before .before .before .before .before .before .before .before .before .before .before .before .before .before .before .before .count-at .result) (c .before .before .before .before .before .before .before .before .before .before .before .before .before .loop .entries) (c .before .before .before .before .before .before .before .before .before .before .before .before .before .loop .cursor) _ (level-turn (c .before .before .before .before .before .before .before .before .before .before .before .before .before .before .before .before .before .before .before .before .before .before .before .before .before .before .before .before .before .before .args .words .now) (c .before .before .before .before .before .before .before .before .before .before .before .before .before .before .before .before .before .before .before .before .before .before .before .before .before .before .before .before .before .before .args .group) _ _ (c .before .before .before .before .before .before .before .before .before .before .before .before .before .before .before .before .before .before .before .members-at .ensures) (c .before .before .before .before .before .before .before .before .before .before .before .before .before .before .before .before .before .before .delimiter-at .ensures) (c .before .before .before .before .before .before .before .before .before .before .before .before .before .before .before .before .before .before .before .before .before .before .before .before .before .before .before .before .before .before .args .fields .now) (c .before .before .before .before .before .before .before .before .before .before .before .before .before .before .before .before .before .before .before .before .before .before .before .before .before .before .before .before .before .before .args .enclosing .now) (c .before .before .before .before .before .before .before .before .before .before .before .before .before .before .before .before .before .before .before .before .count-at .result) (c .before .before .before .before .before .before .before .before .before .before .before .before .before .loop .entries) (c .before .before .before .before .before .before .before .before .before .before .before .before .before .loop .cursor) _ (c .before .before .before .before .before .before .before .before .before .before .before .before .opening-at .ensures)) (c .before .before .before .before .before .before .before .before .before .before .enum-told2 .given .1) .0) (turn-entry (c .before .before .before .before .before .before .before .before .before .before .before .before .before .before .before .before .before .before .before .before .before .before .before .before .before .before .before .before .before .before .args .words .now) (c .before .before .before .before .before .before .before .before .before .before .before .before .before .before .before .before .before .before .before .before .before .before .before .before .before .before .before .before .before .before .args .fields .now) (c .before .before .before .before .before .before .before .before .before .before .before .before .before .before .before .before .before .before .before .before .before .before .before .before .before .before .before .before .before .before .args .message .now) (c .before .before .before .before .before .before .before .before .before .before .before .before .before .before .before .before .before .before .before .before .before .before .before .before .before .before .before .before .before .before .args .enclosing .now) (c .before .before .before .before .before .before .before .before .before .before .before .before .before .before .before .before .before .before .before .before .before .before .before .before .before .before .before .before .before .before .args .group) (c .before .before .before .before .before .before .before .before .before .before .before .before .before .before .before .before .before .before .before .before .count-at .result) (c .before .before .before .before .before .before .before .before .before .before .before .before .before .loop .entries) (c .before .before .before .before .before .before .before .before .before .before .before .before .before .loop .cursor) _ (level-turn (c .before .before .before .before .before .before .before .before .before .before .before .before .before .before .before .before .before .before .before .before .before .before .before .before .before .before .before .before .before .before .args .words .now) (c .before .before .before .before .before .before .before .before .before .before .before .before .before .before .before .before .before .before .before .before .before .before .before .before .before .before .before .before .before .before .args .group) _ _ (c .before .before .before .before .before .before .before .before .before .before .before .before .before .before .before .before .before .before .before .members-at .ensures) (c .before .before .before .before .before .before .before .before .before .before .before .before .before .before .before .before .before .before .delimiter-at .ensures) (c .before .before .before .before .before .before .before .before .before .before .before .before .before .before .before .before .before .before .before .before .before .before .before .before .before .before .before .before .before .before .args .fields .now) (c .before .before .before .before .before .before .before .before .before .before .before .before .before .before .before .before .before .before .before .before .before .before .before .before .before .before .before .before .before .before .args .enclosing .now) (c .before .before .before .before .before .before .before .before .before .before .before .before .before .before .before .before .before .before .before .before .count-at .result) (c .before .before .before .before .before .before .before .before .before .before .before .before .before .loop .entries) (c .before .before .before .before .before .before .before .before .before .before .before .before .before .loop .cursor) _ (c .before .before .before .before .before .before .before .before .before .before .before .before .opening-at .ensures)) (c .before .before .before .before .before .before .before .before .before .before .enum-told2 .given .1) .1) _ _ _ _ _ (c .before .before .before .before .before .before .before .scan-wide .ensures) _ _ (c .before .before .before .put-event3 .ensures) _ (c .either2 .ensures)
-
--- Turn::Lead(member) => {
-walk-group-enum-known-member : (t : ℕ) → walk-group-lts.Need-enum-known-member (walk-group-claims t) (walk-group-at t) walk-group.Post walk-group-Inv-loop walk-group-μ-loop
-walk-group-enum-known-member t c = search needs
-
--- to = put_event(events, to, tag, depth, Kind::Delim(member));
-walk-group-put-event-requires-4 : (t : ℕ) → walk-group-lts.Need-put-event-requires-4 (walk-group-claims t) (walk-group-at t) walk-group.Post walk-group-Inv-loop walk-group-μ-loop
-walk-group-put-event-requires-4 t c κs = omega (arith, c .before .before .before .before .before .loop .inv .room, c .before .before .before .before .before .loop .inv .within, c .before .before .before .before .before .before .before .before .before .before .before .before .before .before .before .before .before .before .before .before .before .before .pre .1 .lent .table .few)
-
--- let entry = scan_entry(
-walk-group-scan-entry-requires-2 : (t : ℕ) → walk-group-lts.Need-scan-entry-requires-2 (walk-group-claims t) (walk-group-at t) walk-group.Post walk-group-Inv-loop walk-group-μ-loop
-walk-group-scan-entry-requires-2 t c κs =
-    let within = lead-inside (c .before .before .before .before .before .before .before .before .before .before .before .before .before .before .before .before .before .before .before .before .before .before .before .before .before .before .before .args .words .now) (c .before .before .before .before .before .before .before .before .before .before .before .before .before .before .before .before .before .before .before .before .before .before .before .before .before .before .before .args .fields .now) (c .before .before .before .before .before .before .before .before .before .before .before .before .before .before .before .before .before .before .before .before .before .before .before .before .before .before .before .args .message .now) (c .before .before .before .before .before .before .before .before .before .before .before .before .before .before .before .before .before .before .before .before .before .before .before .before .before .before .before .args .enclosing .now) (c .before .before .before .before .before .before .before .before .before .before .before .before .before .before .before .before .before .before .before .before .before .before .before .before .before .before .before .pre .1 .lent .passed) (c .before .before .before .before .before .before .before .before .before .before .before .before .before .before .before .before .before .before .before .before .before .before .before .before .before .before .before .args .group) (c .before .before .before .before .before .before .before .before .before .before .before .before .before .before .before .before .before .before .before .before .before .before .before .before .before .before .before .pre .1 .lent .valid) (c .before .before .before .before .before .before .before .before .before .before .before .before .before .before .before .before .before .before .before .before .before .before .before .before .before .before .before .args .index) (c .before .before .before .before .before .before .before .before .before .before .before .before .before .before .before .before .before .before .before .before .before .before .before .before .before .before .before .args .depth) _ _ (omega (arith, c .before .before .before .before .before .before .before .before .before .before .before .before .before .before .before .before .before .before .before .before .before .row-count .ensures, c .before .before .before .before .before .before .before .before .before .before .before .before .before .before .before .before .before .before .before .before .if1 .left)) (c .before .before .before .before .before .before .before .before .before .before .before .before .before .before .before .before .before .before .if2 .left) (c .before .before .before .before .before .before .before .before .before .before .before .before .before .before .before .before .before .count-at .result) (c .before .before .before .before .before .before .before .before .before .before .before .before .before .before .before .before .before .count-at .ensures) _ (c .before .before .before .before .before .before .before .before .before .before .before .before .before .before .before .before .before .before .before .count-tag-at .ensures) _ _ (c .before .before .before .before .before .before .before .before .before .before .loop .cursor) (c .before .before .before .before .before .before .before .before .before .before .loop .entries) (c .before .before .before .before .before .before .before .before .before .before .loop .unparseable) (c .before .before .before .before .before .before .before .before .before .before .loop .inv) (turn-lead (c .before .before .before .before .before .before .before .before .before .before .before .before .before .before .before .before .before .before .before .before .before .before .before .before .before .before .before .args .words .now) (c .before .before .before .before .before .before .before .before .before .before .before .before .before .before .before .before .before .before .before .before .before .before .before .before .before .before .before .args .fields .now) (c .before .before .before .before .before .before .before .before .before .before .before .before .before .before .before .before .before .before .before .before .before .before .before .before .before .before .before .args .message .now) (c .before .before .before .before .before .before .before .before .before .before .before .before .before .before .before .before .before .before .before .before .before .before .before .before .before .before .before .args .enclosing .now) (c .before .before .before .before .before .before .before .before .before .before .before .before .before .before .before .before .before .before .before .before .before .before .before .before .before .before .before .args .group) (c .before .before .before .before .before .before .before .before .before .before .before .before .before .before .before .before .before .count-at .result) (c .before .before .before .before .before .before .before .before .before .before .loop .entries) (c .before .before .before .before .before .before .before .before .before .before .loop .cursor) _ (level-turn (c .before .before .before .before .before .before .before .before .before .before .before .before .before .before .before .before .before .before .before .before .before .before .before .before .before .before .before .args .words .now) (c .before .before .before .before .before .before .before .before .before .before .before .before .before .before .before .before .before .before .before .before .before .before .before .before .before .before .before .args .group) _ _ (c .before .before .before .before .before .before .before .before .before .before .before .before .before .before .before .before .members-at .ensures) (c .before .before .before .before .before .before .before .before .before .before .before .before .before .before .before .delimiter-at .ensures) (c .before .before .before .before .before .before .before .before .before .before .before .before .before .before .before .before .before .before .before .before .before .before .before .before .before .before .before .args .fields .now) (c .before .before .before .before .before .before .before .before .before .before .before .before .before .before .before .before .before .before .before .before .before .before .before .before .before .before .before .args .enclosing .now) (c .before .before .before .before .before .before .before .before .before .before .before .before .before .before .before .before .before .count-at .result) (c .before .before .before .before .before .before .before .before .before .before .loop .entries) (c .before .before .before .before .before .before .before .before .before .before .loop .cursor) _ (c .before .before .before .before .before .before .before .before .before .opening-at .ensures)) _ (c .before .before .before .before .before .before .before .member .given .1) .0) (turn-lead (c .before .before .before .before .before .before .before .before .before .before .before .before .before .before .before .before .before .before .before .before .before .before .before .before .before .before .before .args .words .now) (c .before .before .before .before .before .before .before .before .before .before .before .before .before .before .before .before .before .before .before .before .before .before .before .before .before .before .before .args .fields .now) (c .before .before .before .before .before .before .before .before .before .before .before .before .before .before .before .before .before .before .before .before .before .before .before .before .before .before .before .args .message .now) (c .before .before .before .before .before .before .before .before .before .before .before .before .before .before .before .before .before .before .before .before .before .before .before .before .before .before .before .args .enclosing .now) (c .before .before .before .before .before .before .before .before .before .before .before .before .before .before .before .before .before .before .before .before .before .before .before .before .before .before .before .args .group) (c .before .before .before .before .before .before .before .before .before .before .before .before .before .before .before .before .before .count-at .result) (c .before .before .before .before .before .before .before .before .before .before .loop .entries) (c .before .before .before .before .before .before .before .before .before .before .loop .cursor) _ (level-turn (c .before .before .before .before .before .before .before .before .before .before .before .before .before .before .before .before .before .before .before .before .before .before .before .before .before .before .before .args .words .now) (c .before .before .before .before .before .before .before .before .before .before .before .before .before .before .before .before .before .before .before .before .before .before .before .before .before .before .before .args .group) _ _ (c .before .before .before .before .before .before .before .before .before .before .before .before .before .before .before .before .members-at .ensures) (c .before .before .before .before .before .before .before .before .before .before .before .before .before .before .before .delimiter-at .ensures) (c .before .before .before .before .before .before .before .before .before .before .before .before .before .before .before .before .before .before .before .before .before .before .before .before .before .before .before .args .fields .now) (c .before .before .before .before .before .before .before .before .before .before .before .before .before .before .before .before .before .before .before .before .before .before .before .before .before .before .before .args .enclosing .now) (c .before .before .before .before .before .before .before .before .before .before .before .before .before .before .before .before .before .count-at .result) (c .before .before .before .before .before .before .before .before .before .before .loop .entries) (c .before .before .before .before .before .before .before .before .before .before .loop .cursor) _ (c .before .before .before .before .before .before .before .before .before .opening-at .ensures)) _ (c .before .before .before .before .before .before .before .member .given .1) .1) in (
-      omega (arith, c .before .before .before .before .before .before .before .before .before .before .before .before .before .before .before .before .before .before .before .before .before .before .before .before .before .before .before .pre .0, within, c .before .before .before .before .before .before .before .before .before .before .loop .inv .ahead),
-      record {
-        lent = c .before .before .before .before .before .before .before .before .before .before .before .before .before .before .before .before .before .before .before .before .before .before .before .before .before .before .before .pre .1 .lent;
-        few-members = omega (arith, level-length (c .before .before .before .before .before .before .before .before .before .before .before .before .before .before .before .before .before .before .before .before .before .before .before .before .before .before .before .args .words .now) (1 + c .before .before .before .before .before .before .before .before .before .before .before .before .before .before .before .before .before .before .before .before .before .before .before .before .before .before .before .args .group) _ (c .before .before .before .before .before .before .before .before .before .before .before .before .before .before .before .before .members-at .ensures), c .before .if4 .taken);
-        taken = lead-taken (c .before .before .before .before .before .before .before .before .before .before .before .before .before .before .before .before .before .before .before .before .before .before .before .before .before .before .before .args .words .now) (c .before .before .before .before .before .before .before .before .before .before .before .before .before .before .before .before .before .before .before .before .before .before .before .before .before .before .before .args .fields .now) (c .before .before .before .before .before .before .before .before .before .before .before .before .before .before .before .before .before .before .before .before .before .before .before .before .before .before .before .args .message .now) (c .before .before .before .before .before .before .before .before .before .before .before .before .before .before .before .before .before .before .before .before .before .before .before .before .before .before .before .args .enclosing .now) (c .before .before .before .before .before .before .before .before .before .before .before .before .before .before .before .before .before .before .before .before .before .before .before .before .before .before .before .pre .1 .lent .passed) (c .before .before .before .before .before .before .before .before .before .before .before .before .before .before .before .before .before .before .before .before .before .before .before .before .before .before .before .args .group) (c .before .before .before .before .before .before .before .before .before .before .before .before .before .before .before .before .before .before .before .before .before .before .before .before .before .before .before .pre .1 .lent .valid) (c .before .before .before .before .before .before .before .before .before .before .before .before .before .before .before .before .before .before .before .before .before .before .before .before .before .before .before .args .index) (c .before .before .before .before .before .before .before .before .before .before .before .before .before .before .before .before .before .before .before .before .before .before .before .before .before .before .before .args .depth) _ _ (omega (arith, c .before .before .before .before .before .before .before .before .before .before .before .before .before .before .before .before .before .before .before .before .before .row-count .ensures, c .before .before .before .before .before .before .before .before .before .before .before .before .before .before .before .before .before .before .before .before .if1 .left)) (c .before .before .before .before .before .before .before .before .before .before .before .before .before .before .before .before .before .before .if2 .left) (c .before .before .before .before .before .before .before .before .before .before .before .before .before .before .before .before .before .count-at .result) (c .before .before .before .before .before .before .before .before .before .before .before .before .before .before .before .before .before .count-at .ensures) _ (c .before .before .before .before .before .before .before .before .before .before .before .before .before .before .before .before .before .before .before .count-tag-at .ensures) _ _ (c .before .before .before .before .before .before .before .before .before .before .loop .cursor) (c .before .before .before .before .before .before .before .before .before .before .loop .entries) (c .before .before .before .before .before .before .before .before .before .before .loop .unparseable) (c .before .before .before .before .before .before .before .before .before .before .loop .inv) (turn-lead (c .before .before .before .before .before .before .before .before .before .before .before .before .before .before .before .before .before .before .before .before .before .before .before .before .before .before .before .args .words .now) (c .before .before .before .before .before .before .before .before .before .before .before .before .before .before .before .before .before .before .before .before .before .before .before .before .before .before .before .args .fields .now) (c .before .before .before .before .before .before .before .before .before .before .before .before .before .before .before .before .before .before .before .before .before .before .before .before .before .before .before .args .message .now) (c .before .before .before .before .before .before .before .before .before .before .before .before .before .before .before .before .before .before .before .before .before .before .before .before .before .before .before .args .enclosing .now) (c .before .before .before .before .before .before .before .before .before .before .before .before .before .before .before .before .before .before .before .before .before .before .before .before .before .before .before .args .group) (c .before .before .before .before .before .before .before .before .before .before .before .before .before .before .before .before .before .count-at .result) (c .before .before .before .before .before .before .before .before .before .before .loop .entries) (c .before .before .before .before .before .before .before .before .before .before .loop .cursor) _ (level-turn (c .before .before .before .before .before .before .before .before .before .before .before .before .before .before .before .before .before .before .before .before .before .before .before .before .before .before .before .args .words .now) (c .before .before .before .before .before .before .before .before .before .before .before .before .before .before .before .before .before .before .before .before .before .before .before .before .before .before .before .args .group) _ _ (c .before .before .before .before .before .before .before .before .before .before .before .before .before .before .before .before .members-at .ensures) (c .before .before .before .before .before .before .before .before .before .before .before .before .before .before .before .delimiter-at .ensures) (c .before .before .before .before .before .before .before .before .before .before .before .before .before .before .before .before .before .before .before .before .before .before .before .before .before .before .before .args .fields .now) (c .before .before .before .before .before .before .before .before .before .before .before .before .before .before .before .before .before .before .before .before .before .before .before .before .before .before .before .args .enclosing .now) (c .before .before .before .before .before .before .before .before .before .before .before .before .before .before .before .before .before .count-at .result) (c .before .before .before .before .before .before .before .before .before .before .loop .entries) (c .before .before .before .before .before .before .before .before .before .before .loop .cursor) _ (c .before .before .before .before .before .before .before .before .before .opening-at .ensures)) _ (c .before .before .before .before .before .before .before .member .given .1) .0) (turn-lead (c .before .before .before .before .before .before .before .before .before .before .before .before .before .before .before .before .before .before .before .before .before .before .before .before .before .before .before .args .words .now) (c .before .before .before .before .before .before .before .before .before .before .before .before .before .before .before .before .before .before .before .before .before .before .before .before .before .before .before .args .fields .now) (c .before .before .before .before .before .before .before .before .before .before .before .before .before .before .before .before .before .before .before .before .before .before .before .before .before .before .before .args .message .now) (c .before .before .before .before .before .before .before .before .before .before .before .before .before .before .before .before .before .before .before .before .before .before .before .before .before .before .before .args .enclosing .now) (c .before .before .before .before .before .before .before .before .before .before .before .before .before .before .before .before .before .before .before .before .before .before .before .before .before .before .before .args .group) (c .before .before .before .before .before .before .before .before .before .before .before .before .before .before .before .before .before .count-at .result) (c .before .before .before .before .before .before .before .before .before .before .loop .entries) (c .before .before .before .before .before .before .before .before .before .before .loop .cursor) _ (level-turn (c .before .before .before .before .before .before .before .before .before .before .before .before .before .before .before .before .before .before .before .before .before .before .before .before .before .before .before .args .words .now) (c .before .before .before .before .before .before .before .before .before .before .before .before .before .before .before .before .before .before .before .before .before .before .before .before .before .before .before .args .group) _ _ (c .before .before .before .before .before .before .before .before .before .before .before .before .before .before .before .before .members-at .ensures) (c .before .before .before .before .before .before .before .before .before .before .before .before .before .before .before .delimiter-at .ensures) (c .before .before .before .before .before .before .before .before .before .before .before .before .before .before .before .before .before .before .before .before .before .before .before .before .before .before .before .args .fields .now) (c .before .before .before .before .before .before .before .before .before .before .before .before .before .before .before .before .before .before .before .before .before .before .before .before .before .before .before .args .enclosing .now) (c .before .before .before .before .before .before .before .before .before .before .before .before .before .before .before .before .before .count-at .result) (c .before .before .before .before .before .before .before .before .before .before .loop .entries) (c .before .before .before .before .before .before .before .before .before .before .loop .cursor) _ (c .before .before .before .before .before .before .before .before .before .opening-at .ensures)) _ (c .before .before .before .before .before .before .before .member .given .1) .1);
-        inside = within;
-        shallow = c .before .before .before .before .before .before .before .before .before .before .before .before .before .before .before .before .before .before .if2 .left;
-        room = delim-room (c .before .before .before .before .before .before .before .before .before .before .before .before .before .before .before .before .before .before .before .before .before .before .before .before .before .before .before .args .words .now) (c .before .before .before .before .before .before .before .before .before .before .before .before .before .before .before .before .before .before .before .before .before .before .before .before .before .before .before .args .fields .now) (c .before .before .before .before .before .before .before .before .before .before .before .before .before .before .before .before .before .before .before .before .before .before .before .before .before .before .before .args .message .now) (c .before .before .before .before .before .before .before .before .before .before .before .before .before .before .before .before .before .before .before .before .before .before .before .before .before .before .before .args .enclosing .now) (c .before .before .before .before .before .before .before .before .before .before .before .before .before .before .before .before .before .before .before .before .before .before .before .before .before .before .before .pre .1 .lent .passed) (c .before .before .before .before .before .before .before .before .before .before .before .before .before .before .before .before .before .before .before .before .before .before .before .before .before .before .before .args .group) (c .before .before .before .before .before .before .before .before .before .before .before .before .before .before .before .before .before .before .before .before .before .before .before .before .before .before .before .pre .1 .lent .valid) (c .before .before .before .before .before .before .before .before .before .before .before .before .before .before .before .before .before .before .before .before .before .before .before .before .before .before .before .args .index) (c .before .before .before .before .before .before .before .before .before .before .before .before .before .before .before .before .before .before .before .before .before .before .before .before .before .before .before .args .depth) _ _ (omega (arith, c .before .before .before .before .before .before .before .before .before .before .before .before .before .before .before .before .before .before .before .before .before .row-count .ensures, c .before .before .before .before .before .before .before .before .before .before .before .before .before .before .before .before .before .before .before .before .if1 .left)) (c .before .before .before .before .before .before .before .before .before .before .before .before .before .before .before .before .before .before .if2 .left) (c .before .before .before .before .before .before .before .before .before .before .before .before .before .before .before .before .before .count-at .result) (c .before .before .before .before .before .before .before .before .before .before .before .before .before .before .before .before .before .count-at .ensures) _ (c .before .before .before .before .before .before .before .before .before .before .before .before .before .before .before .before .before .before .before .count-tag-at .ensures) _ _ (c .before .before .before .before .before .before .before .before .before .before .loop .cursor) (c .before .before .before .before .before .before .before .before .before .before .loop .entries) (c .before .before .before .before .before .before .before .before .before .before .loop .unparseable) (c .before .before .before .before .before .before .before .before .before .before .loop .inv) (turn-lead (c .before .before .before .before .before .before .before .before .before .before .before .before .before .before .before .before .before .before .before .before .before .before .before .before .before .before .before .args .words .now) (c .before .before .before .before .before .before .before .before .before .before .before .before .before .before .before .before .before .before .before .before .before .before .before .before .before .before .before .args .fields .now) (c .before .before .before .before .before .before .before .before .before .before .before .before .before .before .before .before .before .before .before .before .before .before .before .before .before .before .before .args .message .now) (c .before .before .before .before .before .before .before .before .before .before .before .before .before .before .before .before .before .before .before .before .before .before .before .before .before .before .before .args .enclosing .now) (c .before .before .before .before .before .before .before .before .before .before .before .before .before .before .before .before .before .before .before .before .before .before .before .before .before .before .before .args .group) (c .before .before .before .before .before .before .before .before .before .before .before .before .before .before .before .before .before .count-at .result) (c .before .before .before .before .before .before .before .before .before .before .loop .entries) (c .before .before .before .before .before .before .before .before .before .before .loop .cursor) _ (level-turn (c .before .before .before .before .before .before .before .before .before .before .before .before .before .before .before .before .before .before .before .before .before .before .before .before .before .before .before .args .words .now) (c .before .before .before .before .before .before .before .before .before .before .before .before .before .before .before .before .before .before .before .before .before .before .before .before .before .before .before .args .group) _ _ (c .before .before .before .before .before .before .before .before .before .before .before .before .before .before .before .before .members-at .ensures) (c .before .before .before .before .before .before .before .before .before .before .before .before .before .before .before .delimiter-at .ensures) (c .before .before .before .before .before .before .before .before .before .before .before .before .before .before .before .before .before .before .before .before .before .before .before .before .before .before .before .args .fields .now) (c .before .before .before .before .before .before .before .before .before .before .before .before .before .before .before .before .before .before .before .before .before .before .before .before .before .before .before .args .enclosing .now) (c .before .before .before .before .before .before .before .before .before .before .before .before .before .before .before .before .before .count-at .result) (c .before .before .before .before .before .before .before .before .before .before .loop .entries) (c .before .before .before .before .before .before .before .before .before .before .loop .cursor) _ (c .before .before .before .before .before .before .before .before .before .opening-at .ensures)) _ (c .before .before .before .before .before .before .before .member .given .1) .0) (turn-lead (c .before .before .before .before .before .before .before .before .before .before .before .before .before .before .before .before .before .before .before .before .before .before .before .before .before .before .before .args .words .now) (c .before .before .before .before .before .before .before .before .before .before .before .before .before .before .before .before .before .before .before .before .before .before .before .before .before .before .before .args .fields .now) (c .before .before .before .before .before .before .before .before .before .before .before .before .before .before .before .before .before .before .before .before .before .before .before .before .before .before .before .args .message .now) (c .before .before .before .before .before .before .before .before .before .before .before .before .before .before .before .before .before .before .before .before .before .before .before .before .before .before .before .args .enclosing .now) (c .before .before .before .before .before .before .before .before .before .before .before .before .before .before .before .before .before .before .before .before .before .before .before .before .before .before .before .args .group) (c .before .before .before .before .before .before .before .before .before .before .before .before .before .before .before .before .before .count-at .result) (c .before .before .before .before .before .before .before .before .before .before .loop .entries) (c .before .before .before .before .before .before .before .before .before .before .loop .cursor) _ (level-turn (c .before .before .before .before .before .before .before .before .before .before .before .before .before .before .before .before .before .before .before .before .before .before .before .before .before .before .before .args .words .now) (c .before .before .before .before .before .before .before .before .before .before .before .before .before .before .before .before .before .before .before .before .before .before .before .before .before .before .before .args .group) _ _ (c .before .before .before .before .before .before .before .before .before .before .before .before .before .before .before .before .members-at .ensures) (c .before .before .before .before .before .before .before .before .before .before .before .before .before .before .before .delimiter-at .ensures) (c .before .before .before .before .before .before .before .before .before .before .before .before .before .before .before .before .before .before .before .before .before .before .before .before .before .before .before .args .fields .now) (c .before .before .before .before .before .before .before .before .before .before .before .before .before .before .before .before .before .before .before .before .before .before .before .before .before .before .before .args .enclosing .now) (c .before .before .before .before .before .before .before .before .before .before .before .before .before .before .before .before .before .count-at .result) (c .before .before .before .before .before .before .before .before .before .before .loop .entries) (c .before .before .before .before .before .before .before .before .before .before .loop .cursor) _ (c .before .before .before .before .before .before .before .before .before .opening-at .ensures)) _ (c .before .before .before .before .before .before .before .member .given .1) .1) _ (turn-lead (c .before .before .before .before .before .before .before .before .before .before .before .before .before .before .before .before .before .before .before .before .before .before .before .before .before .before .before .args .words .now) (c .before .before .before .before .before .before .before .before .before .before .before .before .before .before .before .before .before .before .before .before .before .before .before .before .before .before .before .args .fields .now) (c .before .before .before .before .before .before .before .before .before .before .before .before .before .before .before .before .before .before .before .before .before .before .before .before .before .before .before .args .message .now) (c .before .before .before .before .before .before .before .before .before .before .before .before .before .before .before .before .before .before .before .before .before .before .before .before .before .before .before .args .enclosing .now) (c .before .before .before .before .before .before .before .before .before .before .before .before .before .before .before .before .before .before .before .before .before .before .before .before .before .before .before .args .group) (c .before .before .before .before .before .before .before .before .before .before .before .before .before .before .before .before .before .count-at .result) (c .before .before .before .before .before .before .before .before .before .before .loop .entries) (c .before .before .before .before .before .before .before .before .before .before .loop .cursor) _ (level-turn (c .before .before .before .before .before .before .before .before .before .before .before .before .before .before .before .before .before .before .before .before .before .before .before .before .before .before .before .args .words .now) (c .before .before .before .before .before .before .before .before .before .before .before .before .before .before .before .before .before .before .before .before .before .before .before .before .before .before .before .args .group) _ _ (c .before .before .before .before .before .before .before .before .before .before .before .before .before .before .before .before .members-at .ensures) (c .before .before .before .before .before .before .before .before .before .before .before .before .before .before .before .delimiter-at .ensures) (c .before .before .before .before .before .before .before .before .before .before .before .before .before .before .before .before .before .before .before .before .before .before .before .before .before .before .before .args .fields .now) (c .before .before .before .before .before .before .before .before .before .before .before .before .before .before .before .before .before .before .before .before .before .before .before .before .before .before .before .args .enclosing .now) (c .before .before .before .before .before .before .before .before .before .before .before .before .before .before .before .before .before .count-at .result) (c .before .before .before .before .before .before .before .before .before .before .loop .entries) (c .before .before .before .before .before .before .before .before .before .before .loop .cursor) _ (c .before .before .before .before .before .before .before .before .before .opening-at .ensures)) _ (c .before .before .before .before .before .before .before .member .given .1) .2) _ _ (c .before .before .before .before .put-event4 .ensures);
-      },
-    )
-
--- to = put_event(events, entry.at, tag, depth, close);
-walk-group-put-event-requires-5 : (t : ℕ) → walk-group-lts.Need-put-event-requires-5 (walk-group-claims t) (walk-group-at t) walk-group.Post walk-group-Inv-loop walk-group-μ-loop
-walk-group-put-event-requires-5 t c κs = omega (arith, c .before .before .before .scan-entry2 .ensures .few, c .before .before .before .scan-entry2 .ensures .within, delim-room (c .before .before .before .before .before .before .before .before .before .before .before .before .before .before .before .before .before .before .before .before .before .before .before .before .before .before .before .before .before .before .before .args .words .now) (c .before .before .before .before .before .before .before .before .before .before .before .before .before .before .before .before .before .before .before .before .before .before .before .before .before .before .before .before .before .before .before .args .fields .now) (c .before .before .before .before .before .before .before .before .before .before .before .before .before .before .before .before .before .before .before .before .before .before .before .before .before .before .before .before .before .before .before .args .message .now) (c .before .before .before .before .before .before .before .before .before .before .before .before .before .before .before .before .before .before .before .before .before .before .before .before .before .before .before .before .before .before .before .args .enclosing .now) (c .before .before .before .before .before .before .before .before .before .before .before .before .before .before .before .before .before .before .before .before .before .before .before .before .before .before .before .before .before .before .before .pre .1 .lent .passed) (c .before .before .before .before .before .before .before .before .before .before .before .before .before .before .before .before .before .before .before .before .before .before .before .before .before .before .before .before .before .before .before .args .group) (c .before .before .before .before .before .before .before .before .before .before .before .before .before .before .before .before .before .before .before .before .before .before .before .before .before .before .before .before .before .before .before .pre .1 .lent .valid) (c .before .before .before .before .before .before .before .before .before .before .before .before .before .before .before .before .before .before .before .before .before .before .before .before .before .before .before .before .before .before .before .args .index) (c .before .before .before .before .before .before .before .before .before .before .before .before .before .before .before .before .before .before .before .before .before .before .before .before .before .before .before .before .before .before .before .args .depth) _ _ (omega (arith, c .before .before .before .before .before .before .before .before .before .before .before .before .before .before .before .before .before .before .before .before .before .before .before .before .before .row-count .ensures, c .before .before .before .before .before .before .before .before .before .before .before .before .before .before .before .before .before .before .before .before .before .before .before .before .if1 .left)) (c .before .before .before .before .before .before .before .before .before .before .before .before .before .before .before .before .before .before .before .before .before .before .if2 .left) (c .before .before .before .before .before .before .before .before .before .before .before .before .before .before .before .before .before .before .before .before .before .count-at .result) (c .before .before .before .before .before .before .before .before .before .before .before .before .before .before .before .before .before .before .before .before .before .count-at .ensures) _ (c .before .before .before .before .before .before .before .before .before .before .before .before .before .before .before .before .before .before .before .before .before .before .before .count-tag-at .ensures) _ _ (c .before .before .before .before .before .before .before .before .before .before .before .before .before .before .loop .cursor) (c .before .before .before .before .before .before .before .before .before .before .before .before .before .before .loop .entries) (c .before .before .before .before .before .before .before .before .before .before .before .before .before .before .loop .unparseable) (c .before .before .before .before .before .before .before .before .before .before .before .before .before .before .loop .inv) (turn-lead (c .before .before .before .before .before .before .before .before .before .before .before .before .before .before .before .before .before .before .before .before .before .before .before .before .before .before .before .before .before .before .before .args .words .now) (c .before .before .before .before .before .before .before .before .before .before .before .before .before .before .before .before .before .before .before .before .before .before .before .before .before .before .before .before .before .before .before .args .fields .now) (c .before .before .before .before .before .before .before .before .before .before .before .before .before .before .before .before .before .before .before .before .before .before .before .before .before .before .before .before .before .before .before .args .message .now) (c .before .before .before .before .before .before .before .before .before .before .before .before .before .before .before .before .before .before .before .before .before .before .before .before .before .before .before .before .before .before .before .args .enclosing .now) (c .before .before .before .before .before .before .before .before .before .before .before .before .before .before .before .before .before .before .before .before .before .before .before .before .before .before .before .before .before .before .before .args .group) (c .before .before .before .before .before .before .before .before .before .before .before .before .before .before .before .before .before .before .before .before .before .count-at .result) (c .before .before .before .before .before .before .before .before .before .before .before .before .before .before .loop .entries) (c .before .before .before .before .before .before .before .before .before .before .before .before .before .before .loop .cursor) _ (level-turn (c .before .before .before .before .before .before .before .before .before .before .before .before .before .before .before .before .before .before .before .before .before .before .before .before .before .before .before .before .before .before .before .args .words .now) (c .before .before .before .before .before .before .before .before .before .before .before .before .before .before .before .before .before .before .before .before .before .before .before .before .before .before .before .before .before .before .before .args .group) _ _ (c .before .before .before .before .before .before .before .before .before .before .before .before .before .before .before .before .before .before .before .before .members-at .ensures) (c .before .before .before .before .before .before .before .before .before .before .before .before .before .before .before .before .before .before .before .delimiter-at .ensures) (c .before .before .before .before .before .before .before .before .before .before .before .before .before .before .before .before .before .before .before .before .before .before .before .before .before .before .before .before .before .before .before .args .fields .now) (c .before .before .before .before .before .before .before .before .before .before .before .before .before .before .before .before .before .before .before .before .before .before .before .before .before .before .before .before .before .before .before .args .enclosing .now) (c .before .before .before .before .before .before .before .before .before .before .before .before .before .before .before .before .before .before .before .before .before .count-at .result) (c .before .before .before .before .before .before .before .before .before .before .before .before .before .before .loop .entries) (c .before .before .before .before .before .before .before .before .before .before .before .before .before .before .loop .cursor) _ (c .before .before .before .before .before .before .before .before .before .before .before .before .before .opening-at .ensures)) _ (c .before .before .before .before .before .before .before .before .before .before .before .member .given .1) .0) (turn-lead (c .before .before .before .before .before .before .before .before .before .before .before .before .before .before .before .before .before .before .before .before .before .before .before .before .before .before .before .before .before .before .before .args .words .now) (c .before .before .before .before .before .before .before .before .before .before .before .before .before .before .before .before .before .before .before .before .before .before .before .before .before .before .before .before .before .before .before .args .fields .now) (c .before .before .before .before .before .before .before .before .before .before .before .before .before .before .before .before .before .before .before .before .before .before .before .before .before .before .before .before .before .before .before .args .message .now) (c .before .before .before .before .before .before .before .before .before .before .before .before .before .before .before .before .before .before .before .before .before .before .before .before .before .before .before .before .before .before .before .args .enclosing .now) (c .before .before .before .before .before .before .before .before .before .before .before .before .before .before .before .before .before .before .before .before .before .before .before .before .before .before .before .before .before .before .before .args .group) (c .before .before .before .before .before .before .before .before .before .before .before .before .before .before .before .before .before .before .before .before .before .count-at .result) (c .before .before .before .before .before .before .before .before .before .before .before .before .before .before .loop .entries) (c .before .before .before .before .before .before .before .before .before .before .before .before .before .before .loop .cursor) _ (level-turn (c .before .before .before .before .before .before .before .before .before .before .before .before .before .before .before .before .before .before .before .before .before .before .before .before .before .before .before .before .before .before .before .args .words .now) (c .before .before .before .before .before .before .before .before .before .before .before .before .before .before .before .before .before .before .before .before .before .before .before .before .before .before .before .before .before .before .before .args .group) _ _ (c .before .before .before .before .before .before .before .before .before .before .before .before .before .before .before .before .before .before .before .before .members-at .ensures) (c .before .before .before .before .before .before .before .before .before .before .before .before .before .before .before .before .before .before .before .delimiter-at .ensures) (c .before .before .before .before .before .before .before .before .before .before .before .before .before .before .before .before .before .before .before .before .before .before .before .before .before .before .before .before .before .before .before .args .fields .now) (c .before .before .before .before .before .before .before .before .before .before .before .before .before .before .before .before .before .before .before .before .before .before .before .before .before .before .before .before .before .before .before .args .enclosing .now) (c .before .before .before .before .before .before .before .before .before .before .before .before .before .before .before .before .before .before .before .before .before .count-at .result) (c .before .before .before .before .before .before .before .before .before .before .before .before .before .before .loop .entries) (c .before .before .before .before .before .before .before .before .before .before .before .before .before .before .loop .cursor) _ (c .before .before .before .before .before .before .before .before .before .before .before .before .before .opening-at .ensures)) _ (c .before .before .before .before .before .before .before .before .before .before .before .member .given .1) .1) _ (turn-lead (c .before .before .before .before .before .before .before .before .before .before .before .before .before .before .before .before .before .before .before .before .before .before .before .before .before .before .before .before .before .before .before .args .words .now) (c .before .before .before .before .before .before .before .before .before .before .before .before .before .before .before .before .before .before .before .before .before .before .before .before .before .before .before .before .before .before .before .args .fields .now) (c .before .before .before .before .before .before .before .before .before .before .before .before .before .before .before .before .before .before .before .before .before .before .before .before .before .before .before .before .before .before .before .args .message .now) (c .before .before .before .before .before .before .before .before .before .before .before .before .before .before .before .before .before .before .before .before .before .before .before .before .before .before .before .before .before .before .before .args .enclosing .now) (c .before .before .before .before .before .before .before .before .before .before .before .before .before .before .before .before .before .before .before .before .before .before .before .before .before .before .before .before .before .before .before .args .group) (c .before .before .before .before .before .before .before .before .before .before .before .before .before .before .before .before .before .before .before .before .before .count-at .result) (c .before .before .before .before .before .before .before .before .before .before .before .before .before .before .loop .entries) (c .before .before .before .before .before .before .before .before .before .before .before .before .before .before .loop .cursor) _ (level-turn (c .before .before .before .before .before .before .before .before .before .before .before .before .before .before .before .before .before .before .before .before .before .before .before .before .before .before .before .before .before .before .before .args .words .now) (c .before .before .before .before .before .before .before .before .before .before .before .before .before .before .before .before .before .before .before .before .before .before .before .before .before .before .before .before .before .before .before .args .group) _ _ (c .before .before .before .before .before .before .before .before .before .before .before .before .before .before .before .before .before .before .before .before .members-at .ensures) (c .before .before .before .before .before .before .before .before .before .before .before .before .before .before .before .before .before .before .before .delimiter-at .ensures) (c .before .before .before .before .before .before .before .before .before .before .before .before .before .before .before .before .before .before .before .before .before .before .before .before .before .before .before .before .before .before .before .args .fields .now) (c .before .before .before .before .before .before .before .before .before .before .before .before .before .before .before .before .before .before .before .before .before .before .before .before .before .before .before .before .before .before .before .args .enclosing .now) (c .before .before .before .before .before .before .before .before .before .before .before .before .before .before .before .before .before .before .before .before .before .count-at .result) (c .before .before .before .before .before .before .before .before .before .before .before .before .before .before .loop .entries) (c .before .before .before .before .before .before .before .before .before .before .before .before .before .before .loop .cursor) _ (c .before .before .before .before .before .before .before .before .before .before .before .before .before .opening-at .ensures)) _ (c .before .before .before .before .before .before .before .before .before .before .before .member .given .1) .2) _ _ (c .before .before .before .before .before .before .before .before .put-event4 .ensures), c .before .before .before .before .before .before .before .before .before .before .before .before .before .before .before .before .before .before .before .before .before .before .before .before .before .before .before .before .before .before .before .pre .1 .lent .table .few)
-
--- entries += 1;
-walk-group-add-entries-3 : (t : ℕ) → walk-group-lts.Need-add-entries-3 (walk-group-claims t) (walk-group-at t) walk-group.Post walk-group-Inv-loop walk-group-μ-loop
-walk-group-add-entries-3 t c = omega (arith, c .before .before .before .before .before .before .before .before .before .before .before .before .before .before .before .before .before .loop .inv .ahead, c .before .before .before .before .before .before .before .before .before .before .before .before .before .before .before .before .before .loop .inv .within, c .before .before .before .before .before .before .before .before .before .before .before .before .before .before .before .before .before .before .before .before .before .before .before .before .before .before .before .before .before .before .before .before .before .before .pre .1 .lent .table .few)
-
--- loop {
-walk-group-loop-less-3 : (t : ℕ) → walk-group-lts.Need-loop-less-3 (walk-group-claims t) (walk-group-at t) walk-group.Post walk-group-Inv-loop walk-group-μ-loop
-walk-group-loop-less-3 t c = omega (arith, c .before .before .before .before .before .before .scan-entry2 .ensures .moves, c .before .before .before .before .before .before .scan-entry2 .ensures .within)
-
-walk-group-loop-again-3 : (t : ℕ) → walk-group-lts.Need-loop-again-3 (walk-group-claims t) (walk-group-at t) walk-group.Post walk-group-Inv-loop walk-group-μ-loop
-walk-group-loop-again-3 t c = group-adds-lead (c .before .before .before .before .before .before .before .before .before .before .before .before .before .before .before .before .before .before .before .before .before .before .before .before .before .before .before .before .before .before .before .before .before .before .args .words .now) (c .before .before .before .before .before .before .before .before .before .before .before .before .before .before .before .before .before .before .before .before .before .before .before .before .before .before .before .before .before .before .before .before .before .before .args .fields .now) (c .before .before .before .before .before .before .before .before .before .before .before .before .before .before .before .before .before .before .before .before .before .before .before .before .before .before .before .before .before .before .before .before .before .before .args .message .now) (c .before .before .before .before .before .before .before .before .before .before .before .before .before .before .before .before .before .before .before .before .before .before .before .before .before .before .before .before .before .before .before .before .before .before .args .enclosing .now) (c .before .before .before .before .before .before .before .before .before .before .before .before .before .before .before .before .before .before .before .before .before .before .before .before .before .before .before .before .before .before .before .before .before .before .pre .1 .lent .passed) (c .before .before .before .before .before .before .before .before .before .before .before .before .before .before .before .before .before .before .before .before .before .before .before .before .before .before .before .before .before .before .before .before .before .before .args .group) (c .before .before .before .before .before .before .before .before .before .before .before .before .before .before .before .before .before .before .before .before .before .before .before .before .before .before .before .before .before .before .before .before .before .before .pre .1 .lent .valid) (c .before .before .before .before .before .before .before .before .before .before .before .before .before .before .before .before .before .before .before .before .before .before .before .before .before .before .before .before .before .before .before .before .before .before .args .index) (c .before .before .before .before .before .before .before .before .before .before .before .before .before .before .before .before .before .before .before .before .before .before .before .before .before .before .before .before .before .before .before .before .before .before .args .depth) _ _ (omega (arith, c .before .before .before .before .before .before .before .before .before .before .before .before .before .before .before .before .before .before .before .before .before .before .before .before .before .before .before .before .row-count .ensures, c .before .before .before .before .before .before .before .before .before .before .before .before .before .before .before .before .before .before .before .before .before .before .before .before .before .before .before .if1 .left)) (c .before .before .before .before .before .before .before .before .before .before .before .before .before .before .before .before .before .before .before .before .before .before .before .before .before .if2 .left) (c .before .before .before .before .before .before .before .before .before .before .before .before .before .before .before .before .before .before .before .before .before .before .before .before .count-at .result) (c .before .before .before .before .before .before .before .before .before .before .before .before .before .before .before .before .before .before .before .before .before .before .before .before .count-at .ensures) _ (c .before .before .before .before .before .before .before .before .before .before .before .before .before .before .before .before .before .before .before .before .before .before .before .before .before .before .count-tag-at .ensures) _ _ (c .before .before .before .before .before .before .before .before .before .before .before .before .before .before .before .before .before .loop .cursor) (c .before .before .before .before .before .before .before .before .before .before .before .before .before .before .before .before .before .loop .entries) (c .before .before .before .before .before .before .before .before .before .before .before .before .before .before .before .before .before .loop .unparseable) (c .before .before .before .before .before .before .before .before .before .before .before .before .before .before .before .before .before .loop .inv) (turn-lead (c .before .before .before .before .before .before .before .before .before .before .before .before .before .before .before .before .before .before .before .before .before .before .before .before .before .before .before .before .before .before .before .before .before .before .args .words .now) (c .before .before .before .before .before .before .before .before .before .before .before .before .before .before .before .before .before .before .before .before .before .before .before .before .before .before .before .before .before .before .before .before .before .before .args .fields .now) (c .before .before .before .before .before .before .before .before .before .before .before .before .before .before .before .before .before .before .before .before .before .before .before .before .before .before .before .before .before .before .before .before .before .before .args .message .now) (c .before .before .before .before .before .before .before .before .before .before .before .before .before .before .before .before .before .before .before .before .before .before .before .before .before .before .before .before .before .before .before .before .before .before .args .enclosing .now) (c .before .before .before .before .before .before .before .before .before .before .before .before .before .before .before .before .before .before .before .before .before .before .before .before .before .before .before .before .before .before .before .before .before .before .args .group) (c .before .before .before .before .before .before .before .before .before .before .before .before .before .before .before .before .before .before .before .before .before .before .before .before .count-at .result) (c .before .before .before .before .before .before .before .before .before .before .before .before .before .before .before .before .before .loop .entries) (c .before .before .before .before .before .before .before .before .before .before .before .before .before .before .before .before .before .loop .cursor) _ (level-turn (c .before .before .before .before .before .before .before .before .before .before .before .before .before .before .before .before .before .before .before .before .before .before .before .before .before .before .before .before .before .before .before .before .before .before .args .words .now) (c .before .before .before .before .before .before .before .before .before .before .before .before .before .before .before .before .before .before .before .before .before .before .before .before .before .before .before .before .before .before .before .before .before .before .args .group) _ _ (c .before .before .before .before .before .before .before .before .before .before .before .before .before .before .before .before .before .before .before .before .before .before .before .members-at .ensures) (c .before .before .before .before .before .before .before .before .before .before .before .before .before .before .before .before .before .before .before .before .before .before .delimiter-at .ensures) (c .before .before .before .before .before .before .before .before .before .before .before .before .before .before .before .before .before .before .before .before .before .before .before .before .before .before .before .before .before .before .before .before .before .before .args .fields .now) (c .before .before .before .before .before .before .before .before .before .before .before .before .before .before .before .before .before .before .before .before .before .before .before .before .before .before .before .before .before .before .before .before .before .before .args .enclosing .now) (c .before .before .before .before .before .before .before .before .before .before .before .before .before .before .before .before .before .before .before .before .before .before .before .before .count-at .result) (c .before .before .before .before .before .before .before .before .before .before .before .before .before .before .before .before .before .loop .entries) (c .before .before .before .before .before .before .before .before .before .before .before .before .before .before .before .before .before .loop .cursor) _ (c .before .before .before .before .before .before .before .before .before .before .before .before .before .before .before .before .opening-at .ensures)) _ (c .before .before .before .before .before .before .before .before .before .before .before .before .before .before .member .given .1) .0) (turn-lead (c .before .before .before .before .before .before .before .before .before .before .before .before .before .before .before .before .before .before .before .before .before .before .before .before .before .before .before .before .before .before .before .before .before .before .args .words .now) (c .before .before .before .before .before .before .before .before .before .before .before .before .before .before .before .before .before .before .before .before .before .before .before .before .before .before .before .before .before .before .before .before .before .before .args .fields .now) (c .before .before .before .before .before .before .before .before .before .before .before .before .before .before .before .before .before .before .before .before .before .before .before .before .before .before .before .before .before .before .before .before .before .before .args .message .now) (c .before .before .before .before .before .before .before .before .before .before .before .before .before .before .before .before .before .before .before .before .before .before .before .before .before .before .before .before .before .before .before .before .before .before .args .enclosing .now) (c .before .before .before .before .before .before .before .before .before .before .before .before .before .before .before .before .before .before .before .before .before .before .before .before .before .before .before .before .before .before .before .before .before .before .args .group) (c .before .before .before .before .before .before .before .before .before .before .before .before .before .before .before .before .before .before .before .before .before .before .before .before .count-at .result) (c .before .before .before .before .before .before .before .before .before .before .before .before .before .before .before .before .before .loop .entries) (c .before .before .before .before .before .before .before .before .before .before .before .before .before .before .before .before .before .loop .cursor) _ (level-turn (c .before .before .before .before .before .before .before .before .before .before .before .before .before .before .before .before .before .before .before .before .before .before .before .before .before .before .before .before .before .before .before .before .before .before .args .words .now) (c .before .before .before .before .before .before .before .before .before .before .before .before .before .before .before .before .before .before .before .before .before .before .before .before .before .before .before .before .before .before .before .before .before .before .args .group) _ _ (c .before .before .before .before .before .before .before .before .before .before .before .before .before .before .before .before .before .before .before .before .before .before .before .members-at .ensures) (c .before .before .before .before .before .before .before .before .before .before .before .before .before .before .before .before .before .before .before .before .before .before .delimiter-at .ensures) (c .before .before .before .before .before .before .before .before .before .before .before .before .before .before .before .before .before .before .before .before .before .before .before .before .before .before .before .before .before .before .before .before .before .before .args .fields .now) (c .before .before .before .before .before .before .before .before .before .before .before .before .before .before .before .before .before .before .before .before .before .before .before .before .before .before .before .before .before .before .before .before .before .before .args .enclosing .now) (c .before .before .before .before .before .before .before .before .before .before .before .before .before .before .before .before .before .before .before .before .before .before .before .before .count-at .result) (c .before .before .before .before .before .before .before .before .before .before .before .before .before .before .before .before .before .loop .entries) (c .before .before .before .before .before .before .before .before .before .before .before .before .before .before .before .before .before .loop .cursor) _ (c .before .before .before .before .before .before .before .before .before .before .before .before .before .before .before .before .opening-at .ensures)) _ (c .before .before .before .before .before .before .before .before .before .before .before .before .before .before .member .given .1) .1) _ (turn-lead (c .before .before .before .before .before .before .before .before .before .before .before .before .before .before .before .before .before .before .before .before .before .before .before .before .before .before .before .before .before .before .before .before .before .before .args .words .now) (c .before .before .before .before .before .before .before .before .before .before .before .before .before .before .before .before .before .before .before .before .before .before .before .before .before .before .before .before .before .before .before .before .before .before .args .fields .now) (c .before .before .before .before .before .before .before .before .before .before .before .before .before .before .before .before .before .before .before .before .before .before .before .before .before .before .before .before .before .before .before .before .before .before .args .message .now) (c .before .before .before .before .before .before .before .before .before .before .before .before .before .before .before .before .before .before .before .before .before .before .before .before .before .before .before .before .before .before .before .before .before .before .args .enclosing .now) (c .before .before .before .before .before .before .before .before .before .before .before .before .before .before .before .before .before .before .before .before .before .before .before .before .before .before .before .before .before .before .before .before .before .before .args .group) (c .before .before .before .before .before .before .before .before .before .before .before .before .before .before .before .before .before .before .before .before .before .before .before .before .count-at .result) (c .before .before .before .before .before .before .before .before .before .before .before .before .before .before .before .before .before .loop .entries) (c .before .before .before .before .before .before .before .before .before .before .before .before .before .before .before .before .before .loop .cursor) _ (level-turn (c .before .before .before .before .before .before .before .before .before .before .before .before .before .before .before .before .before .before .before .before .before .before .before .before .before .before .before .before .before .before .before .before .before .before .args .words .now) (c .before .before .before .before .before .before .before .before .before .before .before .before .before .before .before .before .before .before .before .before .before .before .before .before .before .before .before .before .before .before .before .before .before .before .args .group) _ _ (c .before .before .before .before .before .before .before .before .before .before .before .before .before .before .before .before .before .before .before .before .before .before .before .members-at .ensures) (c .before .before .before .before .before .before .before .before .before .before .before .before .before .before .before .before .before .before .before .before .before .before .delimiter-at .ensures) (c .before .before .before .before .before .before .before .before .before .before .before .before .before .before .before .before .before .before .before .before .before .before .before .before .before .before .before .before .before .before .before .before .before .before .args .fields .now) (c .before .before .before .before .before .before .before .before .before .before .before .before .before .before .before .before .before .before .before .before .before .before .before .before .before .before .before .before .before .before .before .before .before .before .args .enclosing .now) (c .before .before .before .before .before .before .before .before .before .before .before .before .before .before .before .before .before .before .before .before .before .before .before .before .count-at .result) (c .before .before .before .before .before .before .before .before .before .before .before .before .before .before .before .before .before .loop .entries) (c .before .before .before .before .before .before .before .before .before .before .before .before .before .before .before .before .before .loop .cursor) _ (c .before .before .before .before .before .before .before .before .before .before .before .before .before .before .before .before .opening-at .ensures)) _ (c .before .before .before .before .before .before .before .before .before .before .before .before .before .before .member .given .1) .2) _ _ (c .before .before .before .before .before .before .before .before .before .before .before .put-event4 .ensures) _ _ _ _ _ (c .before .before .before .before .before .before .scan-entry2 .ensures) _ _ (c .before .before .put-event5 .ensures)
-
--- let entry = scan_wide(fields, message, words, group, cursor, depth, events, to);
-walk-group-scan-wide-requires-2 : (t : ℕ) → walk-group-lts.Need-scan-wide-requires-2 (walk-group-claims t) (walk-group-at t) walk-group.Post walk-group-Inv-loop walk-group-μ-loop
-walk-group-scan-wide-requires-2 t c κs =
-    let within = lead-inside (c .before .before .before .before .before .before .before .before .before .before .before .before .before .before .before .before .before .before .before .before .before .before .before .before .before .before .before .args .words .now) (c .before .before .before .before .before .before .before .before .before .before .before .before .before .before .before .before .before .before .before .before .before .before .before .before .before .before .before .args .fields .now) (c .before .before .before .before .before .before .before .before .before .before .before .before .before .before .before .before .before .before .before .before .before .before .before .before .before .before .before .args .message .now) (c .before .before .before .before .before .before .before .before .before .before .before .before .before .before .before .before .before .before .before .before .before .before .before .before .before .before .before .args .enclosing .now) (c .before .before .before .before .before .before .before .before .before .before .before .before .before .before .before .before .before .before .before .before .before .before .before .before .before .before .before .pre .1 .lent .passed) (c .before .before .before .before .before .before .before .before .before .before .before .before .before .before .before .before .before .before .before .before .before .before .before .before .before .before .before .args .group) (c .before .before .before .before .before .before .before .before .before .before .before .before .before .before .before .before .before .before .before .before .before .before .before .before .before .before .before .pre .1 .lent .valid) (c .before .before .before .before .before .before .before .before .before .before .before .before .before .before .before .before .before .before .before .before .before .before .before .before .before .before .before .args .index) (c .before .before .before .before .before .before .before .before .before .before .before .before .before .before .before .before .before .before .before .before .before .before .before .before .before .before .before .args .depth) _ _ (omega (arith, c .before .before .before .before .before .before .before .before .before .before .before .before .before .before .before .before .before .before .before .before .before .row-count .ensures, c .before .before .before .before .before .before .before .before .before .before .before .before .before .before .before .before .before .before .before .before .if1 .left)) (c .before .before .before .before .before .before .before .before .before .before .before .before .before .before .before .before .before .before .if2 .left) (c .before .before .before .before .before .before .before .before .before .before .before .before .before .before .before .before .before .count-at .result) (c .before .before .before .before .before .before .before .before .before .before .before .before .before .before .before .before .before .count-at .ensures) _ (c .before .before .before .before .before .before .before .before .before .before .before .before .before .before .before .before .before .before .before .count-tag-at .ensures) _ _ (c .before .before .before .before .before .before .before .before .before .before .loop .cursor) (c .before .before .before .before .before .before .before .before .before .before .loop .entries) (c .before .before .before .before .before .before .before .before .before .before .loop .unparseable) (c .before .before .before .before .before .before .before .before .before .before .loop .inv) (turn-lead (c .before .before .before .before .before .before .before .before .before .before .before .before .before .before .before .before .before .before .before .before .before .before .before .before .before .before .before .args .words .now) (c .before .before .before .before .before .before .before .before .before .before .before .before .before .before .before .before .before .before .before .before .before .before .before .before .before .before .before .args .fields .now) (c .before .before .before .before .before .before .before .before .before .before .before .before .before .before .before .before .before .before .before .before .before .before .before .before .before .before .before .args .message .now) (c .before .before .before .before .before .before .before .before .before .before .before .before .before .before .before .before .before .before .before .before .before .before .before .before .before .before .before .args .enclosing .now) (c .before .before .before .before .before .before .before .before .before .before .before .before .before .before .before .before .before .before .before .before .before .before .before .before .before .before .before .args .group) (c .before .before .before .before .before .before .before .before .before .before .before .before .before .before .before .before .before .count-at .result) (c .before .before .before .before .before .before .before .before .before .before .loop .entries) (c .before .before .before .before .before .before .before .before .before .before .loop .cursor) _ (level-turn (c .before .before .before .before .before .before .before .before .before .before .before .before .before .before .before .before .before .before .before .before .before .before .before .before .before .before .before .args .words .now) (c .before .before .before .before .before .before .before .before .before .before .before .before .before .before .before .before .before .before .before .before .before .before .before .before .before .before .before .args .group) _ _ (c .before .before .before .before .before .before .before .before .before .before .before .before .before .before .before .before .members-at .ensures) (c .before .before .before .before .before .before .before .before .before .before .before .before .before .before .before .delimiter-at .ensures) (c .before .before .before .before .before .before .before .before .before .before .before .before .before .before .before .before .before .before .before .before .before .before .before .before .before .before .before .args .fields .now) (c .before .before .before .before .before .before .before .before .before .before .before .before .before .before .before .before .before .before .before .before .before .before .before .before .before .before .before .args .enclosing .now) (c .before .before .before .before .before .before .before .before .before .before .before .before .before .before .before .before .before .count-at .result) (c .before .before .before .before .before .before .before .before .before .before .loop .entries) (c .before .before .before .before .before .before .before .before .before .before .loop .cursor) _ (c .before .before .before .before .before .before .before .before .before .opening-at .ensures)) _ (c .before .before .before .before .before .before .before .member .given .1) .0) (turn-lead (c .before .before .before .before .before .before .before .before .before .before .before .before .before .before .before .before .before .before .before .before .before .before .before .before .before .before .before .args .words .now) (c .before .before .before .before .before .before .before .before .before .before .before .before .before .before .before .before .before .before .before .before .before .before .before .before .before .before .before .args .fields .now) (c .before .before .before .before .before .before .before .before .before .before .before .before .before .before .before .before .before .before .before .before .before .before .before .before .before .before .before .args .message .now) (c .before .before .before .before .before .before .before .before .before .before .before .before .before .before .before .before .before .before .before .before .before .before .before .before .before .before .before .args .enclosing .now) (c .before .before .before .before .before .before .before .before .before .before .before .before .before .before .before .before .before .before .before .before .before .before .before .before .before .before .before .args .group) (c .before .before .before .before .before .before .before .before .before .before .before .before .before .before .before .before .before .count-at .result) (c .before .before .before .before .before .before .before .before .before .before .loop .entries) (c .before .before .before .before .before .before .before .before .before .before .loop .cursor) _ (level-turn (c .before .before .before .before .before .before .before .before .before .before .before .before .before .before .before .before .before .before .before .before .before .before .before .before .before .before .before .args .words .now) (c .before .before .before .before .before .before .before .before .before .before .before .before .before .before .before .before .before .before .before .before .before .before .before .before .before .before .before .args .group) _ _ (c .before .before .before .before .before .before .before .before .before .before .before .before .before .before .before .before .members-at .ensures) (c .before .before .before .before .before .before .before .before .before .before .before .before .before .before .before .delimiter-at .ensures) (c .before .before .before .before .before .before .before .before .before .before .before .before .before .before .before .before .before .before .before .before .before .before .before .before .before .before .before .args .fields .now) (c .before .before .before .before .before .before .before .before .before .before .before .before .before .before .before .before .before .before .before .before .before .before .before .before .before .before .before .args .enclosing .now) (c .before .before .before .before .before .before .before .before .before .before .before .before .before .before .before .before .before .count-at .result) (c .before .before .before .before .before .before .before .before .before .before .loop .entries) (c .before .before .before .before .before .before .before .before .before .before .loop .cursor) _ (c .before .before .before .before .before .before .before .before .before .opening-at .ensures)) _ (c .before .before .before .before .before .before .before .member .given .1) .1) in (
-      omega (arith, c .before .before .before .before .before .before .before .before .before .before .before .before .before .before .before .before .before .before .before .before .before .before .before .before .before .before .before .pre .0, within, c .before .before .before .before .before .before .before .before .before .before .loop .inv .ahead),
-      record {
-        lent = c .before .before .before .before .before .before .before .before .before .before .before .before .before .before .before .before .before .before .before .before .before .before .before .before .before .before .before .pre .1 .lent;
-        few-members = members-few-here (c .before .before .before .before .before .before .before .before .before .before .before .before .before .before .before .before .before .before .before .before .before .before .before .before .before .before .before .args .words .now) (c .before .before .before .before .before .before .before .before .before .before .before .before .before .before .before .before .before .before .before .before .before .before .before .before .before .before .before .pre .1 .lent .passed) (1 + c .before .before .before .before .before .before .before .before .before .before .before .before .before .before .before .before .before .before .before .before .before .before .before .before .before .before .before .args .group) (omega (arith, c .before .before .before .before .before .before .before .before .before .before .before .before .before .before .before .before .before .before .before .before .before .before .before .before .before .before .before .pre .1 .lent .valid));
-        taken = lead-taken (c .before .before .before .before .before .before .before .before .before .before .before .before .before .before .before .before .before .before .before .before .before .before .before .before .before .before .before .args .words .now) (c .before .before .before .before .before .before .before .before .before .before .before .before .before .before .before .before .before .before .before .before .before .before .before .before .before .before .before .args .fields .now) (c .before .before .before .before .before .before .before .before .before .before .before .before .before .before .before .before .before .before .before .before .before .before .before .before .before .before .before .args .message .now) (c .before .before .before .before .before .before .before .before .before .before .before .before .before .before .before .before .before .before .before .before .before .before .before .before .before .before .before .args .enclosing .now) (c .before .before .before .before .before .before .before .before .before .before .before .before .before .before .before .before .before .before .before .before .before .before .before .before .before .before .before .pre .1 .lent .passed) (c .before .before .before .before .before .before .before .before .before .before .before .before .before .before .before .before .before .before .before .before .before .before .before .before .before .before .before .args .group) (c .before .before .before .before .before .before .before .before .before .before .before .before .before .before .before .before .before .before .before .before .before .before .before .before .before .before .before .pre .1 .lent .valid) (c .before .before .before .before .before .before .before .before .before .before .before .before .before .before .before .before .before .before .before .before .before .before .before .before .before .before .before .args .index) (c .before .before .before .before .before .before .before .before .before .before .before .before .before .before .before .before .before .before .before .before .before .before .before .before .before .before .before .args .depth) _ _ (omega (arith, c .before .before .before .before .before .before .before .before .before .before .before .before .before .before .before .before .before .before .before .before .before .row-count .ensures, c .before .before .before .before .before .before .before .before .before .before .before .before .before .before .before .before .before .before .before .before .if1 .left)) (c .before .before .before .before .before .before .before .before .before .before .before .before .before .before .before .before .before .before .if2 .left) (c .before .before .before .before .before .before .before .before .before .before .before .before .before .before .before .before .before .count-at .result) (c .before .before .before .before .before .before .before .before .before .before .before .before .before .before .before .before .before .count-at .ensures) _ (c .before .before .before .before .before .before .before .before .before .before .before .before .before .before .before .before .before .before .before .count-tag-at .ensures) _ _ (c .before .before .before .before .before .before .before .before .before .before .loop .cursor) (c .before .before .before .before .before .before .before .before .before .before .loop .entries) (c .before .before .before .before .before .before .before .before .before .before .loop .unparseable) (c .before .before .before .before .before .before .before .before .before .before .loop .inv) (turn-lead (c .before .before .before .before .before .before .before .before .before .before .before .before .before .before .before .before .before .before .before .before .before .before .before .before .before .before .before .args .words .now) (c .before .before .before .before .before .before .before .before .before .before .before .before .before .before .before .before .before .before .before .before .before .before .before .before .before .before .before .args .fields .now) (c .before .before .before .before .before .before .before .before .before .before .before .before .before .before .before .before .before .before .before .before .before .before .before .before .before .before .before .args .message .now) (c .before .before .before .before .before .before .before .before .before .before .before .before .before .before .before .before .before .before .before .before .before .before .before .before .before .before .before .args .enclosing .now) (c .before .before .before .before .before .before .before .before .before .before .before .before .before .before .before .before .before .before .before .before .before .before .before .before .before .before .before .args .group) (c .before .before .before .before .before .before .before .before .before .before .before .before .before .before .before .before .before .count-at .result) (c .before .before .before .before .before .before .before .before .before .before .loop .entries) (c .before .before .before .before .before .before .before .before .before .before .loop .cursor) _ (level-turn (c .before .before .before .before .before .before .before .before .before .before .before .before .before .before .before .before .before .before .before .before .before .before .before .before .before .before .before .args .words .now) (c .before .before .before .before .before .before .before .before .before .before .before .before .before .before .before .before .before .before .before .before .before .before .before .before .before .before .before .args .group) _ _ (c .before .before .before .before .before .before .before .before .before .before .before .before .before .before .before .before .members-at .ensures) (c .before .before .before .before .before .before .before .before .before .before .before .before .before .before .before .delimiter-at .ensures) (c .before .before .before .before .before .before .before .before .before .before .before .before .before .before .before .before .before .before .before .before .before .before .before .before .before .before .before .args .fields .now) (c .before .before .before .before .before .before .before .before .before .before .before .before .before .before .before .before .before .before .before .before .before .before .before .before .before .before .before .args .enclosing .now) (c .before .before .before .before .before .before .before .before .before .before .before .before .before .before .before .before .before .count-at .result) (c .before .before .before .before .before .before .before .before .before .before .loop .entries) (c .before .before .before .before .before .before .before .before .before .before .loop .cursor) _ (c .before .before .before .before .before .before .before .before .before .opening-at .ensures)) _ (c .before .before .before .before .before .before .before .member .given .1) .0) (turn-lead (c .before .before .before .before .before .before .before .before .before .before .before .before .before .before .before .before .before .before .before .before .before .before .before .before .before .before .before .args .words .now) (c .before .before .before .before .before .before .before .before .before .before .before .before .before .before .before .before .before .before .before .before .before .before .before .before .before .before .before .args .fields .now) (c .before .before .before .before .before .before .before .before .before .before .before .before .before .before .before .before .before .before .before .before .before .before .before .before .before .before .before .args .message .now) (c .before .before .before .before .before .before .before .before .before .before .before .before .before .before .before .before .before .before .before .before .before .before .before .before .before .before .before .args .enclosing .now) (c .before .before .before .before .before .before .before .before .before .before .before .before .before .before .before .before .before .before .before .before .before .before .before .before .before .before .before .args .group) (c .before .before .before .before .before .before .before .before .before .before .before .before .before .before .before .before .before .count-at .result) (c .before .before .before .before .before .before .before .before .before .before .loop .entries) (c .before .before .before .before .before .before .before .before .before .before .loop .cursor) _ (level-turn (c .before .before .before .before .before .before .before .before .before .before .before .before .before .before .before .before .before .before .before .before .before .before .before .before .before .before .before .args .words .now) (c .before .before .before .before .before .before .before .before .before .before .before .before .before .before .before .before .before .before .before .before .before .before .before .before .before .before .before .args .group) _ _ (c .before .before .before .before .before .before .before .before .before .before .before .before .before .before .before .before .members-at .ensures) (c .before .before .before .before .before .before .before .before .before .before .before .before .before .before .before .delimiter-at .ensures) (c .before .before .before .before .before .before .before .before .before .before .before .before .before .before .before .before .before .before .before .before .before .before .before .before .before .before .before .args .fields .now) (c .before .before .before .before .before .before .before .before .before .before .before .before .before .before .before .before .before .before .before .before .before .before .before .before .before .before .before .args .enclosing .now) (c .before .before .before .before .before .before .before .before .before .before .before .before .before .before .before .before .before .count-at .result) (c .before .before .before .before .before .before .before .before .before .before .loop .entries) (c .before .before .before .before .before .before .before .before .before .before .loop .cursor) _ (c .before .before .before .before .before .before .before .before .before .opening-at .ensures)) _ (c .before .before .before .before .before .before .before .member .given .1) .1);
-        inside = within;
-        shallow = c .before .before .before .before .before .before .before .before .before .before .before .before .before .before .before .before .before .before .if2 .left;
-        room = delim-room (c .before .before .before .before .before .before .before .before .before .before .before .before .before .before .before .before .before .before .before .before .before .before .before .before .before .before .before .args .words .now) (c .before .before .before .before .before .before .before .before .before .before .before .before .before .before .before .before .before .before .before .before .before .before .before .before .before .before .before .args .fields .now) (c .before .before .before .before .before .before .before .before .before .before .before .before .before .before .before .before .before .before .before .before .before .before .before .before .before .before .before .args .message .now) (c .before .before .before .before .before .before .before .before .before .before .before .before .before .before .before .before .before .before .before .before .before .before .before .before .before .before .before .args .enclosing .now) (c .before .before .before .before .before .before .before .before .before .before .before .before .before .before .before .before .before .before .before .before .before .before .before .before .before .before .before .pre .1 .lent .passed) (c .before .before .before .before .before .before .before .before .before .before .before .before .before .before .before .before .before .before .before .before .before .before .before .before .before .before .before .args .group) (c .before .before .before .before .before .before .before .before .before .before .before .before .before .before .before .before .before .before .before .before .before .before .before .before .before .before .before .pre .1 .lent .valid) (c .before .before .before .before .before .before .before .before .before .before .before .before .before .before .before .before .before .before .before .before .before .before .before .before .before .before .before .args .index) (c .before .before .before .before .before .before .before .before .before .before .before .before .before .before .before .before .before .before .before .before .before .before .before .before .before .before .before .args .depth) _ _ (omega (arith, c .before .before .before .before .before .before .before .before .before .before .before .before .before .before .before .before .before .before .before .before .before .row-count .ensures, c .before .before .before .before .before .before .before .before .before .before .before .before .before .before .before .before .before .before .before .before .if1 .left)) (c .before .before .before .before .before .before .before .before .before .before .before .before .before .before .before .before .before .before .if2 .left) (c .before .before .before .before .before .before .before .before .before .before .before .before .before .before .before .before .before .count-at .result) (c .before .before .before .before .before .before .before .before .before .before .before .before .before .before .before .before .before .count-at .ensures) _ (c .before .before .before .before .before .before .before .before .before .before .before .before .before .before .before .before .before .before .before .count-tag-at .ensures) _ _ (c .before .before .before .before .before .before .before .before .before .before .loop .cursor) (c .before .before .before .before .before .before .before .before .before .before .loop .entries) (c .before .before .before .before .before .before .before .before .before .before .loop .unparseable) (c .before .before .before .before .before .before .before .before .before .before .loop .inv) (turn-lead (c .before .before .before .before .before .before .before .before .before .before .before .before .before .before .before .before .before .before .before .before .before .before .before .before .before .before .before .args .words .now) (c .before .before .before .before .before .before .before .before .before .before .before .before .before .before .before .before .before .before .before .before .before .before .before .before .before .before .before .args .fields .now) (c .before .before .before .before .before .before .before .before .before .before .before .before .before .before .before .before .before .before .before .before .before .before .before .before .before .before .before .args .message .now) (c .before .before .before .before .before .before .before .before .before .before .before .before .before .before .before .before .before .before .before .before .before .before .before .before .before .before .before .args .enclosing .now) (c .before .before .before .before .before .before .before .before .before .before .before .before .before .before .before .before .before .before .before .before .before .before .before .before .before .before .before .args .group) (c .before .before .before .before .before .before .before .before .before .before .before .before .before .before .before .before .before .count-at .result) (c .before .before .before .before .before .before .before .before .before .before .loop .entries) (c .before .before .before .before .before .before .before .before .before .before .loop .cursor) _ (level-turn (c .before .before .before .before .before .before .before .before .before .before .before .before .before .before .before .before .before .before .before .before .before .before .before .before .before .before .before .args .words .now) (c .before .before .before .before .before .before .before .before .before .before .before .before .before .before .before .before .before .before .before .before .before .before .before .before .before .before .before .args .group) _ _ (c .before .before .before .before .before .before .before .before .before .before .before .before .before .before .before .before .members-at .ensures) (c .before .before .before .before .before .before .before .before .before .before .before .before .before .before .before .delimiter-at .ensures) (c .before .before .before .before .before .before .before .before .before .before .before .before .before .before .before .before .before .before .before .before .before .before .before .before .before .before .before .args .fields .now) (c .before .before .before .before .before .before .before .before .before .before .before .before .before .before .before .before .before .before .before .before .before .before .before .before .before .before .before .args .enclosing .now) (c .before .before .before .before .before .before .before .before .before .before .before .before .before .before .before .before .before .count-at .result) (c .before .before .before .before .before .before .before .before .before .before .loop .entries) (c .before .before .before .before .before .before .before .before .before .before .loop .cursor) _ (c .before .before .before .before .before .before .before .before .before .opening-at .ensures)) _ (c .before .before .before .before .before .before .before .member .given .1) .0) (turn-lead (c .before .before .before .before .before .before .before .before .before .before .before .before .before .before .before .before .before .before .before .before .before .before .before .before .before .before .before .args .words .now) (c .before .before .before .before .before .before .before .before .before .before .before .before .before .before .before .before .before .before .before .before .before .before .before .before .before .before .before .args .fields .now) (c .before .before .before .before .before .before .before .before .before .before .before .before .before .before .before .before .before .before .before .before .before .before .before .before .before .before .before .args .message .now) (c .before .before .before .before .before .before .before .before .before .before .before .before .before .before .before .before .before .before .before .before .before .before .before .before .before .before .before .args .enclosing .now) (c .before .before .before .before .before .before .before .before .before .before .before .before .before .before .before .before .before .before .before .before .before .before .before .before .before .before .before .args .group) (c .before .before .before .before .before .before .before .before .before .before .before .before .before .before .before .before .before .count-at .result) (c .before .before .before .before .before .before .before .before .before .before .loop .entries) (c .before .before .before .before .before .before .before .before .before .before .loop .cursor) _ (level-turn (c .before .before .before .before .before .before .before .before .before .before .before .before .before .before .before .before .before .before .before .before .before .before .before .before .before .before .before .args .words .now) (c .before .before .before .before .before .before .before .before .before .before .before .before .before .before .before .before .before .before .before .before .before .before .before .before .before .before .before .args .group) _ _ (c .before .before .before .before .before .before .before .before .before .before .before .before .before .before .before .before .members-at .ensures) (c .before .before .before .before .before .before .before .before .before .before .before .before .before .before .before .delimiter-at .ensures) (c .before .before .before .before .before .before .before .before .before .before .before .before .before .before .before .before .before .before .before .before .before .before .before .before .before .before .before .args .fields .now) (c .before .before .before .before .before .before .before .before .before .before .before .before .before .before .before .before .before .before .before .before .before .before .before .before .before .before .before .args .enclosing .now) (c .before .before .before .before .before .before .before .before .before .before .before .before .before .before .before .before .before .count-at .result) (c .before .before .before .before .before .before .before .before .before .before .loop .entries) (c .before .before .before .before .before .before .before .before .before .before .loop .cursor) _ (c .before .before .before .before .before .before .before .before .before .opening-at .ensures)) _ (c .before .before .before .before .before .before .before .member .given .1) .1) _ (turn-lead (c .before .before .before .before .before .before .before .before .before .before .before .before .before .before .before .before .before .before .before .before .before .before .before .before .before .before .before .args .words .now) (c .before .before .before .before .before .before .before .before .before .before .before .before .before .before .before .before .before .before .before .before .before .before .before .before .before .before .before .args .fields .now) (c .before .before .before .before .before .before .before .before .before .before .before .before .before .before .before .before .before .before .before .before .before .before .before .before .before .before .before .args .message .now) (c .before .before .before .before .before .before .before .before .before .before .before .before .before .before .before .before .before .before .before .before .before .before .before .before .before .before .before .args .enclosing .now) (c .before .before .before .before .before .before .before .before .before .before .before .before .before .before .before .before .before .before .before .before .before .before .before .before .before .before .before .args .group) (c .before .before .before .before .before .before .before .before .before .before .before .before .before .before .before .before .before .count-at .result) (c .before .before .before .before .before .before .before .before .before .before .loop .entries) (c .before .before .before .before .before .before .before .before .before .before .loop .cursor) _ (level-turn (c .before .before .before .before .before .before .before .before .before .before .before .before .before .before .before .before .before .before .before .before .before .before .before .before .before .before .before .args .words .now) (c .before .before .before .before .before .before .before .before .before .before .before .before .before .before .before .before .before .before .before .before .before .before .before .before .before .before .before .args .group) _ _ (c .before .before .before .before .before .before .before .before .before .before .before .before .before .before .before .before .members-at .ensures) (c .before .before .before .before .before .before .before .before .before .before .before .before .before .before .before .delimiter-at .ensures) (c .before .before .before .before .before .before .before .before .before .before .before .before .before .before .before .before .before .before .before .before .before .before .before .before .before .before .before .args .fields .now) (c .before .before .before .before .before .before .before .before .before .before .before .before .before .before .before .before .before .before .before .before .before .before .before .before .before .before .before .args .enclosing .now) (c .before .before .before .before .before .before .before .before .before .before .before .before .before .before .before .before .before .count-at .result) (c .before .before .before .before .before .before .before .before .before .before .loop .entries) (c .before .before .before .before .before .before .before .before .before .before .loop .cursor) _ (c .before .before .before .before .before .before .before .before .before .opening-at .ensures)) _ (c .before .before .before .before .before .before .before .member .given .1) .2) _ _ (c .before .before .before .before .put-event4 .ensures);
-      },
-    )
-
--- to = put_event(events, entry.at, tag, depth, close);
-walk-group-put-event-requires-6 : (t : ℕ) → walk-group-lts.Need-put-event-requires-6 (walk-group-claims t) (walk-group-at t) walk-group.Post walk-group-Inv-loop walk-group-μ-loop
-walk-group-put-event-requires-6 t c κs = omega (arith, c .before .before .before .scan-wide2 .ensures .few, c .before .before .before .scan-wide2 .ensures .within, delim-room (c .before .before .before .before .before .before .before .before .before .before .before .before .before .before .before .before .before .before .before .before .before .before .before .before .before .before .before .before .before .before .before .args .words .now) (c .before .before .before .before .before .before .before .before .before .before .before .before .before .before .before .before .before .before .before .before .before .before .before .before .before .before .before .before .before .before .before .args .fields .now) (c .before .before .before .before .before .before .before .before .before .before .before .before .before .before .before .before .before .before .before .before .before .before .before .before .before .before .before .before .before .before .before .args .message .now) (c .before .before .before .before .before .before .before .before .before .before .before .before .before .before .before .before .before .before .before .before .before .before .before .before .before .before .before .before .before .before .before .args .enclosing .now) (c .before .before .before .before .before .before .before .before .before .before .before .before .before .before .before .before .before .before .before .before .before .before .before .before .before .before .before .before .before .before .before .pre .1 .lent .passed) (c .before .before .before .before .before .before .before .before .before .before .before .before .before .before .before .before .before .before .before .before .before .before .before .before .before .before .before .before .before .before .before .args .group) (c .before .before .before .before .before .before .before .before .before .before .before .before .before .before .before .before .before .before .before .before .before .before .before .before .before .before .before .before .before .before .before .pre .1 .lent .valid) (c .before .before .before .before .before .before .before .before .before .before .before .before .before .before .before .before .before .before .before .before .before .before .before .before .before .before .before .before .before .before .before .args .index) (c .before .before .before .before .before .before .before .before .before .before .before .before .before .before .before .before .before .before .before .before .before .before .before .before .before .before .before .before .before .before .before .args .depth) _ _ (omega (arith, c .before .before .before .before .before .before .before .before .before .before .before .before .before .before .before .before .before .before .before .before .before .before .before .before .before .row-count .ensures, c .before .before .before .before .before .before .before .before .before .before .before .before .before .before .before .before .before .before .before .before .before .before .before .before .if1 .left)) (c .before .before .before .before .before .before .before .before .before .before .before .before .before .before .before .before .before .before .before .before .before .before .if2 .left) (c .before .before .before .before .before .before .before .before .before .before .before .before .before .before .before .before .before .before .before .before .before .count-at .result) (c .before .before .before .before .before .before .before .before .before .before .before .before .before .before .before .before .before .before .before .before .before .count-at .ensures) _ (c .before .before .before .before .before .before .before .before .before .before .before .before .before .before .before .before .before .before .before .before .before .before .before .count-tag-at .ensures) _ _ (c .before .before .before .before .before .before .before .before .before .before .before .before .before .before .loop .cursor) (c .before .before .before .before .before .before .before .before .before .before .before .before .before .before .loop .entries) (c .before .before .before .before .before .before .before .before .before .before .before .before .before .before .loop .unparseable) (c .before .before .before .before .before .before .before .before .before .before .before .before .before .before .loop .inv) (turn-lead (c .before .before .before .before .before .before .before .before .before .before .before .before .before .before .before .before .before .before .before .before .before .before .before .before .before .before .before .before .before .before .before .args .words .now) (c .before .before .before .before .before .before .before .before .before .before .before .before .before .before .before .before .before .before .before .before .before .before .before .before .before .before .before .before .before .before .before .args .fields .now) (c .before .before .before .before .before .before .before .before .before .before .before .before .before .before .before .before .before .before .before .before .before .before .before .before .before .before .before .before .before .before .before .args .message .now) (c .before .before .before .before .before .before .before .before .before .before .before .before .before .before .before .before .before .before .before .before .before .before .before .before .before .before .before .before .before .before .before .args .enclosing .now) (c .before .before .before .before .before .before .before .before .before .before .before .before .before .before .before .before .before .before .before .before .before .before .before .before .before .before .before .before .before .before .before .args .group) (c .before .before .before .before .before .before .before .before .before .before .before .before .before .before .before .before .before .before .before .before .before .count-at .result) (c .before .before .before .before .before .before .before .before .before .before .before .before .before .before .loop .entries) (c .before .before .before .before .before .before .before .before .before .before .before .before .before .before .loop .cursor) _ (level-turn (c .before .before .before .before .before .before .before .before .before .before .before .before .before .before .before .before .before .before .before .before .before .before .before .before .before .before .before .before .before .before .before .args .words .now) (c .before .before .before .before .before .before .before .before .before .before .before .before .before .before .before .before .before .before .before .before .before .before .before .before .before .before .before .before .before .before .before .args .group) _ _ (c .before .before .before .before .before .before .before .before .before .before .before .before .before .before .before .before .before .before .before .before .members-at .ensures) (c .before .before .before .before .before .before .before .before .before .before .before .before .before .before .before .before .before .before .before .delimiter-at .ensures) (c .before .before .before .before .before .before .before .before .before .before .before .before .before .before .before .before .before .before .before .before .before .before .before .before .before .before .before .before .before .before .before .args .fields .now) (c .before .before .before .before .before .before .before .before .before .before .before .before .before .before .before .before .before .before .before .before .before .before .before .before .before .before .before .before .before .before .before .args .enclosing .now) (c .before .before .before .before .before .before .before .before .before .before .before .before .before .before .before .before .before .before .before .before .before .count-at .result) (c .before .before .before .before .before .before .before .before .before .before .before .before .before .before .loop .entries) (c .before .before .before .before .before .before .before .before .before .before .before .before .before .before .loop .cursor) _ (c .before .before .before .before .before .before .before .before .before .before .before .before .before .opening-at .ensures)) _ (c .before .before .before .before .before .before .before .before .before .before .before .member .given .1) .0) (turn-lead (c .before .before .before .before .before .before .before .before .before .before .before .before .before .before .before .before .before .before .before .before .before .before .before .before .before .before .before .before .before .before .before .args .words .now) (c .before .before .before .before .before .before .before .before .before .before .before .before .before .before .before .before .before .before .before .before .before .before .before .before .before .before .before .before .before .before .before .args .fields .now) (c .before .before .before .before .before .before .before .before .before .before .before .before .before .before .before .before .before .before .before .before .before .before .before .before .before .before .before .before .before .before .before .args .message .now) (c .before .before .before .before .before .before .before .before .before .before .before .before .before .before .before .before .before .before .before .before .before .before .before .before .before .before .before .before .before .before .before .args .enclosing .now) (c .before .before .before .before .before .before .before .before .before .before .before .before .before .before .before .before .before .before .before .before .before .before .before .before .before .before .before .before .before .before .before .args .group) (c .before .before .before .before .before .before .before .before .before .before .before .before .before .before .before .before .before .before .before .before .before .count-at .result) (c .before .before .before .before .before .before .before .before .before .before .before .before .before .before .loop .entries) (c .before .before .before .before .before .before .before .before .before .before .before .before .before .before .loop .cursor) _ (level-turn (c .before .before .before .before .before .before .before .before .before .before .before .before .before .before .before .before .before .before .before .before .before .before .before .before .before .before .before .before .before .before .before .args .words .now) (c .before .before .before .before .before .before .before .before .before .before .before .before .before .before .before .before .before .before .before .before .before .before .before .before .before .before .before .before .before .before .before .args .group) _ _ (c .before .before .before .before .before .before .before .before .before .before .before .before .before .before .before .before .before .before .before .before .members-at .ensures) (c .before .before .before .before .before .before .before .before .before .before .before .before .before .before .before .before .before .before .before .delimiter-at .ensures) (c .before .before .before .before .before .before .before .before .before .before .before .before .before .before .before .before .before .before .before .before .before .before .before .before .before .before .before .before .before .before .before .args .fields .now) (c .before .before .before .before .before .before .before .before .before .before .before .before .before .before .before .before .before .before .before .before .before .before .before .before .before .before .before .before .before .before .before .args .enclosing .now) (c .before .before .before .before .before .before .before .before .before .before .before .before .before .before .before .before .before .before .before .before .before .count-at .result) (c .before .before .before .before .before .before .before .before .before .before .before .before .before .before .loop .entries) (c .before .before .before .before .before .before .before .before .before .before .before .before .before .before .loop .cursor) _ (c .before .before .before .before .before .before .before .before .before .before .before .before .before .opening-at .ensures)) _ (c .before .before .before .before .before .before .before .before .before .before .before .member .given .1) .1) _ (turn-lead (c .before .before .before .before .before .before .before .before .before .before .before .before .before .before .before .before .before .before .before .before .before .before .before .before .before .before .before .before .before .before .before .args .words .now) (c .before .before .before .before .before .before .before .before .before .before .before .before .before .before .before .before .before .before .before .before .before .before .before .before .before .before .before .before .before .before .before .args .fields .now) (c .before .before .before .before .before .before .before .before .before .before .before .before .before .before .before .before .before .before .before .before .before .before .before .before .before .before .before .before .before .before .before .args .message .now) (c .before .before .before .before .before .before .before .before .before .before .before .before .before .before .before .before .before .before .before .before .before .before .before .before .before .before .before .before .before .before .before .args .enclosing .now) (c .before .before .before .before .before .before .before .before .before .before .before .before .before .before .before .before .before .before .before .before .before .before .before .before .before .before .before .before .before .before .before .args .group) (c .before .before .before .before .before .before .before .before .before .before .before .before .before .before .before .before .before .before .before .before .before .count-at .result) (c .before .before .before .before .before .before .before .before .before .before .before .before .before .before .loop .entries) (c .before .before .before .before .before .before .before .before .before .before .before .before .before .before .loop .cursor) _ (level-turn (c .before .before .before .before .before .before .before .before .before .before .before .before .before .before .before .before .before .before .before .before .before .before .before .before .before .before .before .before .before .before .before .args .words .now) (c .before .before .before .before .before .before .before .before .before .before .before .before .before .before .before .before .before .before .before .before .before .before .before .before .before .before .before .before .before .before .before .args .group) _ _ (c .before .before .before .before .before .before .before .before .before .before .before .before .before .before .before .before .before .before .before .before .members-at .ensures) (c .before .before .before .before .before .before .before .before .before .before .before .before .before .before .before .before .before .before .before .delimiter-at .ensures) (c .before .before .before .before .before .before .before .before .before .before .before .before .before .before .before .before .before .before .before .before .before .before .before .before .before .before .before .before .before .before .before .args .fields .now) (c .before .before .before .before .before .before .before .before .before .before .before .before .before .before .before .before .before .before .before .before .before .before .before .before .before .before .before .before .before .before .before .args .enclosing .now) (c .before .before .before .before .before .before .before .before .before .before .before .before .before .before .before .before .before .before .before .before .before .count-at .result) (c .before .before .before .before .before .before .before .before .before .before .before .before .before .before .loop .entries) (c .before .before .before .before .before .before .before .before .before .before .before .before .before .before .loop .cursor) _ (c .before .before .before .before .before .before .before .before .before .before .before .before .before .opening-at .ensures)) _ (c .before .before .before .before .before .before .before .before .before .before .before .member .given .1) .2) _ _ (c .before .before .before .before .before .before .before .before .put-event4 .ensures), c .before .before .before .before .before .before .before .before .before .before .before .before .before .before .before .before .before .before .before .before .before .before .before .before .before .before .before .before .before .before .before .pre .1 .lent .table .few)
-
--- entries += 1;
-walk-group-add-entries-4 : (t : ℕ) → walk-group-lts.Need-add-entries-4 (walk-group-claims t) (walk-group-at t) walk-group.Post walk-group-Inv-loop walk-group-μ-loop
-walk-group-add-entries-4 t c = omega (arith, c .before .before .before .before .before .before .before .before .before .before .before .before .before .before .before .before .before .loop .inv .ahead, c .before .before .before .before .before .before .before .before .before .before .before .before .before .before .before .before .before .loop .inv .within, c .before .before .before .before .before .before .before .before .before .before .before .before .before .before .before .before .before .before .before .before .before .before .before .before .before .before .before .before .before .before .before .before .before .before .pre .1 .lent .table .few)
-
--- loop {
-walk-group-loop-less-4 : (t : ℕ) → walk-group-lts.Need-loop-less-4 (walk-group-claims t) (walk-group-at t) walk-group.Post walk-group-Inv-loop walk-group-μ-loop
-walk-group-loop-less-4 t c = omega (arith, c .before .before .before .before .before .before .scan-wide2 .ensures .moves, c .before .before .before .before .before .before .scan-wide2 .ensures .within)
-
-walk-group-loop-again-4 : (t : ℕ) → walk-group-lts.Need-loop-again-4 (walk-group-claims t) (walk-group-at t) walk-group.Post walk-group-Inv-loop walk-group-μ-loop
-walk-group-loop-again-4 t c = group-adds-lead (c .before .before .before .before .before .before .before .before .before .before .before .before .before .before .before .before .before .before .before .before .before .before .before .before .before .before .before .before .before .before .before .before .before .before .args .words .now) (c .before .before .before .before .before .before .before .before .before .before .before .before .before .before .before .before .before .before .before .before .before .before .before .before .before .before .before .before .before .before .before .before .before .before .args .fields .now) (c .before .before .before .before .before .before .before .before .before .before .before .before .before .before .before .before .before .before .before .before .before .before .before .before .before .before .before .before .before .before .before .before .before .before .args .message .now) (c .before .before .before .before .before .before .before .before .before .before .before .before .before .before .before .before .before .before .before .before .before .before .before .before .before .before .before .before .before .before .before .before .before .before .args .enclosing .now) (c .before .before .before .before .before .before .before .before .before .before .before .before .before .before .before .before .before .before .before .before .before .before .before .before .before .before .before .before .before .before .before .before .before .before .pre .1 .lent .passed) (c .before .before .before .before .before .before .before .before .before .before .before .before .before .before .before .before .before .before .before .before .before .before .before .before .before .before .before .before .before .before .before .before .before .before .args .group) (c .before .before .before .before .before .before .before .before .before .before .before .before .before .before .before .before .before .before .before .before .before .before .before .before .before .before .before .before .before .before .before .before .before .before .pre .1 .lent .valid) (c .before .before .before .before .before .before .before .before .before .before .before .before .before .before .before .before .before .before .before .before .before .before .before .before .before .before .before .before .before .before .before .before .before .before .args .index) (c .before .before .before .before .before .before .before .before .before .before .before .before .before .before .before .before .before .before .before .before .before .before .before .before .before .before .before .before .before .before .before .before .before .before .args .depth) _ _ (omega (arith, c .before .before .before .before .before .before .before .before .before .before .before .before .before .before .before .before .before .before .before .before .before .before .before .before .before .before .before .before .row-count .ensures, c .before .before .before .before .before .before .before .before .before .before .before .before .before .before .before .before .before .before .before .before .before .before .before .before .before .before .before .if1 .left)) (c .before .before .before .before .before .before .before .before .before .before .before .before .before .before .before .before .before .before .before .before .before .before .before .before .before .if2 .left) (c .before .before .before .before .before .before .before .before .before .before .before .before .before .before .before .before .before .before .before .before .before .before .before .before .count-at .result) (c .before .before .before .before .before .before .before .before .before .before .before .before .before .before .before .before .before .before .before .before .before .before .before .before .count-at .ensures) _ (c .before .before .before .before .before .before .before .before .before .before .before .before .before .before .before .before .before .before .before .before .before .before .before .before .before .before .count-tag-at .ensures) _ _ (c .before .before .before .before .before .before .before .before .before .before .before .before .before .before .before .before .before .loop .cursor) (c .before .before .before .before .before .before .before .before .before .before .before .before .before .before .before .before .before .loop .entries) (c .before .before .before .before .before .before .before .before .before .before .before .before .before .before .before .before .before .loop .unparseable) (c .before .before .before .before .before .before .before .before .before .before .before .before .before .before .before .before .before .loop .inv) (turn-lead (c .before .before .before .before .before .before .before .before .before .before .before .before .before .before .before .before .before .before .before .before .before .before .before .before .before .before .before .before .before .before .before .before .before .before .args .words .now) (c .before .before .before .before .before .before .before .before .before .before .before .before .before .before .before .before .before .before .before .before .before .before .before .before .before .before .before .before .before .before .before .before .before .before .args .fields .now) (c .before .before .before .before .before .before .before .before .before .before .before .before .before .before .before .before .before .before .before .before .before .before .before .before .before .before .before .before .before .before .before .before .before .before .args .message .now) (c .before .before .before .before .before .before .before .before .before .before .before .before .before .before .before .before .before .before .before .before .before .before .before .before .before .before .before .before .before .before .before .before .before .before .args .enclosing .now) (c .before .before .before .before .before .before .before .before .before .before .before .before .before .before .before .before .before .before .before .before .before .before .before .before .before .before .before .before .before .before .before .before .before .before .args .group) (c .before .before .before .before .before .before .before .before .before .before .before .before .before .before .before .before .before .before .before .before .before .before .before .before .count-at .result) (c .before .before .before .before .before .before .before .before .before .before .before .before .before .before .before .before .before .loop .entries) (c .before .before .before .before .before .before .before .before .before .before .before .before .before .before .before .before .before .loop .cursor) _ (level-turn (c .before .before .before .before .before .before .before .before .before .before .before .before .before .before .before .before .before .before .before .before .before .before .before .before .before .before .before .before .before .before .before .before .before .before .args .words .now) (c .before .before .before .before .before .before .before .before .before .before .before .before .before .before .before .before .before .before .before .before .before .before .before .before .before .before .before .before .before .before .before .before .before .before .args .group) _ _ (c .before .before .before .before .before .before .before .before .before .before .before .before .before .before .before .before .before .before .before .before .before .before .before .members-at .ensures) (c .before .before .before .before .before .before .before .before .before .before .before .before .before .before .before .before .before .before .before .before .before .before .delimiter-at .ensures) (c .before .before .before .before .before .before .before .before .before .before .before .before .before .before .before .before .before .before .before .before .before .before .before .before .before .before .before .before .before .before .before .before .before .before .args .fields .now) (c .before .before .before .before .before .before .before .before .before .before .before .before .before .before .before .before .before .before .before .before .before .before .before .before .before .before .before .before .before .before .before .before .before .before .args .enclosing .now) (c .before .before .before .before .before .before .before .before .before .before .before .before .before .before .before .before .before .before .before .before .before .before .before .before .count-at .result) (c .before .before .before .before .before .before .before .before .before .before .before .before .before .before .before .before .before .loop .entries) (c .before .before .before .before .before .before .before .before .before .before .before .before .before .before .before .before .before .loop .cursor) _ (c .before .before .before .before .before .before .before .before .before .before .before .before .before .before .before .before .opening-at .ensures)) _ (c .before .before .before .before .before .before .before .before .before .before .before .before .before .before .member .given .1) .0) (turn-lead (c .before .before .before .before .before .before .before .before .before .before .before .before .before .before .before .before .before .before .before .before .before .before .before .before .before .before .before .before .before .before .before .before .before .before .args .words .now) (c .before .before .before .before .before .before .before .before .before .before .before .before .before .before .before .before .before .before .before .before .before .before .before .before .before .before .before .before .before .before .before .before .before .before .args .fields .now) (c .before .before .before .before .before .before .before .before .before .before .before .before .before .before .before .before .before .before .before .before .before .before .before .before .before .before .before .before .before .before .before .before .before .before .args .message .now) (c .before .before .before .before .before .before .before .before .before .before .before .before .before .before .before .before .before .before .before .before .before .before .before .before .before .before .before .before .before .before .before .before .before .before .args .enclosing .now) (c .before .before .before .before .before .before .before .before .before .before .before .before .before .before .before .before .before .before .before .before .before .before .before .before .before .before .before .before .before .before .before .before .before .before .args .group) (c .before .before .before .before .before .before .before .before .before .before .before .before .before .before .before .before .before .before .before .before .before .before .before .before .count-at .result) (c .before .before .before .before .before .before .before .before .before .before .before .before .before .before .before .before .before .loop .entries) (c .before .before .before .before .before .before .before .before .before .before .before .before .before .before .before .before .before .loop .cursor) _ (level-turn (c .before .before .before .before .before .before .before .before .before .before .before .before .before .before .before .before .before .before .before .before .before .before .before .before .before .before .before .before .before .before .before .before .before .before .args .words .now) (c .before .before .before .before .before .before .before .before .before .before .before .before .before .before .before .before .before .before .before .before .before .before .before .before .before .before .before .before .before .before .before .before .before .before .args .group) _ _ (c .before .before .before .before .before .before .before .before .before .before .before .before .before .before .before .before .before .before .before .before .before .before .before .members-at .ensures) (c .before .before .before .before .before .before .before .before .before .before .before .before .before .before .before .before .before .before .before .before .before .before .delimiter-at .ensures) (c .before .before .before .before .before .before .before .before .before .before .before .before .before .before .before .before .before .before .before .before .before .before .before .before .before .before .before .before .before .before .before .before .before .before .args .fields .now) (c .before .before .before .before .before .before .before .before .before .before .before .before .before .before .before .before .before .before .before .before .before .before .before .before .before .before .before .before .before .before .before .before .before .before .args .enclosing .now) (c .before .before .before .before .before .before .before .before .before .before .before .before .before .before .before .before .before .before .before .before .before .before .before .before .count-at .result) (c .before .before .before .before .before .before .before .before .before .before .before .before .before .before .before .before .before .loop .entries) (c .before .before .before .before .before .before .before .before .before .before .before .before .before .before .before .before .before .loop .cursor) _ (c .before .before .before .before .before .before .before .before .before .before .before .before .before .before .before .before .opening-at .ensures)) _ (c .before .before .before .before .before .before .before .before .before .before .before .before .before .before .member .given .1) .1) _ (turn-lead (c .before .before .before .before .before .before .before .before .before .before .before .before .before .before .before .before .before .before .before .before .before .before .before .before .before .before .before .before .before .before .before .before .before .before .args .words .now) (c .before .before .before .before .before .before .before .before .before .before .before .before .before .before .before .before .before .before .before .before .before .before .before .before .before .before .before .before .before .before .before .before .before .before .args .fields .now) (c .before .before .before .before .before .before .before .before .before .before .before .before .before .before .before .before .before .before .before .before .before .before .before .before .before .before .before .before .before .before .before .before .before .before .args .message .now) (c .before .before .before .before .before .before .before .before .before .before .before .before .before .before .before .before .before .before .before .before .before .before .before .before .before .before .before .before .before .before .before .before .before .before .args .enclosing .now) (c .before .before .before .before .before .before .before .before .before .before .before .before .before .before .before .before .before .before .before .before .before .before .before .before .before .before .before .before .before .before .before .before .before .before .args .group) (c .before .before .before .before .before .before .before .before .before .before .before .before .before .before .before .before .before .before .before .before .before .before .before .before .count-at .result) (c .before .before .before .before .before .before .before .before .before .before .before .before .before .before .before .before .before .loop .entries) (c .before .before .before .before .before .before .before .before .before .before .before .before .before .before .before .before .before .loop .cursor) _ (level-turn (c .before .before .before .before .before .before .before .before .before .before .before .before .before .before .before .before .before .before .before .before .before .before .before .before .before .before .before .before .before .before .before .before .before .before .args .words .now) (c .before .before .before .before .before .before .before .before .before .before .before .before .before .before .before .before .before .before .before .before .before .before .before .before .before .before .before .before .before .before .before .before .before .before .args .group) _ _ (c .before .before .before .before .before .before .before .before .before .before .before .before .before .before .before .before .before .before .before .before .before .before .before .members-at .ensures) (c .before .before .before .before .before .before .before .before .before .before .before .before .before .before .before .before .before .before .before .before .before .before .delimiter-at .ensures) (c .before .before .before .before .before .before .before .before .before .before .before .before .before .before .before .before .before .before .before .before .before .before .before .before .before .before .before .before .before .before .before .before .before .before .args .fields .now) (c .before .before .before .before .before .before .before .before .before .before .before .before .before .before .before .before .before .before .before .before .before .before .before .before .before .before .before .before .before .before .before .before .before .before .args .enclosing .now) (c .before .before .before .before .before .before .before .before .before .before .before .before .before .before .before .before .before .before .before .before .before .before .before .before .count-at .result) (c .before .before .before .before .before .before .before .before .before .before .before .before .before .before .before .before .before .loop .entries) (c .before .before .before .before .before .before .before .before .before .before .before .before .before .before .before .before .before .loop .cursor) _ (c .before .before .before .before .before .before .before .before .before .before .before .before .before .before .before .before .opening-at .ensures)) _ (c .before .before .before .before .before .before .before .before .before .before .before .before .before .before .member .given .1) .2) _ _ (c .before .before .before .before .before .before .before .before .before .before .before .put-event4 .ensures) _ _ _ _ _ (c .before .before .before .before .before .before .scan-wide2 .ensures) _ _ (c .before .before .put-event6 .ensures)
+walk-group-loop-again-2 t c = let opened = one-opens (c .before .before .before .before .before .before .before .before .before .before .before .before .before .before .before .before .before .before .before .before .before .before .before .before .before .before .before .before .before .args .words .now) (c .before .before .before .before .before .before .before .before .before .before .before .before .before .before .before .before .before .before .before .before .before .before .before .before .before .before .before .before .before .args .fields .now) (c .before .before .before .before .before .before .before .before .before .before .before .before .before .before .before .before .before .before .before .before .before .before .before .before .before .before .before .before .before .args .message .now) (c .before .before .before .before .before .before .before .before .before .before .before .before .before .before .before .before .before .before .before .before .before .before .before .before .before .before .before .before .before .args .enclosing .now) (c .before .before .before .before .before .before .before .before .before .before .before .before .before .before .before .before .before .before .before .before .before .before .before .before .before .before .before .before .before .pre .1 .lent .passed) (c .before .before .before .before .before .before .before .before .before .before .before .before .before .before .before .before .before .before .before .before .before .before .before .before .before .before .before .before .before .args .group) (c .before .before .before .before .before .before .before .before .before .before .before .before .before .before .before .before .before .before .before .before .before .before .before .before .before .before .before .before .before .pre .1 .lent .valid) (c .before .before .before .before .before .before .before .before .before .before .before .before .before .before .before .before .before .before .before .before .before .before .before .before .before .before .before .before .before .args .index) (c .before .before .before .before .before .before .before .before .before .before .before .before .before .before .before .before .before .before .before .before .before .before .before .before .before .before .before .before .before .args .depth) _ _ (omega (arith, c .before .before .before .before .before .before .before .before .before .before .before .before .before .before .before .before .before .before .before .before .before .before .before .row-count .ensures, c .before .before .before .before .before .before .before .before .before .before .before .before .before .before .before .before .before .before .before .before .before .before .if1 .left)) (c .before .before .before .before .before .before .before .before .before .before .before .before .before .before .before .before .before .before .before .before .if2 .left) (c .before .before .before .before .before .before .before .before .before .before .before .before .before .before .before .before .before .before .before .count-at .result) (c .before .before .before .before .before .before .before .before .before .before .before .before .before .before .before .before .before .before .before .count-at .ensures) _ (c .before .before .before .before .before .before .before .before .before .before .before .before .before .before .before .before .before .before .before .before .before .count-tag-at .ensures) _ _ (c .before .before .before .before .before .before .before .before .before .before .before .before .loop .cursor) (c .before .before .before .before .before .before .before .before .before .before .before .before .loop .entries) (c .before .before .before .before .before .before .before .before .before .before .before .before .loop .unparseable) (c .before .before .before .before .before .before .before .before .before .before .before .before .loop .inv) (c .before .before .before .before .before .before .before .before .before .before .match .events) (c .before .before .before .before .before .before .before .before .before .before .match .to) (c .before .before .before .before .before .before .before .before .before .before .match .unparseable) (λ way. let begins = turn-entry (c .before .before .before .before .before .before .before .before .before .before .before .before .before .before .before .before .before .before .before .before .before .before .before .before .before .before .before .before .before .args .words .now) (c .before .before .before .before .before .before .before .before .before .before .before .before .before .before .before .before .before .before .before .before .before .before .before .before .before .before .before .before .before .args .fields .now) (c .before .before .before .before .before .before .before .before .before .before .before .before .before .before .before .before .before .before .before .before .before .before .before .before .before .before .before .before .before .args .message .now) (c .before .before .before .before .before .before .before .before .before .before .before .before .before .before .before .before .before .before .before .before .before .before .before .before .before .before .before .before .before .args .enclosing .now) (c .before .before .before .before .before .before .before .before .before .before .before .before .before .before .before .before .before .before .before .before .before .before .before .before .before .before .before .before .before .args .group) (c .before .before .before .before .before .before .before .before .before .before .before .before .before .before .before .before .before .before .before .count-at .result) (c .before .before .before .before .before .before .before .before .before .before .before .before .loop .entries) (c .before .before .before .before .before .before .before .before .before .before .before .before .loop .cursor) _ (level-turn (c .before .before .before .before .before .before .before .before .before .before .before .before .before .before .before .before .before .before .before .before .before .before .before .before .before .before .before .before .before .args .words .now) (c .before .before .before .before .before .before .before .before .before .before .before .before .before .before .before .before .before .before .before .before .before .before .before .before .before .before .before .before .before .args .group) _ _ (c .before .before .before .before .before .before .before .before .before .before .before .before .before .before .before .before .before .before .members-at .ensures) (c .before .before .before .before .before .before .before .before .before .before .before .before .before .before .before .before .before .delimiter-at .ensures) (c .before .before .before .before .before .before .before .before .before .before .before .before .before .before .before .before .before .before .before .before .before .before .before .before .before .before .before .before .before .args .fields .now) (c .before .before .before .before .before .before .before .before .before .before .before .before .before .before .before .before .before .before .before .before .before .before .before .before .before .before .before .before .before .args .enclosing .now) (c .before .before .before .before .before .before .before .before .before .before .before .before .before .before .before .before .before .before .before .count-at .result) (c .before .before .before .before .before .before .before .before .before .before .before .before .loop .entries) (c .before .before .before .before .before .before .before .before .before .before .before .before .loop .cursor) _ (c .before .before .before .before .before .before .before .before .before .before .before .opening-at .ensures)) (way .1 .given .1) in entry-opens (c .before .before .before .before .before .before .before .before .before .before .before .before .before .before .before .before .before .before .before .before .before .before .before .before .before .before .before .before .before .args .words .now) (c .before .before .before .before .before .before .before .before .before .before .before .before .before .before .before .before .before .before .before .before .before .before .before .before .before .before .before .before .before .args .fields .now) (c .before .before .before .before .before .before .before .before .before .before .before .before .before .before .before .before .before .before .before .before .before .before .before .before .before .before .before .before .before .args .message .now) (c .before .before .before .before .before .before .before .before .before .before .before .before .before .before .before .before .before .before .before .before .before .before .before .before .before .before .before .before .before .args .enclosing .now) (c .before .before .before .before .before .before .before .before .before .before .before .before .before .before .before .before .before .before .before .before .before .before .before .before .before .before .before .before .before .pre .1 .lent .passed) (c .before .before .before .before .before .before .before .before .before .before .before .before .before .before .before .before .before .before .before .before .before .before .before .before .before .before .before .before .before .args .group) (c .before .before .before .before .before .before .before .before .before .before .before .before .before .before .before .before .before .before .before .before .before .before .before .before .before .before .before .before .before .pre .1 .lent .valid) (c .before .before .before .before .before .before .before .before .before .before .before .before .before .before .before .before .before .before .before .before .before .before .before .before .before .before .before .before .before .args .index) (c .before .before .before .before .before .before .before .before .before .before .before .before .before .before .before .before .before .before .before .before .before .before .before .before .before .before .before .before .before .args .depth) _ _ (omega (arith, c .before .before .before .before .before .before .before .before .before .before .before .before .before .before .before .before .before .before .before .before .before .before .before .row-count .ensures, c .before .before .before .before .before .before .before .before .before .before .before .before .before .before .before .before .before .before .before .before .before .before .if1 .left)) (c .before .before .before .before .before .before .before .before .before .before .before .before .before .before .before .before .before .before .before .before .if2 .left) (c .before .before .before .before .before .before .before .before .before .before .before .before .before .before .before .before .before .before .before .count-at .result) (c .before .before .before .before .before .before .before .before .before .before .before .before .before .before .before .before .before .before .before .count-at .ensures) _ (c .before .before .before .before .before .before .before .before .before .before .before .before .before .before .before .before .before .before .before .before .before .count-tag-at .ensures) _ _ (c .before .before .before .before .before .before .before .before .before .before .before .before .loop .cursor) (c .before .before .before .before .before .before .before .before .before .before .before .before .loop .entries) (c .before .before .before .before .before .before .before .before .before .before .before .before .loop .unparseable) (c .before .before .before .before .before .before .before .before .before .before .before .before .loop .inv) (begins .0) (begins .1) _ (way .2) _ (way .3) _ (way .4)) (λ way. let leads = turn-lead (c .before .before .before .before .before .before .before .before .before .before .before .before .before .before .before .before .before .before .before .before .before .before .before .before .before .before .before .before .before .args .words .now) (c .before .before .before .before .before .before .before .before .before .before .before .before .before .before .before .before .before .before .before .before .before .before .before .before .before .before .before .before .before .args .fields .now) (c .before .before .before .before .before .before .before .before .before .before .before .before .before .before .before .before .before .before .before .before .before .before .before .before .before .before .before .before .before .args .message .now) (c .before .before .before .before .before .before .before .before .before .before .before .before .before .before .before .before .before .before .before .before .before .before .before .before .before .before .before .before .before .args .enclosing .now) (c .before .before .before .before .before .before .before .before .before .before .before .before .before .before .before .before .before .before .before .before .before .before .before .before .before .before .before .before .before .args .group) (c .before .before .before .before .before .before .before .before .before .before .before .before .before .before .before .before .before .before .before .count-at .result) (c .before .before .before .before .before .before .before .before .before .before .before .before .loop .entries) (c .before .before .before .before .before .before .before .before .before .before .before .before .loop .cursor) _ (level-turn (c .before .before .before .before .before .before .before .before .before .before .before .before .before .before .before .before .before .before .before .before .before .before .before .before .before .before .before .before .before .args .words .now) (c .before .before .before .before .before .before .before .before .before .before .before .before .before .before .before .before .before .before .before .before .before .before .before .before .before .before .before .before .before .args .group) _ _ (c .before .before .before .before .before .before .before .before .before .before .before .before .before .before .before .before .before .before .members-at .ensures) (c .before .before .before .before .before .before .before .before .before .before .before .before .before .before .before .before .before .delimiter-at .ensures) (c .before .before .before .before .before .before .before .before .before .before .before .before .before .before .before .before .before .before .before .before .before .before .before .before .before .before .before .before .before .args .fields .now) (c .before .before .before .before .before .before .before .before .before .before .before .before .before .before .before .before .before .before .before .before .before .before .before .before .before .before .before .before .before .args .enclosing .now) (c .before .before .before .before .before .before .before .before .before .before .before .before .before .before .before .before .before .before .before .count-at .result) (c .before .before .before .before .before .before .before .before .before .before .before .before .loop .entries) (c .before .before .before .before .before .before .before .before .before .before .before .before .loop .cursor) _ (c .before .before .before .before .before .before .before .before .before .before .before .opening-at .ensures)) _ (way .1 .given .1) in lead-opens (c .before .before .before .before .before .before .before .before .before .before .before .before .before .before .before .before .before .before .before .before .before .before .before .before .before .before .before .before .before .args .words .now) (c .before .before .before .before .before .before .before .before .before .before .before .before .before .before .before .before .before .before .before .before .before .before .before .before .before .before .before .before .before .args .fields .now) (c .before .before .before .before .before .before .before .before .before .before .before .before .before .before .before .before .before .before .before .before .before .before .before .before .before .before .before .before .before .args .message .now) (c .before .before .before .before .before .before .before .before .before .before .before .before .before .before .before .before .before .before .before .before .before .before .before .before .before .before .before .before .before .args .enclosing .now) (c .before .before .before .before .before .before .before .before .before .before .before .before .before .before .before .before .before .before .before .before .before .before .before .before .before .before .before .before .before .pre .1 .lent .passed) (c .before .before .before .before .before .before .before .before .before .before .before .before .before .before .before .before .before .before .before .before .before .before .before .before .before .before .before .before .before .args .group) (c .before .before .before .before .before .before .before .before .before .before .before .before .before .before .before .before .before .before .before .before .before .before .before .before .before .before .before .before .before .pre .1 .lent .valid) (c .before .before .before .before .before .before .before .before .before .before .before .before .before .before .before .before .before .before .before .before .before .before .before .before .before .before .before .before .before .args .index) (c .before .before .before .before .before .before .before .before .before .before .before .before .before .before .before .before .before .before .before .before .before .before .before .before .before .before .before .before .before .args .depth) _ _ (omega (arith, c .before .before .before .before .before .before .before .before .before .before .before .before .before .before .before .before .before .before .before .before .before .before .before .row-count .ensures, c .before .before .before .before .before .before .before .before .before .before .before .before .before .before .before .before .before .before .before .before .before .before .if1 .left)) (c .before .before .before .before .before .before .before .before .before .before .before .before .before .before .before .before .before .before .before .before .if2 .left) (c .before .before .before .before .before .before .before .before .before .before .before .before .before .before .before .before .before .before .before .count-at .result) (c .before .before .before .before .before .before .before .before .before .before .before .before .before .before .before .before .before .before .before .count-at .ensures) _ (c .before .before .before .before .before .before .before .before .before .before .before .before .before .before .before .before .before .before .before .before .before .count-tag-at .ensures) _ _ (c .before .before .before .before .before .before .before .before .before .before .before .before .loop .cursor) (c .before .before .before .before .before .before .before .before .before .before .before .before .loop .entries) (c .before .before .before .before .before .before .before .before .before .before .before .before .loop .unparseable) (c .before .before .before .before .before .before .before .before .before .before .before .before .loop .inv) (leads .0) (leads .1) _ (leads .2) _ _ (way .4 .ensures) _ (way .7) _ (way .8) _ (way .9)) (c .before .before .before .before .before .before .before .before .before .before .match .came) in opened .adds _ _ _ _ _ (c .before .before .before .before .before .before .before .scan-wide .ensures) _ _ (c .before .before .before .put-event4 .ensures) _ (c .either2 .ensures)
 
 -- let past = put_end(events, to, tag, depth, declared, unparseable, entries);
 walk-group-put-end-requires : (t : ℕ) → walk-group-lts.Need-put-end-requires (walk-group-claims t) (walk-group-at t) walk-group.Post walk-group-Inv-loop walk-group-μ-loop
@@ -681,30 +620,20 @@ pub +scan-entry+scan-wide+walk-group-spec : {M : Type 1} → statement M
     (walk-group-opening-at-requires t)
     (walk-group-enum-told t)
     (walk-group-enum-told-2 t)
-    (walk-group-scan-entry-requires t)
+    (walk-group-enum-known-member t)
     (walk-group-put-event-requires-2 t)
+    (walk-group-scan-entry-requires t)
+    (walk-group-put-event-requires-3 t)
     (walk-group-either-requires t)
     (walk-group-add-entries t)
     (walk-group-loop-less t)
     (walk-group-loop-again t)
     (walk-group-scan-wide-requires t)
-    (walk-group-put-event-requires-3 t)
+    (walk-group-put-event-requires-4 t)
     (walk-group-either-requires-2 t)
     (walk-group-add-entries-2 t)
     (walk-group-loop-less-2 t)
     (walk-group-loop-again-2 t)
-    (walk-group-enum-known-member t)
-    (walk-group-put-event-requires-4 t)
-    (walk-group-scan-entry-requires-2 t)
-    (walk-group-put-event-requires-5 t)
-    (walk-group-add-entries-3 t)
-    (walk-group-loop-less-3 t)
-    (walk-group-loop-again-3 t)
-    (walk-group-scan-wide-requires-2 t)
-    (walk-group-put-event-requires-6 t)
-    (walk-group-add-entries-4 t)
-    (walk-group-loop-less-4 t)
-    (walk-group-loop-again-4 t)
     (walk-group-put-end-requires t)
     (walk-group-same-length-2 t)
     (walk-group-returns-3 t)
