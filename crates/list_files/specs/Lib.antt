@@ -1,0 +1,2 @@
+-- Definitions of the crate `list_files`.
+pub mod Files
