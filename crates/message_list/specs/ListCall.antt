@@ -13,9 +13,9 @@ use Prim.Native.Nat.{ℕ, _*_, _/_}
 use mathlib.Core.Bool.{false}
 use mathlib.Core.List.{List}
 use lib.ListN.{length, take}
-use Rattle.dictionary.specs.declared.read_dictionary.Read.{Read}
-use Rattle.dictionary.specs.declared.read_dictionary.Read.the-variants as read
-use Rattle.dictionary.specs.ReadDictionary.{readOf, readIn}
+use Rattle.read_dictionary.specs.declared.read_dictionary.Read.{Read}
+use Rattle.read_dictionary.specs.declared.read_dictionary.Read.the-variants as read
+use Rattle.read_dictionary.specs.ReadDictionary.{readOf, readIn}
 use Rattle.validator.specs.declared.message_call.WalkedMessage.{WalkedMessage}
 use Rattle.validator.specs.declared.message_call.WalkedMessage.the-variants as walked
 use Rattle.validator.specs.MessageCall.{walkedOf, eventsIn}

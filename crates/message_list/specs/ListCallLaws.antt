@@ -9,10 +9,10 @@ use lib.ListN.{length, take, drop, length-append, length-drop}
 use borrow.Author.Tests.{leb-true}
 use Rattle.ascii.specs.Notation.{if_then_else_}
 use Rattle.texts.specs.declared.refusal.Refusal.the-variants.{UnknownForm, RuleBroken, BadField, SpaceShort}
-use Rattle.dictionary.specs.declared.read_dictionary.Read.{Read}
-use Rattle.dictionary.specs.declared.read_dictionary.Read.the-variants as read
+use Rattle.read_dictionary.specs.declared.read_dictionary.Read.{Read}
+use Rattle.read_dictionary.specs.declared.read_dictionary.Read.the-variants as read
 use Rattle.dictionary.specs.DictionaryCheck.{isDictionary}
-use Rattle.dictionary.specs.ReadDictionary.{readOf, readIn}
+use Rattle.read_dictionary.specs.ReadDictionary.{readOf, readIn}
 use Rattle.layouts.specs.Limits.{gateLimits}
 use Rattle.layouts.specs.LayoutCheck.{isLayout}
 use Rattle.walk.specs.declared.field_table.TableCheck.{TableCheck}

@@ -19,10 +19,10 @@ use Rattle.texts.specs.declared.refusal.Refusal.the-variants.{SpaceShort}
 use Rattle.texts.specs.declared.dictionary_text.TextOutcome.{TextOutcome}
 use Rattle.texts.specs.declared.dictionary_text.TextOutcome.the-variants as text
 use Rattle.texts.specs.DictionaryText.{dictionaryTextOf}
-use Rattle.dictionary.specs.declared.read_dictionary.Read.{Read}
-use Rattle.dictionary.specs.declared.read_dictionary.Read.the-variants as read
+use Rattle.read_dictionary.specs.declared.read_dictionary.Read.{Read}
+use Rattle.read_dictionary.specs.declared.read_dictionary.Read.the-variants as read
 use Rattle.dictionary.specs.DictionaryWords.{dictionaryWords}
-use Rattle.dictionary.specs.ReadDictionary.{textLines, textAnswer, readOf, readIn}
+use Rattle.read_dictionary.specs.ReadDictionary.{textLines, textAnswer, readOf, readIn}
 use Rattle.validator.specs.MessageCall.{eventsIn}
 use Rattle.expand.specs.declared.expand_call.Expanded.{Expanded}
 use Rattle.expand.specs.declared.expand_call.Expanded.the-variants as expanded

@@ -1,6 +1,6 @@
 // The list of one message: the calls of the gate, one behind the other (document 01, 'One list in full').
-use dictionary::read_dictionary::Read;
-use dictionary::read_dictionary::read_dictionary;
+use read_dictionary::read_dictionary::Read;
+use read_dictionary::read_dictionary::read_dictionary;
 use expand::expand_call::Expanded;
 use expand::expand_call::expand;
 use listing::list_text::Listed;
@@ -17,7 +17,7 @@ ghost use mathlib.Core.Path.{_≡_};
 ghost use mathlib.Core.Bool.{false};
 ghost use Prim.Native.Nat.{_≤_};
 ghost use lib.ListN.{length};
-ghost use Rattle.dictionary.specs.ReadDictionary.{readIn};
+ghost use Rattle.read_dictionary.specs.ReadDictionary.{readIn};
 ghost use Rattle.validator.specs.MessageCall.{eventsIn};
 ghost use Rattle.verdicts.specs.Verdicts.{judgedOf, verdictsIn};
 ghost use Rattle.listing.specs.declared.list_text.Listed.the-variants.{Full};
