@@ -170,7 +170,8 @@ pub fn dictionary_answer(text: &[u8]) -> String {
     }
 }
 
-/// The same for a layout text.
+/// `accepted LINES WORD WORD ..` with the words of the layout, or `refused N P`,
+/// for a layout text.
 ///
 /// # Errors
 /// The rules are asked of the Rust too; says where it parts.
@@ -183,7 +184,10 @@ pub fn layout_answer(text: &[u8]) -> Result<String, String> {
         }
     }
     Ok(match reader::layout(text) {
-        Ok((_, lines)) => format!("accepted {lines}"),
+        Ok((top, lines)) => {
+            let words = arrangement::words(&top);
+            format!("accepted {lines} {}", walk_cases::decimals(&words))
+        }
         Err(refusal) => refusal.recorded(),
     })
 }

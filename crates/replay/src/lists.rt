@@ -16,7 +16,7 @@ pub fn replay_file(name: &[u8], list: CaseList) -> Tally {
         os::fail(name);
         return Tally::new();
     }
-    let mut buffer = [0u8; 65536];
+    let mut buffer = [0u8; 131072];
     let tally = replay_lines(fd, &mut buffer, list);
     libc::close(fd);
     tally

@@ -2,6 +2,7 @@
 mod cases;
 mod count_cases;
 mod hex;
+mod layout_cases;
 mod lines;
 mod lists;
 mod message_cases;
@@ -24,6 +25,8 @@ fn main() {
     print_tally(b"check_dictionary_text: ", dictionaries);
     let layouts = lists::replay_file(b"read_layout.cases", CaseList::LayoutTexts);
     print_tally(b"check_layout_text: ", layouts);
+    let layout_words = layout_cases::replay_file(b"read_layout.cases");
+    print_tally(b"read_layout: ", layout_words);
     let walks = walk_cases::replay_file(b"walk_group.cases");
     print_tally(b"walk_group: ", walks);
     let verdicts = verdict_cases::replay_file(b"check_values.cases");

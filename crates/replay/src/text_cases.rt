@@ -1,5 +1,6 @@
 // Cases of `check_dictionary_text` and `check_layout_text`: a text, then `accepted` and its number of lines, or `refused` with the number
-// and the place. A text is its bytes in hexadecimal, or pieces `@N HEX`: the bytes N times, one behind the other.
+// and the place. A text is its bytes in hexadecimal, or pieces `@N HEX`: the bytes N times, one behind the other. Behind the lines of a layout text
+// stand the words of its layout, which layout_cases.rt compares.
 ghost use Prim.Native.Nat.{_+_, _≤_, _<_};
 ghost use lib.ListN.{length};
 use crate::cases::Replayed;
@@ -53,7 +54,7 @@ pub fn replay_layout(line: &[u8]) -> Replayed {
 }
 
 // Puts the text at the front of the buffer.
-fn fill_text(line: &[u8], text: &mut [u8]) -> Filled {
+pub fn fill_text(line: &[u8], text: &mut [u8]) -> Filled {
     if line.len() == 0 {
         return no_form();
     }
@@ -193,10 +194,11 @@ fn same_order(outcome: LayoutTextOutcome, recorded: &[u8]) -> Replayed {
 
 // Recorded as accepted with so many lines, or refused with a number of two digits: 10 or 11.
 fn is_ordered(lines: u64, kind: u8, recorded: &[u8]) -> bool {
+    let past = find(recorded, 0, b' ');
     if kind == b'a' {
-        return same_number(lines, recorded);
+        return same_number(lines, &recorded[0..past]);
     }
-    find(recorded, 0, b' ') == 2
+    past == 2
 }
 
 fn same_when(kind: bool, number: bool) -> Replayed {
@@ -208,7 +210,7 @@ fn same_when(kind: bool, number: bool) -> Replayed {
     Replayed::Differs
 }
 
-fn same_refusal(refusal: Refusal, recorded: &[u8]) -> bool {
+pub fn same_refusal(refusal: Refusal, recorded: &[u8]) -> bool {
     let space = find(recorded, 0, b' ');
     if recorded.len() <= space {
         return false;
