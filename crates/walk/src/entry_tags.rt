@@ -63,17 +63,18 @@ impl EntryTags {
         ensures { λ inserted. ⌜ (inserted .tags .words ≡ insertRank (self .words) rank) × (inserted .fresh ≡ not (holdsRank (self .words) rank)) ⌝ }
     {
         let mask = mask_of(rank);
-        let mut tags = self;
         if members <= 64 {
             let first = self.words[0];
-            tags.words[0] = first | mask;
+            let mut narrow = self;
+            narrow.words[0] = first | mask;
             return Inserted {
-                tags,
+                tags: narrow,
                 fresh: first & mask == 0,
             };
         }
         let word = rank / 64;
-        let old = self.words[word];
+        let mut tags = self;
+        let old = tags.words[word];
         tags.words[word] = old | mask;
         Inserted {
             tags,
@@ -106,7 +107,7 @@ impl WideEntryTags {
     }
 
     // As `EntryTags::insert_rank`.
-    pub fn insert_rank(self, rank: usize) -> WideInserted
+    pub fn insert_rank(mut self, rank: usize) -> WideInserted
         requires { ⌜ rank < 8192 ⌝ }
         ensures { λ inserted. ⌜ (inserted .tags .words ≡ insertRank (self .words) rank) × (inserted .fresh ≡ not (holdsRank (self .words) rank)) ⌝ }
     {
@@ -114,10 +115,9 @@ impl WideEntryTags {
         let mask = mask_of(rank);
         let old = self.words[word];
         let hit = old & mask;
-        let mut tags = self;
-        tags.words[word] = old | mask;
+        self.words[word] = old | mask;
         WideInserted {
-            tags,
+            tags: self,
             fresh: hit == 0,
         }
     }

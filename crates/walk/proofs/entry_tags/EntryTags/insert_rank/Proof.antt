@@ -14,15 +14,15 @@ mask-of-requires c κs = search needs
 element-copy-out-first : tie.Need-element-copy-out-first
 element-copy-out-first c = search needs
 
--- tags.words[0] = first | mask;
-element-write-tags : tie.Need-element-write-tags
-element-write-tags c = search needs
+-- narrow.words[0] = first | mask;
+element-write-narrow : tie.Need-element-write-narrow
+element-write-narrow c = search needs
 
 -- return Inserted {
 returns : tie.Need-returns
 returns c = rw (c .before .before .mask-of .ensures) (inserted-first (c .before .before .before .args .t1 .words) (c .before .before .before .args .rank) (omega (arith, c .before .before .before .pre, c .before .if1 .taken)), fresh-first (c .before .before .before .args .t1 .words) (c .before .before .before .args .rank) (omega (arith, c .before .before .before .pre, c .before .if1 .taken)))
 
--- let old = self.words[word];
+-- let old = tags.words[word];
 mul-old : tie.Need-mul-old
 mul-old c = search needs
 
@@ -33,8 +33,8 @@ element-copy-out-old c = omega (arith, c .before .before .pre)
 mul-tags : tie.Need-mul-tags
 mul-tags c = search needs
 
-element-write-tags-2 : tie.Need-element-write-tags-2
-element-write-tags-2 c = omega (arith, c .before .before .before .pre)
+element-write-tags : tie.Need-element-write-tags
+element-write-tags c = omega (arith, c .before .before .before .pre)
 
 -- pub fn insert_rank(self, rank: usize, members: usize) -> Inserted
 returns-2 : tie.Need-returns-2
@@ -46,10 +46,10 @@ insert-rank-spec =
     (tie.spec
     mask-of-requires
     element-copy-out-first
-    element-write-tags
+    element-write-narrow
     returns
     mul-old
     element-copy-out-old
     mul-tags
-    element-write-tags-2
+    element-write-tags
     returns-2)

@@ -16,18 +16,18 @@ mul-old c = search needs
 element-copy-out-old : tie.Need-element-copy-out-old
 element-copy-out-old c = search needs
 
--- tags.words[word] = old | mask;
-mul-tags : tie.Need-mul-tags
-mul-tags c = search needs
+-- self.words[word] = old | mask;
+mul-self : tie.Need-mul-self
+mul-self c = search needs
 
-element-write-tags : tie.Need-element-write-tags
-element-write-tags c = search needs
+element-write-self : tie.Need-element-write-self
+element-write-self c = search needs
 
--- pub fn insert_rank(self, rank: usize) -> WideInserted
+-- pub fn insert_rank(mut self, rank: usize) -> WideInserted
 returns : tie.Need-returns
 returns c = rw (c .before .mask-of .ensures) (inserted-is (c .before .before .args .t1 .words) (c .before .before .args .rank), fresh-is (c .before .before .args .t1 .words) (c .before .before .args .rank))
 
 pub insert-rank-spec : {M : Type 1} → statement M
 insert-rank-spec =
     tie.close
-    (tie.spec mask-of-requires mul-old element-copy-out-old mul-tags element-write-tags returns)
+    (tie.spec mask-of-requires mul-old element-copy-out-old mul-self element-write-self returns)
