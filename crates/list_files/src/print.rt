@@ -2,10 +2,10 @@
 use crate::file::FileRead;
 use crate::file::read_file;
 use libc::STDOUT_FILENO;
-use listing::list::list;
 use listing::list_text::Listed;
 use listing::list_text::line_count;
 use listing::list_text::list_line;
+use message_list::list::list;
 ghost use Rattle.listing.specs.ListTextLaws.{Held};
 
 // Prints the lines of the list.
