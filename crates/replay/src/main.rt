@@ -1,8 +1,10 @@
 // Replays the answers of the Rust that oracle/record.sh recorded, and says how many cases ran and how many differ.
 mod cases;
 mod count_cases;
+mod expand_cases;
 mod hex;
 mod layout_cases;
+mod layout_space;
 mod lines;
 mod lists;
 mod message_cases;
@@ -33,6 +35,8 @@ fn main() {
     print_tally(b"check_values, plain and strict: ", verdicts);
     let messages = message_cases::replay_file(b"walk_message.cases");
     print_tally(b"walk_message, with its verdicts: ", messages);
+    let expansions = expand_cases::replay_file(b"expand.cases");
+    print_tally(b"expand: ", expansions);
 }
 
 // One line: the name of the call, the cases, those that differ and those whose line is of no known form.
