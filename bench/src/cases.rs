@@ -33,9 +33,13 @@ fn first_tag(level: usize) -> u32 {
 
 impl Case {
     /// Groups nested in each other, each entry level with so many members.
-    fn new(name: &str, members: &[u32]) -> Self {
+    /// The message has so many other fields.
+    fn new(name: &str, members: &[u32], others: u32) -> Self {
         let mut text = String::from("begin=header\nend=header\nbegin=trailer\nend=trailer\n");
         text.push_str("message=D,app\n");
+        for other in 0..others {
+            let _ = writeln!(text, "field={},0", 10 + other);
+        }
         for (level, count) in members.iter().enumerate() {
             let first = first_tag(level);
             let tag = count_tag(level, members);
@@ -83,13 +87,13 @@ fn count_tag(level: usize, members: &[u32]) -> u32 {
 
 /// Writes fields behind each other.
 #[derive(Default)]
-struct Writer {
+pub struct Writer {
     bytes: Vec<u8>,
     table: Vec<u32>,
 }
 
 impl Writer {
-    fn field(&mut self, tag: u32, value: &str) {
+    pub fn field(&mut self, tag: u32, value: &str) {
         self.bytes.extend_from_slice(format!("{tag}=").as_bytes());
         let first = self.bytes.len() as u32;
         self.bytes.extend_from_slice(value.as_bytes());
@@ -99,6 +103,13 @@ impl Writer {
 
     fn fields(&self) -> usize {
         self.table.len() / 3
+    }
+
+    pub fn message(self) -> Message {
+        Message {
+            bytes: self.bytes,
+            table: self.table,
+        }
     }
 }
 
@@ -176,11 +187,8 @@ fn message(numbers: &mut Numbers, kind: Entries, members: &[u32], fields: usize)
             entries += 1;
         }
         writer.bytes[past - 4..past].copy_from_slice(format!("{entries:04}").as_bytes());
-        if writer.fields() <= fields + 20 {
-            return Message {
-                bytes: writer.bytes,
-                table: writer.table,
-            };
+        if kind == Entries::Alike || writer.fields() <= fields + 20 {
+            return writer.message();
         }
     }
 }
@@ -249,7 +257,29 @@ pub fn cases() -> Vec<Case> {
     let numbered = shapes.into_iter().zip(1..);
     numbered
         .map(|((name, members, fields, kind), seed)| {
-            with_messages(Case::new(name, members), kind, members, fields, seed)
+            with_messages(Case::new(name, members, 0), kind, members, fields, seed)
         })
         .collect()
+}
+
+/// A case whose entries are alike, or mixed, with so many other fields of the
+/// message in the layout.
+pub fn alike_case(name: &str, members: &[u32], fields: usize, others: u32) -> Case {
+    with_messages(
+        Case::new(name, members, others),
+        Entries::Alike,
+        members,
+        fields,
+        50,
+    )
+}
+
+pub fn mixed_case(name: &str, members: &[u32], fields: usize, others: u32) -> Case {
+    with_messages(
+        Case::new(name, members, others),
+        Entries::Mixed,
+        members,
+        fields,
+        51,
+    )
 }

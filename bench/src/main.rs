@@ -1,7 +1,7 @@
-//! The gate's walk beside the Rust's: both optimised, in one process.
+//! The gate beside the Rust: both optimised, in one process.
 
-// The Rust, unchanged; walk.rs has a visitor behind it (build.rs). A part of
-// it that the benchmark does not call is unused here.
+// The Rust, unchanged; walk.rs and validator.rs have something behind them
+// (build.rs). A part of it that the benchmark does not call is unused here.
 #[allow(dead_code)]
 #[path = "../../docs/src/ironfix-dictionary/src/group.rs"]
 pub mod group;
@@ -12,8 +12,9 @@ pub mod schema;
 #[path = "../../docs/src/ironfix-dictionary/src/scope.rs"]
 mod scope;
 #[allow(dead_code)]
-#[path = "../../docs/src/ironfix-dictionary/src/validator.rs"]
-pub mod validator;
+mod validator {
+    include!(concat!(env!("OUT_DIR"), "/validator.rs"));
+}
 #[allow(dead_code)]
 mod walk {
     include!(concat!(env!("OUT_DIR"), "/walk.rs"));
@@ -26,6 +27,9 @@ mod arrangement;
 #[allow(dead_code)]
 #[path = "../../oracle/src/composition.rs"]
 mod composition;
+#[allow(dead_code)]
+#[path = "../../oracle/src/dictionary_words.rs"]
+mod dictionary_words;
 #[allow(dead_code)]
 #[path = "../../oracle/src/layouts.rs"]
 mod layouts;
@@ -48,7 +52,11 @@ mod texts;
 #[path = "../../oracle/src/values.rs"]
 mod values;
 
+mod beside;
 mod cases;
+mod dictionaries;
+mod growth;
+mod messages;
 mod stack;
 
 use cases::{Case, Message, TOP_GROUP};
@@ -241,6 +249,20 @@ fn once(walks: &Walks<'_>, side: Side) {
     }
 }
 
+/// The comparisons of other calls.
+fn others() -> Vec<beside::Maker> {
+    let mut all = messages::comparisons();
+    all.extend(dictionaries::comparisons());
+    all
+}
+
+fn time_each(makers: &[beside::Maker], rounds: &str) {
+    let rounds = rounds.parse().expect("a number of rounds");
+    for make in makers {
+        make().time(rounds);
+    }
+}
+
 fn main() {
     let words: Vec<String> = std::env::args().skip(1).collect();
     let words: Vec<&str> = words.iter().map(String::as_str).collect();
@@ -279,8 +301,25 @@ fn main() {
             once(&Walks::new(&cases[number]), side);
         }
         ["stack"] => stack::measure(),
+        ["others", rounds] => time_each(&others(), rounds),
+        ["growth", rounds] => time_each(&growth::comparisons(), rounds),
+        ["other-sides"] => {
+            for (number, make) in others().iter().enumerate() {
+                let comparison = make();
+                println!("{}", comparison.title);
+                for (side, each) in comparison.sides.iter().enumerate() {
+                    println!("{number} {side} {}", each.name);
+                }
+            }
+        }
+        ["other", number, side] => {
+            let number: usize = number.parse().expect("the number of a comparison");
+            let side: usize = side.parse().expect("the number of a side");
+            others()[number]().once(side);
+        }
         _ => {
             eprintln!("bench cases | time ROUNDS | once rust|ample|exact CASE | stack");
+            eprintln!("      others ROUNDS | growth ROUNDS | other-sides | other COMPARISON SIDE");
             std::process::exit(2);
         }
     }
