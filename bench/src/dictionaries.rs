@@ -66,7 +66,6 @@ fn reading(name: &str, text: &[u8]) -> Comparison<'static> {
     }
 }
 
-#[cfg(feature = "expand")]
 fn expansion(text: &'static [u8], msg_type: &'static str) -> Comparison<'static> {
     let lines = reader::dictionary(text).expect("an accepted text");
     let words = dictionary_words::words(&lines);
@@ -78,7 +77,7 @@ fn expansion(text: &'static [u8], msg_type: &'static str) -> Comparison<'static>
     let layout = arrangement::words(&PlainLevel::from(&expansion.level));
     let mut space = vec![0; layout.len()];
     assert_eq!(
-        order_gate::expand(&words, msg_type.as_bytes(), &mut space),
+        order_gate::expand(&words, msg_type.as_bytes(), &mut space).map(|expanded| expanded.words),
         Ok(layout.len())
     );
     assert_eq!(space, layout);
@@ -102,25 +101,6 @@ fn expansion(text: &'static [u8], msg_type: &'static str) -> Comparison<'static>
                 ));
             }),
         ],
-    }
-}
-
-/// The Rust's side alone, until the crate order-gate has the call.
-#[cfg(not(feature = "expand"))]
-fn expansion(text: &'static [u8], msg_type: &'static str) -> Comparison<'static> {
-    let dict: &'static Dictionary =
-        Box::leak(Box::new(texts::dictionary(text).expect("an accepted text")));
-    let Ok(expansion) = layouts::expand(dict, msg_type) else {
-        unreachable!("the type has a layout");
-    };
-    let layout = arrangement::words(&PlainLevel::from(&expansion.level));
-    Comparison {
-        title: format!("expansion of {msg_type}: {} layout words", layout.len()),
-        unit: "call",
-        units: 1,
-        sides: vec![side("ScopeBuilder::expand", move || {
-            black_box(layouts::expand(black_box(dict), msg_type).is_ok());
-        })],
     }
 }
 
