@@ -38,7 +38,7 @@ kinds() {
 record is_valid_value.cases values
 record parse_count.cases counts
 record read_dictionary.cases dictionary-texts
-record read_layout.cases layout-texts
+record read_layout.cases layout-texts '[^w]'
 record walk_group.cases walks walk
 record expand.cases expansions expand
 record check_values.cases verdict-words '\(plain\|strict\)'

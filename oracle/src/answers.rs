@@ -170,8 +170,8 @@ pub fn dictionary_answer(text: &[u8]) -> String {
     }
 }
 
-/// `accepted LINES WORD WORD ..` with the words of the layout, or `refused N P`,
-/// for a layout text.
+/// `accepted LINES` and on a line of their own `words WORD WORD ..`, those of
+/// the layout, or `refused N P`, for a layout text.
 ///
 /// # Errors
 /// The rules are asked of the Rust too; says where it parts.
@@ -186,7 +186,7 @@ pub fn layout_answer(text: &[u8]) -> Result<String, String> {
     Ok(match reader::layout(text) {
         Ok((top, lines)) => {
             let words = arrangement::words(&top);
-            format!("accepted {lines} {}", walk_cases::decimals(&words))
+            format!("accepted {lines}\nwords {}", walk_cases::decimals(&words))
         }
         Err(refusal) => refusal.recorded(),
     })

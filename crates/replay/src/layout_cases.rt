@@ -1,5 +1,6 @@
-// Cases of `read_layout`: a text, then `accepted`, its number of lines and the words of its layout, or `refused` with the number and the place.
-// An accepted text is read with space for just its words, with more, and with one word less than it needs; a refused one with space and with none.
+// Cases of `read_layout`: a text, then `accepted` and its number of lines, with the words of its layout on the line behind it, or `refused` with
+// the number and the place. An accepted text is read with space for just its words, with more, and with one word less than it needs; a refused one
+// with space and with none.
 use crate::cases::Replayed;
 use crate::cases::Tally;
 use crate::cases::kind_of;
@@ -17,13 +18,19 @@ use texts::refusal::Refusal;
 // What the space holds where no layout was written.
 const UNWRITTEN_WORD: u32 = 0x5a5a_5a5a;
 
+// How many bytes of the text the last line with one has, and how the cases went.
+pub struct Progress {
+    pub size: usize,
+    pub tally: Tally,
+}
+
 pub fn replay_file(name: &[u8]) -> Tally {
     let fd = os::open_read(name);
     if fd < 0 {
         os::fail(name);
         return Tally::new();
     }
-    let mut buffer = [0u8; 131072];
+    let mut buffer = [0u8; 65536];
     let mut text = [0u8; 140000];
     let mut numbers = [0u64; 4096];
     let mut recorded = [0u32; 4096];
@@ -49,77 +56,115 @@ fn replay_lines(
     recorded: &mut [u32],
     space: &mut [u32],
 ) -> Tally {
-    let mut tally = Tally::new();
+    let mut progress = Progress {
+        size: 0,
+        tally: Tally::new(),
+    };
     let mut line = first_line(fd, buffer);
     let mut turns = 0xffff_ffffu64;
     while turns > 0 && line.there {
         let first = line.first;
         let past = line.past;
-        tally = replay_line(&buffer[first..past], text, numbers, recorded, space, tally);
+        progress = replay_line(
+            &buffer[first..past],
+            text,
+            numbers,
+            recorded,
+            space,
+            progress,
+        );
         line = next_line(fd, buffer, line);
         turns -= 1;
     }
-    tally
+    progress.tally
 }
 
+// Takes a text into its buffer and replays it where it is refused, or replays it with the words of its layout.
 fn replay_line(
     line: &[u8],
     text: &mut [u8],
     numbers: &mut [u64],
     recorded: &mut [u32],
     space: &mut [u32],
-    tally: Tally,
-) -> Tally {
-    if kind_of(line) == b'#' {
-        return tally;
+    progress: Progress,
+) -> Progress {
+    let size = progress.size;
+    let tally = progress.tally;
+    let kind = kind_of(line);
+    if kind == b'#' {
+        return Progress { size, tally };
     }
-    let replayed = replay_case(line, text, numbers, recorded, space);
+    if kind == b'w' {
+        let replayed = replay_words(line, text, size, numbers, recorded, space);
+        print_unless_same(line, replayed);
+        return Progress {
+            size,
+            tally: tally.add(replayed),
+        };
+    }
+    let filled = fill_text(line, text);
+    if is_accepted(line, filled.next) {
+        return Progress {
+            size: filled.size,
+            tally,
+        };
+    }
+    let replayed = replay_refused(line, filled.next, text, filled.size, space);
     print_unless_same(line, replayed);
-    tally.add(replayed)
+    Progress {
+        size: filled.size,
+        tally: tally.add(replayed),
+    }
 }
 
-fn replay_case(
+fn is_accepted(line: &[u8], next: usize) -> bool {
+    if line.len() < next {
+        return false;
+    }
+    kind_of(&line[next..]) == b'a'
+}
+
+// A text of so many bytes, and the line with the words of its layout.
+fn replay_words(
     line: &[u8],
-    text: &mut [u8],
+    text: &[u8],
+    size: usize,
     numbers: &mut [u64],
     recorded: &mut [u32],
     space: &mut [u32],
 ) -> Replayed {
-    let filled = fill_text(line, text);
-    let size = filled.size;
-    let next = filled.next;
     if text.len() < size {
         return Replayed::Unread;
     }
+    let rest = behind_word(line);
+    let count = read_words(&line[rest..], numbers, recorded);
+    if recorded.len() < count {
+        return Replayed::Unread;
+    }
+    replay_accepted(&text[0..size], &recorded[0..count], space)
+}
+
+// A text of so many bytes, and its refusal in the line.
+fn replay_refused(
+    line: &[u8],
+    next: usize,
+    text: &[u8],
+    size: usize,
+    space: &mut [u32],
+) -> Replayed {
     if line.len() < next {
         return Replayed::Unread;
     }
-    replay_text(&text[0..size], &line[next..], numbers, recorded, space)
-}
-
-// The text beside the answer that was recorded.
-fn replay_text(
-    text: &[u8],
-    answer: &[u8],
-    numbers: &mut [u64],
-    recorded: &mut [u32],
-    space: &mut [u32],
-) -> Replayed {
-    let first = behind_word(answer);
-    let numbered = &answer[first..];
-    if kind_of(answer) == b'r' {
-        return replay_refused(text, numbered, space);
-    }
-    let rest = behind_word(numbered);
-    let size = read_words(&numbered[rest..], numbers, recorded);
-    if recorded.len() < size {
+    if text.len() < size {
         return Replayed::Unread;
     }
-    replay_accepted(text, &recorded[0..size], space)
+    let answer = &line[next..];
+    let rest = behind_word(answer);
+    refused_alike(&text[0..size], &answer[rest..], space)
 }
 
 // With space and with none the refusal is the one recorded, and nothing is written.
-fn replay_refused(text: &[u8], refusal: &[u8], space: &mut [u32]) -> Replayed {
+fn refused_alike(text: &[u8], refusal: &[u8], space: &mut [u32]) -> Replayed {
     let in_space = read_layout(text, space);
     let in_none = read_layout(text, &mut space[0..0]);
     if !is_refused_as(in_space, refusal) {

@@ -16,7 +16,7 @@ pub fn replay_file(name: &[u8], list: CaseList) -> Tally {
         os::fail(name);
         return Tally::new();
     }
-    let mut buffer = [0u8; 131072];
+    let mut buffer = [0u8; 65536];
     let tally = replay_lines(fd, &mut buffer, list);
     libc::close(fd);
     tally
@@ -37,8 +37,13 @@ fn replay_lines(fd: i32, buffer: &mut [u8], list: CaseList) -> Tally {
     tally
 }
 
+// A line `words` belongs to the layout text above it (layout_cases.rt).
 fn replay_line(line: &[u8], list: CaseList, tally: Tally) -> Tally {
-    if kind_of(line) == b'#' {
+    let kind = kind_of(line);
+    if kind == b'#' {
+        return tally;
+    }
+    if kind == b'w' {
         return tally;
     }
     let replayed = replay_case(line, list);

@@ -1,6 +1,5 @@
 // Cases of `check_dictionary_text` and `check_layout_text`: a text, then `accepted` and its number of lines, or `refused` with the number
-// and the place. A text is its bytes in hexadecimal, or pieces `@N HEX`: the bytes N times, one behind the other. Behind the lines of a layout text
-// stand the words of its layout, which layout_cases.rt compares.
+// and the place. A text is its bytes in hexadecimal, or pieces `@N HEX`: the bytes N times, one behind the other.
 ghost use Prim.Native.Nat.{_+_, _≤_, _<_};
 ghost use lib.ListN.{length};
 use crate::cases::Replayed;
@@ -194,11 +193,10 @@ fn same_order(outcome: LayoutTextOutcome, recorded: &[u8]) -> Replayed {
 
 // Recorded as accepted with so many lines, or refused with a number of two digits: 10 or 11.
 fn is_ordered(lines: u64, kind: u8, recorded: &[u8]) -> bool {
-    let past = find(recorded, 0, b' ');
     if kind == b'a' {
-        return same_number(lines, &recorded[0..past]);
+        return same_number(lines, recorded);
     }
-    past == 2
+    find(recorded, 0, b' ') == 2
 }
 
 fn same_when(kind: bool, number: bool) -> Replayed {

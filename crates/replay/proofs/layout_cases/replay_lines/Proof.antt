@@ -9,12 +9,12 @@ use Rattle.replay.proofs.layout_cases.replay_lines.Statement.{statement
 use Rattle.replay.proofs.layout_cases.replay_lines.Tie as tie
 
 abbrev Inv-loop : tie.InvT-loop
-Inv-loop fd buffer₀ text₀ numbers₀ recorded₀ space₀ tally₀ line₀ turns₀ buffer text numbers recorded space tally line turns = (line .first ≤ line .past) × ((line .past ≤ line .filled) × ((line .filled ≤ length buffer₀) × ((length buffer ≡ length buffer₀) × ((length text ≡ length text₀) × ((length numbers ≡ length numbers₀) × ((length recorded ≡ length recorded₀) × (length space ≡ length space₀)))))))
+Inv-loop fd buffer₀ text₀ numbers₀ recorded₀ space₀ progress₀ line₀ turns₀ buffer text numbers recorded space progress line turns = (line .first ≤ line .past) × ((line .past ≤ line .filled) × ((line .filled ≤ length buffer₀) × ((length buffer ≡ length buffer₀) × ((length text ≡ length text₀) × ((length numbers ≡ length numbers₀) × ((length recorded ≡ length recorded₀) × (length space ≡ length space₀)))))))
 
 abbrev μ-loop : tie.MeasureT-loop
-μ-loop fd buffer₀ text₀ numbers₀ recorded₀ space₀ tally₀ line₀ turns₀ buffer text numbers recorded space tally line turns = turns
+μ-loop fd buffer₀ text₀ numbers₀ recorded₀ space₀ progress₀ line₀ turns₀ buffer text numbers recorded space progress line turns = turns
 
--- let mut tally = Tally::new();
+-- tally: Tally::new(),
 new-requires : tie.Need-new-requires Inv-loop μ-loop
 new-requires c κs = search needs
 
@@ -26,7 +26,7 @@ first-line-requires c κs = search needs
 loop-holds : tie.Need-loop-holds Inv-loop μ-loop
 loop-holds c = search needs
 
--- tally = replay_line(&buffer[first..past], text, numbers, recorded, space, tally);
+-- &buffer[first..past],
 sub-replay-line : tie.Need-sub-replay-line Inv-loop μ-loop
 sub-replay-line c = search needs
 
@@ -36,6 +36,7 @@ part-replay-line-start c = search needs
 part-replay-line-end : tie.Need-part-replay-line-end Inv-loop μ-loop
 part-replay-line-end c = search needs
 
+-- progress = replay_line(
 replay-line-requires : tie.Need-replay-line-requires Inv-loop μ-loop
 replay-line-requires c κs = search needs
 
@@ -73,24 +74,6 @@ same-length-5 c = search needs
 returns : tie.Need-returns Inv-loop μ-loop
 returns c = search needs
 
-same-length-6 : tie.Need-same-length-6 Inv-loop μ-loop
-same-length-6 c = search needs
-
-same-length-7 : tie.Need-same-length-7 Inv-loop μ-loop
-same-length-7 c = search needs
-
-same-length-8 : tie.Need-same-length-8 Inv-loop μ-loop
-same-length-8 c = search needs
-
-same-length-9 : tie.Need-same-length-9 Inv-loop μ-loop
-same-length-9 c = search needs
-
-same-length-10 : tie.Need-same-length-10 Inv-loop μ-loop
-same-length-10 c = search needs
-
-returns-2 : tie.Need-returns-2 Inv-loop μ-loop
-returns-2 c = search needs
-
 pub replay-lines-spec : {M : Type 1} → statement M
 replay-lines-spec =
     tie.close
@@ -113,10 +96,4 @@ replay-lines-spec =
     same-length-3
     same-length-4
     same-length-5
-    returns
-    same-length-6
-    same-length-7
-    same-length-8
-    same-length-9
-    same-length-10
-    returns-2)
+    returns)
