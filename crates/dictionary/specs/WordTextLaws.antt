@@ -1,13 +1,13 @@
 -- Laws of the bytes in words (`Records.antt`, `LineTexts.antt`): a T is read from `lettersText`, a V from `valueText`. Assumes nothing.
 use mathlib.Core.Path.{_≡_, refl, sym, ap, _∙_}
 use Prim.Native.Nat.{ℕ, zero, suc, _+_, _*_, _-_, _≤_, _<_}
-use mathlib.Core.Bool.{Bool, true, false, _&&_, cond}
+use mathlib.Core.Bool.{Bool, true, false, _&&_, cond, false≢true}
 use mathlib.Core.List.{List, [], _∷_, append-nil}
 use native.Mathlib.Omega.{arith}
 use lib.Dec.{leb, eqb}
 use lib.ListN.{length, getD, take, List·getD-eq-default}
 use lib.Seq.{length-take-le, take-all, take-nil}
-use borrow.Author.Tests.{leb-true, leb-false, eqb-true}
+use borrow.Author.Tests.{leb-true, leb-false, eqb-true, eq-eqb, ne-eqb}
 use Rattle.ascii.specs.NotationLaws.{and-left, and-right}
 use Rattle.ascii.specs.Bytes.{every}
 use Rattle.texts.specs.declared.line_parts.Flag.the-variants.{Required, Optional}
@@ -117,6 +117,35 @@ part-held test (suc (suc (suc (suc more)))) word held =
       at2 = refl;
       at3 = refl;
     }
+
+-- a part without bytes is the word 0
+
+none-held : (test : ℕ → Bool) (word : ℕ) → word ≡ 0 → holdsPart test 0 word ≡ true
+unfolding holdsPart holdsByte
+none-held test word zero-word = rw (zero-word)
+
+module _ (word : ℕ) where
+  no-highest : 0 ≡ byte0 word → word < 16777216
+  no-highest none = omega arith
+
+  no-high : word < 16777216 → 0 ≡ byte1 word → word < 65536
+  no-high below none = omega arith
+
+  no-low : word < 65536 → 0 ≡ byte2 word → word < 256
+  no-low below none = omega arith
+
+  no-lowest : word < 256 → 0 ≡ byte3 word → word ≡ 0
+  no-lowest below none = omega arith
+
+part-empty-by : (test : ℕ → Bool) (word : ℕ) (held : Bool) → holdsPart test 0 word ≡ held → held ≡ eqb word 0
+part-empty-by test word true held =
+    let part = part-held test 0 word held in
+    let high : word < 65536 = no-high word (no-highest word (part .at0)) (part .at1) in
+    sym (eq-eqb word 0 (no-lowest word (no-low word high (part .at2)) (part .at3)))
+part-empty-by test word false other = sym (ne-eqb word 0 (λ zero-word. false≢true (sym other ∙ none-held test word zero-word)))
+
+pub part-empty : (test : ℕ → Bool) (word : ℕ) → holdsPart test 0 word ≡ eqb word 0
+part-empty test word = part-empty-by test word (holdsPart test 0 word) refl
 
 -- four bytes make the word again
 word-of : (bytes : List ℕ) (word : ℕ)

@@ -88,6 +88,10 @@ fn holds_letters(word: u32) -> bool
 fn holds_visible_part(left: u32, word: u32) -> bool
     ensures { λ answer. ⌜ answer ≡ holdsPart isVisible left word ⌝ }
 {
+    // most values are short: the words behind their bytes need one look each
+    if left == 0 {
+        return word == 0;
+    }
     if !holds_visible(left, 0, word / 0x100_0000) {
         return false;
     }

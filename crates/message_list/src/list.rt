@@ -1,6 +1,4 @@
 // The list of one message: the calls of the gate, one behind the other (document 01, 'One list in full').
-use read_dictionary::read_dictionary::Read;
-use read_dictionary::read_dictionary::read_dictionary;
 use expand::expand_call::Expanded;
 use expand::expand_call::expand;
 use listing::list_text::Listed;
@@ -9,6 +7,8 @@ use listing::message_text::ReadMessage;
 use listing::message_text::read_message;
 use listing::message_type::Stretch;
 use listing::message_type::message_type;
+use read_dictionary::read_dictionary::Read;
+use read_dictionary::read_dictionary::read_dictionary;
 use validator::message_call::WalkedMessage;
 use validator::message_call::walk_message;
 use verdicts::verdicts_call::Judged;

@@ -16,10 +16,10 @@ use crate::numbers::read_words;
 use crate::text_cases::same_refusal;
 use crate::walk_cases::behind_word;
 use ascii::split::find;
-use read_dictionary::read_dictionary::Read;
-use read_dictionary::read_dictionary::read_dictionary;
 use expand::expand_call::Expanded;
 use expand::expand_call::expand;
+use read_dictionary::read_dictionary::Read;
+use read_dictionary::read_dictionary::read_dictionary;
 use texts::refusal::Refusal;
 
 // More than any buffer has room for: where a text is no dictionary's.
