@@ -4,6 +4,7 @@
 --   noRanks width            the words of the empty set, so many of them
 --   holdsRank words rank     a rank is in the set if and only if its bit is set: bit rank % 64 of word rank / 64
 --   insertRank words rank    the words with that bit set
+--   maskIn word rank         that bit as a mask, in the word with this number: 0 in another
 --   onesOf words             how many bits of the words are set
 --   rankCount words members  how many are set in the words that a level of so many members uses, (members + 63) / 64 of them
 --   Stands words width members ranks   the words, so many, stand for the set of these ranks of a level of so many members, each listed once
@@ -15,7 +16,7 @@ use mathlib.Core.List.{List, [], _∷_, map}
 use lib.Bits.{bitOr}
 use lib.Count.{ones}
 use lib.ListN.{length, getD, set, take, replicate}
-use Rattle.ascii.specs.Notation.{_≡ᵇ_}
+use Rattle.ascii.specs.Notation.{_≡ᵇ_, if_then_else_}
 use Rattle.walk.specs.Membership.{_∈ᵇ_}
 
 abbrev pub noRanks : ℕ → List ℕ
@@ -26,6 +27,9 @@ holdsRank words rank = getD words (rank / 64) 0 / 2 ^ (rank % 64) % 2 ≡ᵇ 1
 
 unfoldable pub insertRank : List ℕ → ℕ → List ℕ
 insertRank words rank = set words (rank / 64) (bitOr (getD words (rank / 64) 0) (2 ^ (rank % 64)))
+
+unfoldable pub maskIn : ℕ → ℕ → ℕ
+maskIn word rank = if rank / 64 ≡ᵇ word then 2 ^ (rank % 64) else 0
 
 unfoldable pub onesOf : List ℕ → ℕ
 onesOf [] = 0

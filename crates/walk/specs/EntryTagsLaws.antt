@@ -9,7 +9,7 @@ use native.Mathlib.Omega.{arith}
 use native.Mathlib.Nat.{pow-suc, pow-succ', div-div-eq-div-mul, one-mul, zero-mul, zero-div, mul-assoc}
 use native.Mathlib.Decide.{ℕ-discrete}
 use native.Mathlib.Numerals.{add-one}
-use lib.Bits.{bitAnd, bitOr, and-step, or-step, and-zero-r, or-zero-r}
+use lib.Bits.{bitAnd, bitOr, and-step, or-step, and-zero-r, or-zero-l, or-zero-r}
 use lib.Count.{ones, ones-step}
 use lib.Dec.{eqb}
 use lib.ListN.{length, length-map, getD, set, take, replicate, length-set, length-replicate, getD-replicate}
@@ -17,7 +17,7 @@ use lib.Pow.{shl-exact, pow-pos}
 use lib.Seq.{take-suc, take-set-lt, getD-take, length-take-le, getD-set-same, getD-set-other, set-getD}
 use borrow.Author.Tests.{eq-eqb, ne-eqb, eqb-true, eqb-false}
 use Rattle.walk.specs.Membership.{_∈ᵇ_}
-use Rattle.walk.specs.EntryTags.{noRanks, holdsRank, insertRank, onesOf, rankCount, Stands, TagsSeen}
+use Rattle.walk.specs.EntryTags.{noRanks, holdsRank, insertRank, maskIn, onesOf, rankCount, Stands, TagsSeen}
 use Rattle.walk.specs.GroupWalk.{insertIf}
 
 -- ---- one bit of a word
@@ -106,13 +106,53 @@ module _ (words : List ℕ) (rank : ℕ) where
   unfolding insertRank
   inserted-is = refl
 
-  -- the same for a rank of the first word
-  module _ (first : rank / 64 ≡ 0) where
-    pub fresh-first : eqb (bitAnd (getD words 0 0) (2 ^ (rank % 64))) 0 ≡ not (holdsRank words rank)
-    fresh-first = rw first at fresh-is
+-- ---- the same by the first two words, each with its mask
 
-    pub inserted-first : set words 0 (bitOr (getD words 0 0) (2 ^ (rank % 64))) ≡ insertRank words rank
-    inserted-first = rw first at inserted-is
+module _ (word rank : ℕ) where
+  pub mask-here : rank / 64 ≡ word → 2 ^ (rank % 64) ≡ maskIn word rank
+  unfolding maskIn
+  mask-here same = rw (eq-eqb (rank / 64) word same)
+
+  pub mask-elsewhere : (rank / 64 ≡ word → ⊥) → 0 ≡ maskIn word rank
+  unfolding maskIn
+  mask-elsewhere differ = rw (ne-eqb (rank / 64) word differ)
+
+first-kept : (words : List ℕ) (bits : ℕ) → set (set words 0 (getD words 0 0)) 1 bits ≡ set words 1 bits
+first-kept [] bits = refl
+first-kept (first ∷ rest) bits = refl
+
+second-kept : (words : List ℕ) (bits : ℕ) → set (set words 0 bits) 1 (getD words 1 0) ≡ set words 0 bits
+second-kept [] bits = refl
+second-kept (first ∷ []) bits = refl
+second-kept (first ∷ second ∷ rest) bits = refl
+
+module _ (words : List ℕ) (rank : ℕ) where
+  two-inserted : (word : ℕ) → rank / 64 ≡ word → word < 2
+      → set (set words 0 (bitOr (getD words 0 0) (maskIn 0 rank))) 1 (bitOr (getD words 1 0) (maskIn 1 rank)) ≡ insertRank words rank
+  two-inserted zero at-word few =
+      rw (← mask-here 0 rank at-word, ← mask-elsewhere 1 rank (λ same. omega (arith, same, at-word)), or-zero-r (getD words 1 0))
+      (second-kept words (bitOr (getD words 0 0) (2 ^ (rank % 64))) ∙ (rw at-word at (inserted-is words rank)))
+  two-inserted (suc zero) at-word few =
+      rw (← mask-elsewhere 0 rank (λ same. omega (arith, same, at-word)), ← mask-here 1 rank at-word, or-zero-r (getD words 0 0))
+      (first-kept words (bitOr (getD words 1 0) (2 ^ (rank % 64))) ∙ (rw at-word at (inserted-is words rank)))
+  two-inserted (suc (suc word)) at-word few = absurd (omega (arith, few))
+
+  two-fresh : (word : ℕ) → rank / 64 ≡ word → word < 2
+      → eqb (bitOr (bitAnd (getD words 0 0) (maskIn 0 rank)) (bitAnd (getD words 1 0) (maskIn 1 rank))) 0 ≡ not (holdsRank words rank)
+  two-fresh zero at-word few =
+      rw (← mask-here 0 rank at-word, ← mask-elsewhere 1 rank (λ same. omega (arith, same, at-word)), and-zero-r (getD words 1 0), or-zero-r (bitAnd (getD words 0 0) (2 ^ (rank % 64))))
+      (rw at-word at (fresh-is words rank))
+  two-fresh (suc zero) at-word few =
+      rw (← mask-elsewhere 0 rank (λ same. omega (arith, same, at-word)), ← mask-here 1 rank at-word, and-zero-r (getD words 0 0), or-zero-l (bitAnd (getD words 1 0) (2 ^ (rank % 64))))
+      (rw at-word at (fresh-is words rank))
+  two-fresh (suc (suc word)) at-word few = absurd (omega (arith, few))
+
+  module _ (few : rank / 64 < 2) where
+    pub inserted-two : set (set words 0 (bitOr (getD words 0 0) (maskIn 0 rank))) 1 (bitOr (getD words 1 0) (maskIn 1 rank)) ≡ insertRank words rank
+    inserted-two = two-inserted (rank / 64) refl few
+
+    pub fresh-two : eqb (bitOr (bitAnd (getD words 0 0) (maskIn 0 rank)) (bitAnd (getD words 1 0) (maskIn 1 rank))) 0 ≡ not (holdsRank words rank)
+    fresh-two = two-fresh (rank / 64) refl few
 
 -- ---- onesOf
 

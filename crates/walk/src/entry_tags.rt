@@ -4,7 +4,7 @@ ghost use mathlib.Core.Path.{_≡_};
 ghost use Prim.Native.Nat.{_+_, _/_, _%_, _^_, _≤_, _<_};
 ghost use mathlib.Core.Bool.{not};
 ghost use lib.Count as Count;
-ghost use Rattle.walk.specs.EntryTags.{noRanks, holdsRank, insertRank, rankCount};
+ghost use Rattle.walk.specs.EntryTags.{noRanks, holdsRank, insertRank, maskIn, rankCount};
 
 // A level of up to 512 members, the Rust's INLINE_MEMBERS.
 pub struct EntryTags {
@@ -34,6 +34,16 @@ pub fn mask_of(rank: usize) -> u64
     1u64 << (rank % 64)
 }
 
+// The same in one of the words: no bit where the rank is in another word.
+fn mask_in(word: usize, rank: usize) -> u64
+    ensures { λ mask. ⌜ mask ≡ maskIn word rank ⌝ }
+{
+    if rank / 64 != word {
+        return 0;
+    }
+    mask_of(rank)
+}
+
 // Words that a level of so many members uses: the only ones ever touched.
 fn words_used(members: usize) -> usize
     requires { ⌜ members ≤ 8192 ⌝ }
@@ -56,22 +66,27 @@ impl EntryTags {
         EntryTags { words: [0u64; 8] }
     }
 
-    // Records the member ranked `rank`, of a level of so many members; `fresh` is false if it was already recorded. A level of up to 64 members uses the first
-    // word alone: it is reached by a number and not by a variable, so that the compiled walk keeps it in a register (docs/SPEED.md).
+    // Records the member ranked `rank`, of a level of so many members; `fresh` is false if it was already recorded. A level of up to 128 members uses two words
+    // alone: they are reached by numbers and not by a variable, so that the compiled walk keeps them in registers (docs/SPEED.md).
     pub fn insert_rank(self, rank: usize, members: usize) -> Inserted
         requires { ⌜ (rank < members) × (members ≤ 512) ⌝ }
         ensures { λ inserted. ⌜ (inserted .tags .words ≡ insertRank (self .words) rank) × (inserted .fresh ≡ not (holdsRank (self .words) rank)) ⌝ }
     {
-        let mask = mask_of(rank);
-        if members <= 64 {
+        if members <= 128 {
+            let low = mask_in(0, rank);
+            let high = mask_in(1, rank);
             let first = self.words[0];
+            let second = self.words[1];
+            let hit = (first & low) | (second & high);
             let mut narrow = self;
-            narrow.words[0] = first | mask;
+            narrow.words[0] = first | low;
+            narrow.words[1] = second | high;
             return Inserted {
                 tags: narrow,
-                fresh: first & mask == 0,
+                fresh: hit == 0,
             };
         }
+        let mask = mask_of(rank);
         let word = rank / 64;
         let mut tags = self;
         let old = tags.words[word];
