@@ -76,10 +76,8 @@ fn expansion(text: &'static [u8], msg_type: &'static str) -> Comparison<'static>
     };
     let layout = arrangement::words(&PlainLevel::from(&expansion.level));
     let mut space = vec![0; layout.len()];
-    assert_eq!(
-        order_gate::expand(&words, msg_type.as_bytes(), &mut space).map(|expanded| expanded.words),
-        Ok(layout.len())
-    );
+    let expanded = order_gate::expand(&words, msg_type.as_bytes(), &mut space);
+    assert_eq!(expanded.map(|expanded| expanded.words), Ok(layout.len()));
     assert_eq!(space, layout);
     Comparison {
         title: format!(
