@@ -17,6 +17,9 @@ use std::str::FromStr;
 /// The most fields of a field table.
 pub const MOST_FIELDS: usize = 4_096;
 
+/// The most lines of a dictionary text whose words are recorded.
+const MOST_LINES_WITH_WORDS: usize = 1_200;
+
 /// The kinds of recorded lists.
 #[derive(Debug, Clone, Copy, PartialEq, Eq)]
 pub enum Kind {
@@ -162,9 +165,15 @@ fn text_answers(
     Ok(answers)
 }
 
-/// `accepted LINES` or `refused N P` for a dictionary text.
+/// `accepted LINES WORD WORD ..` with the words of the dictionary, or `refused
+/// N P`, for a dictionary text. The words of a longer text would make a line of
+/// the list too long: `accepted LINES` alone.
 pub fn dictionary_answer(text: &[u8]) -> String {
     match reader::dictionary(text) {
+        Ok(lines) if lines.len() <= MOST_LINES_WITH_WORDS => {
+            let words = dictionary_words::words(&lines);
+            format!("accepted {} {}", lines.len(), walk_cases::decimals(&words))
+        }
         Ok(lines) => format!("accepted {}", lines.len()),
         Err(refusal) => refusal.recorded(),
     }

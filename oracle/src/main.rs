@@ -57,8 +57,8 @@ const USAGE: &str = "usage: oracle COMMAND
                                 the cases on standard input. KIND is one of
     values counts dictionary-texts layout-texts walks expansions verdict-words
     messages
-  dictionary-text FILE          `accepted LINES` or `refused N P`
-  layout-text FILE              the same for a layout text, and a line `words WORD WORD ..`
+  dictionary-text FILE          `accepted LINES WORD WORD ..` or `refused N P`
+  layout-text FILE              `accepted LINES` and a line `words WORD WORD ..`, or `refused N P`
   layout DICT TYPE
   expanded-text DICT TYPE       the same layout as a layout text
   events message DICT MSG

@@ -1,6 +1,7 @@
 // Replays the answers of the Rust that oracle/record.sh recorded, and says how many cases ran and how many differ.
 mod cases;
 mod count_cases;
+mod dictionary_cases;
 mod expand_cases;
 mod hex;
 mod layout_cases;
@@ -25,6 +26,8 @@ fn main() {
     print_tally(b"parse_count: ", counts);
     let dictionaries = lists::replay_file(b"read_dictionary.cases", CaseList::DictionaryTexts);
     print_tally(b"check_dictionary_text: ", dictionaries);
+    let dictionary_words = dictionary_cases::replay_file(b"read_dictionary.cases");
+    print_tally(b"read_dictionary: ", dictionary_words);
     let layouts = lists::replay_file(b"read_layout.cases", CaseList::LayoutTexts);
     print_tally(b"check_layout_text: ", layouts);
     let layout_words = layout_cases::replay_file(b"read_layout.cases");

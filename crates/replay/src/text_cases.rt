@@ -1,5 +1,6 @@
 // Cases of `check_dictionary_text` and `check_layout_text`: a text, then `accepted` and its number of lines, or `refused` with the number
-// and the place. A text is its bytes in hexadecimal, or pieces `@N HEX`: the bytes N times, one behind the other.
+// and the place. A text is its bytes in hexadecimal, or pieces `@N HEX`: the bytes N times, one behind the other. Behind the number
+// of lines of a dictionary text stand its words, which dictionary_cases.rt compares; those of a layout text stand on a line of their own.
 ghost use Prim.Native.Nat.{_+_, _≤_, _<_};
 ghost use lib.ListN.{length};
 use crate::cases::Replayed;
@@ -163,13 +164,19 @@ fn same_outcome(outcome: TextOutcome, recorded: &[u8]) -> Replayed {
     match outcome {
         TextOutcome::Accepted(counts) => same_when(
             recorded[0] == b'a',
-            same_number(counts.lines, &recorded[rest..]),
+            has_lines(counts.lines, &recorded[rest..]),
         ),
         TextOutcome::Refused(refusal) => same_when(
             recorded[0] == b'r',
             same_refusal(refusal, &recorded[rest..]),
         ),
     }
+}
+
+// Recorded with so many lines, the words of the dictionary behind them.
+fn has_lines(lines: u64, recorded: &[u8]) -> bool {
+    let past = find(recorded, 0, b' ');
+    same_number(lines, &recorded[0..past])
 }
 
 // Whether the order of the lines is the one recorded.
@@ -220,7 +227,7 @@ pub fn same_refusal(refusal: Refusal, recorded: &[u8]) -> bool {
     same_number(place_of(refusal), &recorded[place..])
 }
 
-fn same_number(number: u64, recorded: &[u8]) -> bool {
+pub fn same_number(number: u64, recorded: &[u8]) -> bool {
     let Count::Number(other) = parse_count(recorded) else {
         return false;
     };
