@@ -1,6 +1,7 @@
 #!/usr/bin/env bash
 # Builds the oracle and writes anew the recorded lists in crates/replay/data/
-# and what `gatelist` prints of the messages in examples/.
+# what `gatelist` prints of the messages in examples/, and of the cases of
+# crates/gatelists.
 set -euo pipefail
 cd "$(dirname "$0")"
 
@@ -55,3 +56,14 @@ done
 for message in whole allocation-lost fields-out-of-entry count-lies nested-count-lies; do
     list block-order/block-order "block-order/$message"
 done
+
+# The cases of gatelists, those of examples/ among them: each line of cases.txt names a dictionary and a message.
+stored=../crates/gatelists
+cp ../examples/block-order/*.dict ../examples/block-order/*.msg "$stored/data"
+for message in new-order-single allocation-instruction market-data-snapshot; do
+    cp "../examples/fix44/$message.dict" "../examples/fix44/$message.msg" "$stored/data"
+done
+while read -r dictionary message; do
+    echo "-- $dictionary $message"
+    "$oracle" list "$stored/data/$dictionary" "$stored/data/$message"
+done <"$stored/data/cases.txt" >"$stored/stdout"
