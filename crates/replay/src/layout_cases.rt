@@ -11,12 +11,13 @@ use crate::numbers::read_words;
 use crate::text_cases::fill_text;
 use crate::text_cases::same_refusal;
 use crate::walk_cases::behind_word;
+use crate::word_space::UNWRITTEN_WORD;
+use crate::word_space::clear;
+use crate::word_space::is_unwritten;
+use crate::word_space::same_words;
 use read_layout::read_layout::ReadLayout;
 use read_layout::read_layout::read_layout;
 use texts::refusal::Refusal;
-
-// What the space holds where no layout was written.
-const UNWRITTEN_WORD: u32 = 0x5a5a_5a5a;
 
 // How many bytes of the text the last line with one has, and how the cases went.
 pub struct Progress {
@@ -247,38 +248,4 @@ fn is_short(outcome: ReadLayout, needed: usize) -> bool {
         return false;
     };
     words == needed as u64
-}
-
-fn same_words(space: &[u32], words: &[u32]) -> bool {
-    if space.len() != words.len() {
-        return false;
-    }
-    let mut index: usize = 0;
-    while index < space.len() {
-        if space[index] != words[index] {
-            return false;
-        }
-        index += 1;
-    }
-    true
-}
-
-fn is_unwritten(space: &[u32]) -> bool {
-    let mut index: usize = 0;
-    while index < space.len() {
-        if space[index] != UNWRITTEN_WORD {
-            return false;
-        }
-        index += 1;
-    }
-    true
-}
-
-// Makes the space as it was before a layout was written.
-fn clear(space: &mut [u32]) {
-    let mut index: usize = 0;
-    while index < space.len() {
-        space[index] = UNWRITTEN_WORD;
-        index += 1;
-    }
 }

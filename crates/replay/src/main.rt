@@ -5,7 +5,6 @@ mod dictionary_cases;
 mod expand_cases;
 mod hex;
 mod layout_cases;
-mod layout_space;
 mod lines;
 mod lists;
 mod message_cases;
@@ -14,6 +13,7 @@ mod text_cases;
 mod value_cases;
 mod verdict_cases;
 mod walk_cases;
+mod word_space;
 
 use crate::cases::CaseList;
 use crate::cases::Tally;

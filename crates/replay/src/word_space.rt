@@ -1,4 +1,4 @@
-// Space for the words of a layout, and what it holds where no layout was written.
+// Space for the words of a dictionary or a layout, and what it holds where none was written.
 
 pub const UNWRITTEN_WORD: u32 = 0x5a5a_5a5a;
 
@@ -27,7 +27,7 @@ pub fn is_unwritten(space: &[u32]) -> bool {
     true
 }
 
-// Makes the space as it was before a layout was written.
+// Makes the space as it was before words were written.
 pub fn clear(space: &mut [u32]) {
     let mut index: usize = 0;
     while index < space.len() {
