@@ -1,14 +1,17 @@
-//! The stack that the deepest walks need: a thread runs on painted memory, and
-//! the paint tells how far down it went.
+//! The stack that the calls need: a thread runs on painted memory, and the
+//! paint tells how far down it went.
 
 use crate::arrangement;
 use crate::layouts::{PlainGroup, PlainLevel};
-use order_gate::{Refusal, Walked};
 use std::ffi::c_void;
 use std::ptr;
 
 const SIZE: usize = 8 << 20;
 const PAINT: u8 = 0xa5;
+
+static FIX_44: &[u8] = include_bytes!("../../examples/fix44/new-order-single.dict");
+static NESTED_33: &[u8] = include_bytes!("../../crates/gatelists/data/33-nested-groups.dict");
+static NODES_4096: &[u8] = include_bytes!("../../crates/gatelists/data/4096-nodes.dict");
 
 /// The size and the alignment of glibc's pthread_attr_t on x86-64.
 #[repr(C, align(8))]
@@ -26,25 +29,21 @@ unsafe extern "C" {
     fn pthread_join(thread: usize, answer: *mut *mut c_void) -> i32;
 }
 
-/// What the thread walks: nothing, for the stack that a thread needs anyway.
-struct Task {
-    walk: Option<(Vec<u32>, Vec<u32>, Vec<u8>)>,
-    events: Vec<u64>,
-    walked: Option<Result<Walked, Refusal>>,
+/// What the thread runs: nothing, for the stack that a thread needs anyway.
+struct Task<'t> {
+    call: &'t mut dyn FnMut(),
 }
 
 extern "C" fn run(argument: *mut c_void) -> *mut c_void {
     // The caller waits for this thread and leaves the task alone till then.
     let task = unsafe { &mut *argument.cast::<Task>() };
-    if let Some((words, fields, bytes)) = &task.walk {
-        let events = &mut task.events;
-        task.walked = Some(order_gate::walk_group(words, fields, bytes, 0, 1, events));
-    }
+    (task.call)();
     ptr::null_mut()
 }
 
-/// The bytes of a painted stack that a thread with this task touched.
-fn touched(task: &mut Task) -> usize {
+/// The bytes of a painted stack that a thread with this call touched.
+fn touched(call: &mut dyn FnMut()) -> usize {
+    let mut task = Task { call };
     let layout = std::alloc::Layout::from_size_align(SIZE, 4096).expect("a good size");
     unsafe {
         let low = std::alloc::alloc(layout);
@@ -54,7 +53,7 @@ fn touched(task: &mut Task) -> usize {
         let mut thread = 0;
         assert_eq!(pthread_attr_init(&mut attributes), 0);
         assert_eq!(pthread_attr_setstack(&mut attributes, low.cast(), SIZE), 0);
-        let argument = ptr::from_mut(task).cast();
+        let argument = ptr::from_mut(&mut task).cast();
         assert_eq!(pthread_create(&mut thread, &attributes, run, argument), 0);
         assert_eq!(pthread_join(thread, ptr::null_mut()), 0);
         let bytes = std::slice::from_raw_parts(low, SIZE);
@@ -103,14 +102,7 @@ fn message(groups: u32) -> (Vec<u32>, Vec<u8>) {
     (fields, b"1".to_vec())
 }
 
-pub fn measure() {
-    let mut idle = Task {
-        walk: None,
-        events: Vec::new(),
-        walked: None,
-    };
-    let thread = touched(&mut idle);
-    println!("a thread that walks nothing: {thread} bytes");
+fn walks(thread: usize) {
     let mut widest = vec![513; 15];
     widest.push(400);
     for (name, groups, wide) in [
@@ -123,16 +115,55 @@ pub fn measure() {
         ("34 groups, the last too deep", 34, vec![513; 15]),
         ("one group of 8,191 members", 1, vec![8_191]),
     ] {
-        let layout = chain(groups, &wide);
+        let words = arrangement::words(&chain(groups, &wide));
         let (fields, bytes) = message(groups);
-        let mut task = Task {
-            walk: Some((arrangement::words(&layout), fields, bytes)),
-            events: vec![0; 5_000],
-            walked: None,
-        };
-        let bytes = touched(&mut task);
-        let walked = task.walked.expect("the walk ran").expect("no refusal");
+        let mut events = vec![0; 5_000];
+        let mut walked = None;
+        let stack = touched(&mut || {
+            walked = Some(order_gate::walk_group(&words, &fields, &bytes, 0, 1, &mut events));
+        });
+        let walked = walked.expect("the walk ran").expect("no refusal");
         let events = walked.words / 5;
-        println!("{name}: {} bytes, {events} events", bytes - thread);
+        println!("walk_group, {name}: {} bytes, {events} events", stack - thread);
     }
+}
+
+/// The calls that keep arrays of their own: reading, expanding, walking a message, judging its values.
+fn others(thread: usize) {
+    let mut words = vec![0; order_gate::MOST_DICTIONARY_WORDS];
+    let mut layout = vec![0; order_gate::MOST_LAYOUT_WORDS];
+    for (name, text, msg_type) in [
+        ("FIX 4.4 orders", FIX_44, "D"),
+        ("33 groups nested", NESTED_33, "D"),
+        ("4,096 nodes", NODES_4096, "D"),
+    ] {
+        let (mut size, mut expanded) = (None, None);
+        let stack = touched(&mut || size = Some(order_gate::read_dictionary(text, &mut words)));
+        println!("read_dictionary, {name}: {} bytes", stack - thread);
+        let dictionary = &words[..size.expect("it ran").expect("a good text")];
+        let stack = touched(&mut || expanded = Some(order_gate::expand(dictionary, msg_type.as_bytes(), &mut layout)));
+        let expanded = expanded.expect("it ran").expect("a layout");
+        println!("expand, {name}: {} bytes, {} nodes", stack - thread, expanded.nodes);
+        let used = &layout[..expanded.words];
+        let (fields, message, mut space) = ([8, 0, 1], b"1", vec![0; 50_000]);
+        let stack = touched(&mut || {
+            order_gate::walk_message(dictionary, used, &fields, message, &mut space).expect("an answer");
+        });
+        println!("walk_message, {name}: {} bytes", stack - thread);
+        let stack = touched(&mut || {
+            order_gate::verdicts(dictionary, &fields, message, true, &mut space).expect("an answer");
+        });
+        println!("verdicts, {name}: {} bytes", stack - thread);
+    }
+    let stack = touched(&mut || {
+        order_gate::read_layout(b"member=78\ngroup=78,79,1\nmember=79\nend=78\n", &mut layout).expect("a layout");
+    });
+    println!("read_layout: {} bytes", stack - thread);
+}
+
+pub fn measure() {
+    let thread = touched(&mut || ());
+    println!("a thread that runs nothing: {thread} bytes");
+    walks(thread);
+    others(thread);
 }
