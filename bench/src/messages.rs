@@ -13,6 +13,8 @@ use std::hint::black_box;
 
 const ORDERS: &[u8] = include_bytes!("../../examples/fix44/new-order-single.dict");
 const ALL: &[u8] = include_bytes!("../../examples/fix44/fix44.dict");
+const BLOCK: &[u8] = include_bytes!("../../examples/block-order/block-order.dict");
+const BLOCK_WHOLE: &str = include_str!("../../examples/block-order/whole.msg");
 
 /// An order with so many parties and allocations, every second of them with a
 /// nested group.
@@ -75,25 +77,35 @@ fn order(parties: usize, allocations: usize) -> Message {
     writer.message()
 }
 
+/// The block order of examples/.
+fn block_order() -> Message {
+    let mut writer = Writer::default();
+    for line in BLOCK_WHOLE.lines() {
+        let (tag, value) = line.split_once('=').expect("a field");
+        writer.field(tag.parse().expect("a tag"), value);
+    }
+    writer.message()
+}
+
 fn comparison(
     text: &'static [u8],
     name: &str,
-    parties: usize,
-    allocations: usize,
+    msg_type: &'static str,
+    message: Message,
 ) -> Comparison<'static> {
     let lines = reader::dictionary(text).expect("an accepted text");
     let words: Vec<u32> = dictionary_words::words(&lines);
     let dict: &'static Dictionary =
         Box::leak(Box::new(texts::dictionary(text).expect("an accepted text")));
-    let Ok(expansion) = layouts::expand(dict, "D") else {
+    let Ok(expansion) = layouts::expand(dict, msg_type) else {
         unreachable!("the type has a layout");
     };
     let layout = arrangement::words(&PlainLevel::from(&expansion.level));
-    let message: &'static Message = Box::leak(Box::new(order(parties, allocations)));
-    let raw = RawMessage::new("D", fields(message));
+    let message: &'static Message = Box::leak(Box::new(message));
+    let raw = RawMessage::new(msg_type, fields(message));
     let count = raw.field_slice().len();
     let validator = Validator::new(dict);
-    let (msg_def, _) = resolve(dict, dict, "D").expect("the type is defined");
+    let (msg_def, _) = resolve(dict, dict, msg_type).expect("the type is defined");
     let (scope, _) = ScopeBuilder::expand(dict, dict, msg_def);
     assert_eq!(validator.validate(&raw), Ok(()));
     assert_eq!(validator.validate_kept(&raw, &scope), Ok(()));
@@ -111,7 +123,7 @@ fn comparison(
     assert!(verdicts.iter().all(|verdict| *verdict == 0));
 
     let title = format!(
-        "{name}, {parties} parties, {allocations} allocations: {count} fields, {} dictionary words, {} layout words",
+        "{name}: {count} fields, {} dictionary words, {} layout words",
         words.len(),
         layout.len()
     );
@@ -181,8 +193,15 @@ pub fn comparisons() -> Vec<Maker> {
         (ORDERS, "FIX 4.4 list", 40, 450),
         (ORDERS, "FIX 4.4 list", 40, 700),
     ];
-    let makers = shapes.map(|(text, name, parties, allocations)| -> Maker {
-        Box::new(move || comparison(text, name, parties, allocations))
+    let orders = shapes.map(|(text, name, parties, allocations)| -> Maker {
+        Box::new(move || {
+            let name = format!("{name}, {parties} parties, {allocations} allocations");
+            comparison(text, &name, "D", order(parties, allocations))
+        })
     });
-    makers.into()
+    let mut makers = Vec::from(orders);
+    makers.push(Box::new(|| {
+        comparison(BLOCK, "the block order of examples/", "J", block_order())
+    }));
+    makers
 }

@@ -120,11 +120,21 @@ fn walks(thread: usize) {
         let mut events = vec![0; 5_000];
         let mut walked = None;
         let stack = touched(&mut || {
-            walked = Some(order_gate::walk_group(&words, &fields, &bytes, 0, 1, &mut events));
+            walked = Some(order_gate::walk_group(
+                &words,
+                &fields,
+                &bytes,
+                0,
+                1,
+                &mut events,
+            ));
         });
         let walked = walked.expect("the walk ran").expect("no refusal");
         let events = walked.words / 5;
-        println!("walk_group, {name}: {} bytes, {events} events", stack - thread);
+        println!(
+            "walk_group, {name}: {} bytes, {events} events",
+            stack - thread
+        );
     }
 }
 
@@ -141,22 +151,38 @@ fn others(thread: usize) {
         let stack = touched(&mut || size = Some(order_gate::read_dictionary(text, &mut words)));
         println!("read_dictionary, {name}: {} bytes", stack - thread);
         let dictionary = &words[..size.expect("it ran").expect("a good text")];
-        let stack = touched(&mut || expanded = Some(order_gate::expand(dictionary, msg_type.as_bytes(), &mut layout)));
+        let stack = touched(&mut || {
+            expanded = Some(order_gate::expand(
+                dictionary,
+                msg_type.as_bytes(),
+                &mut layout,
+            ))
+        });
         let expanded = expanded.expect("it ran").expect("a layout");
-        println!("expand, {name}: {} bytes, {} nodes", stack - thread, expanded.nodes);
+        println!(
+            "expand, {name}: {} bytes, {} nodes",
+            stack - thread,
+            expanded.nodes
+        );
         let used = &layout[..expanded.words];
         let (fields, message, mut space) = ([8, 0, 1], b"1", vec![0; 50_000]);
         let stack = touched(&mut || {
-            order_gate::walk_message(dictionary, used, &fields, message, &mut space).expect("an answer");
+            order_gate::walk_message(dictionary, used, &fields, message, &mut space)
+                .expect("an answer");
         });
         println!("walk_message, {name}: {} bytes", stack - thread);
         let stack = touched(&mut || {
-            order_gate::verdicts(dictionary, &fields, message, true, &mut space).expect("an answer");
+            order_gate::verdicts(dictionary, &fields, message, true, &mut space)
+                .expect("an answer");
         });
         println!("verdicts, {name}: {} bytes", stack - thread);
     }
     let stack = touched(&mut || {
-        order_gate::read_layout(b"member=78\ngroup=78,79,1\nmember=79\nend=78\n", &mut layout).expect("a layout");
+        order_gate::read_layout(
+            b"member=78\ngroup=78,79,1\nmember=79\nend=78\n",
+            &mut layout,
+        )
+        .expect("a layout");
     });
     println!("read_layout: {} bytes", stack - thread);
 }
