@@ -4,9 +4,10 @@ use Prim.Native.Nat.{ℕ, suc, _+_, _*_, _-_, _≤_, _<_}
 use mathlib.Core.Bool.{Bool, true, false}
 use mathlib.Core.List.{List, _∷_}
 use native.Mathlib.Omega.{arith}
+use lib.Dec.{leb}
 use lib.ListN.{length, getD, take, drop}
 use lib.Seq.{drop-drop, getD-drop}
-use borrow.Author.Tests.{le-leb, lt-leb, eq-eqb, ne-eqb}
+use borrow.Author.Tests.{le-leb, lt-leb, leb-true, leb-false, eq-eqb, ne-eqb}
 use Rattle.ascii.specs.Notation.{isBetween}
 use Rattle.sorting.specs.Search.{isStrictlyAscending}
 use Rattle.texts.specs.declared.line.Line.{Line}
@@ -18,6 +19,9 @@ use Rattle.dictionary.specs.LineTexts.{lengthOf}
 use Rattle.dictionary.specs.declared.line_order.Standing.{Standing}
 use Rattle.dictionary.specs.LineOrder.{stateOf, standingOf}
 use Rattle.dictionary.specs.LineOrderLaws.{state-again}
+use Rattle.dictionary.specs.declared.line_runs.Run.{Run}
+use Rattle.dictionary.specs.LineRuns.{runBehind}
+use Rattle.dictionary.specs.LineRunsLaws.{acceptsBehind, runBehind-passes}
 use Rattle.dictionary.specs.DictionaryCheck.{isTaken, linesFrom, accepts, countOf, standsAt, standsEach, isIndex, tagsAt, componentsAt, messagesAt, sizeOf, isDictionary}
 
 -- ---- linesFrom
@@ -64,23 +68,56 @@ module _ (words : List ℕ) (lines : ℕ) (state : State) (total done at : ℕ) 
     accepts-faulty fault = so-far .rest ∙ rw (next-line, taken-same, fault)
 
     module _ (taken : next .taken ≡ true) (len : ℕ) (counted : len ≡ lengthOf line) where
-      pub accepts-long : 65536 < total + (len + 1) → accepts start 1 0 (linesFrom lines (drop 4 words)) ≡ false
+      line-long : 65536 < total + (len + 1) → accepts start 1 0 (linesFrom lines (drop 4 words)) ≡ false
       unfolding accepts
-      accepts-long over = so-far .rest ∙ rw (next-line, taken-same, taken, ← counted, lt-leb (total + (len + 1)) 65536 over)
+      line-long over = so-far .rest ∙ rw (next-line, taken-same, taken, ← counted, lt-leb (total + (len + 1)) 65536 over)
 
-      pub accepts-goes-on : (tags : List ℕ) → tags ≡ stepOf state (done + 1) line .next .counts
-          → total + (len + 1) ≤ 65536
-          → AcceptsSoFar words lines (stateOf next tags) (total + (len + 1)) (done + 1) (at + 10)
-      unfolding accepts
-      accepts-goes-on tags opens few =
-          let behind : stateOf next tags ≡ stepOf state (done + 1) line .next = rw (stands, opens) (state-again (stepOf state (done + 1) line)) in
-          record {
-            within = omega arith;
-            place = omega (arith, so-far .place);
-            few-open = rw behind (step-depth state (done + 1) (so-far .few-open) line);
-            few-bytes = few;
-            rest = so-far .rest ∙ rw (next-line, taken-same, taken, ← counted, le-leb (total + (len + 1)) 65536 few, behind);
-          }
+      module _ (tags : List ℕ) (opens : tags ≡ stepOf state (done + 1) line .next .counts) where
+        line-goes-on : total + (len + 1) ≤ 65536 → AcceptsSoFar words lines (stateOf next tags) (total + (len + 1)) (done + 1) (at + 10)
+        unfolding accepts
+        line-goes-on few =
+            let behind : stateOf next tags ≡ stepOf state (done + 1) line .next = rw (stands, opens) (state-again (stepOf state (done + 1) line)) in
+            record {
+              within = omega arith;
+              place = omega (arith, so-far .place);
+              few-open = rw behind (step-depth state (done + 1) (so-far .few-open) line);
+              few-bytes = few;
+              rest = so-far .rest ∙ rw (next-line, taken-same, taken, ← counted, le-leb (total + (len + 1)) 65536 few, behind);
+            }
+
+        -- the run behind the line is passed over
+        module _ (run : Run) (runs : run ≡ runBehind next (lines - done - 1) (drop (at + 10) words)) (inside-too : run .lines ≤ lines - done - 1) where
+          run-passed : total + (len + 1) ≤ 65536
+              → accepts start 1 0 (linesFrom lines (drop 4 words)) ≡ acceptsBehind (stateOf next tags) (done + 1 + 1) (total + (len + 1)) (lines - done - 1) (drop (at + 10) words) run
+          run-passed few =
+              let left : lines - (done + 1) ≡ lines - done - 1 = omega arith in
+              line-goes-on few .rest ∙ rw (left, runs) (runBehind-passes next tags (done + 1 + 1) (total + (len + 1)) (lines - done - 1) (drop (at + 10) words) few)
+
+          bytes-together : total + (len + 1) + run .bytes ≡ total + (len + 1 + run .bytes)
+          bytes-together = omega arith
+
+          long-by : (fits : Bool) → leb (total + (len + 1)) 65536 ≡ fits → 65536 < total + (len + 1 + run .bytes) → accepts start 1 0 (linesFrom lines (drop 4 words)) ≡ false
+          long-by true fits over =
+              run-passed (leb-true (total + (len + 1)) 65536 fits) ∙ rw (bytes-together, lt-leb (total + (len + 1 + run .bytes)) 65536 over)
+          long-by false long over = line-long (leb-false (total + (len + 1)) 65536 long)
+
+          pub accepts-long : 65536 < total + (len + 1 + run .bytes) → accepts start 1 0 (linesFrom lines (drop 4 words)) ≡ false
+          accepts-long over = long-by (leb (total + (len + 1)) 65536) refl over
+
+          pub accepts-goes-on : total + (len + 1 + run .bytes) ≤ 65536
+              → AcceptsSoFar words lines (stateOf next tags) (total + (len + 1 + run .bytes)) (done + (1 + run .lines)) (at + (10 + 10 * run .lines))
+          accepts-goes-on few =
+              let one-more = line-goes-on (omega arith) in
+              let number : done + 1 + 1 + run .lines ≡ done + (1 + run .lines) + 1 = omega arith in
+              let left : lines - done - 1 - run .lines ≡ lines - (done + (1 + run .lines)) = omega arith in
+              let behind : at + 10 + 10 * run .lines ≡ at + (10 + 10 * run .lines) = omega arith in
+              record {
+                within = omega arith;
+                place = omega (arith, so-far .place);
+                few-open = one-more .few-open;
+                few-bytes = few;
+                rest = run-passed (omega arith) ∙ rw (bytes-together, le-leb (total + (len + 1 + run .bytes)) 65536 few, number, left, drop-drop (10 * run .lines) (at + 10) words, behind);
+              }
 
 -- ---- countOf: the loop of `count_of`
 

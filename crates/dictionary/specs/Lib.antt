@@ -14,6 +14,8 @@ pub mod DictionaryWords
 pub mod DictionaryCheck
 pub mod LineOrder
 pub mod LineOrderLaws
+pub mod LineRuns
+pub mod LineRunsLaws
 pub mod DictionaryCheckLaws
 pub mod Definitions
 pub mod DictionaryCases

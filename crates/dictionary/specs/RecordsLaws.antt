@@ -5,15 +5,18 @@
 --   Words32 words     every word has 32 bits
 use mathlib.Core.Path.{_≡_, refl, sym, ap, _∙_}
 use Prim.Native.Nat.{ℕ, suc, _+_, _-_, _^_, _≤_, _<_}
-use mathlib.Core.Bool.{Bool, true, false, cond}
+use mathlib.Core.Bool.{Bool, true, false, cond, false≢true}
 use mathlib.Core.List.{List, [], _∷_}
 use native.Mathlib.Omega.{arith}
+use lib.Bits.{bitOr, and-le-l, and-le-r, or-add-and}
 use lib.Dec.{leb, ltb, eqb}
-use lib.ListN.{length, getD, take, drop, replicate, drop-of-length-le}
+use lib.ListN.{length, getD, take, drop, replicate, drop-of-length-le, length-drop, getD-replicate}
+use lib.Seq.{getD-drop}
 use borrow.Author.Tests.{lt-ltb, le-ltb, ltb-true, le-leb, leb-true, eq-eqb, ne-eqb, eqb-true, eqb-false}
+use Rattle.ascii.specs.Notation.{isBetween}
 use Rattle.ascii.specs.Bytes.{every}
 use Rattle.ascii.specs.BytesLaws.{drop-step, every-step, every-stop, every-end}
-use Rattle.ascii.specs.NotationLaws.{and-left, and-right}
+use Rattle.ascii.specs.NotationLaws.{and-left, and-right, and-true, and-false}
 use Rattle.texts.specs.declared.line.Line.{Line}
 use Rattle.texts.specs.declared.line.Line.the-variants.{Def, Value, BeginHeader, BeginTrailer, EndHeader, EndTrailer, Component, Message, Field, Group, Use, End, Member, RequiredTag, Unknown}
 use Rattle.texts.specs.declared.line_parts.Number32.{Number32}
@@ -330,3 +333,88 @@ module _ (words : List ℕ) (ten : length words ≡ 10) (small : Words32 words) 
 -- the ten words that `&words[at..past]` lends
 pub lineFrom-part : (words : List ℕ) (at past : ℕ) → past ≡ at + 10 → lineFrom (take (past - at) (drop at words)) ≡ lineFrom (take 10 (drop at words))
 lineFrom-part words at past same = let ten : past - at ≡ 10 = omega arith in rw ten
+
+-- ---- a record whose last seven words are 0: the tests of `is_short` and `holds_value_in`
+
+or-none : (a b : ℕ) → bitOr a b ≡ 0 → (a ≡ 0) × (b ≡ 0)
+or-none a b none =
+    let together = or-add-and a b in
+    let first = and-le-l a b in
+    let second = and-le-r a b in
+    (omega arith, omega arith)
+
+module _ (words : List ℕ) (ten : length words ≡ 10) where
+  abbrev lowWords : ℕ
+  lowWords = bitOr (bitOr (getD words 3 0) (getD words 4 0)) (getD words 5 0)
+
+  abbrev highWords : ℕ
+  highWords = bitOr (bitOr (bitOr (getD words 6 0) (getD words 7 0)) (getD words 8 0)) (getD words 9 0)
+
+  module _ (unused : isUnused 3 words ≡ true) where
+    seven-zeros : drop 3 words ≡ replicate 7 0
+    unfolding isUnused
+    seven-zeros =
+        let seven : length (drop 3 words) ≡ 7 = length-drop 3 words ∙ omega arith in
+        all-zero (drop 3 words) unused ∙ rw seven
+
+    zero-at : (index : ℕ) → index < 7 → getD words (3 + index) 0 ≡ 0
+    zero-at index inside = sym (getD-drop 3 words index 0) ∙ rw seven-zeros (getD-replicate 7 index 0 0 inside)
+
+    short-passes : eqb (bitOr lowWords highWords) 0 ≡ true
+    short-passes =
+        rw (
+          zero-at 0 (omega arith),
+          zero-at 1 (omega arith),
+          zero-at 2 (omega arith),
+          zero-at 3 (omega arith),
+          zero-at 4 (omega arith),
+          zero-at 5 (omega arith),
+          zero-at 6 (omega arith),
+        )
+
+    one-word : drop 2 words ≡ getD words 2 0 ∷ replicate 7 0
+    one-word = drop-step words 2 (omega arith) ∙ rw seven-zeros
+
+    no-bytes : holdsValue 0 (replicate 7 0) ≡ true
+    unfolding holdsValue holdsPart holdsByte
+    no-bytes = refl
+
+    pub short-value : (len : ℕ) → len ≤ 4 → holdsValue len (drop 2 words) ≡ holdsPart isVisible len (getD words 2 0)
+    unfolding holdsValue
+    short-value len few =
+        let none : len - 4 ≡ 0 = omega arith in
+        rw (one-word, none, no-bytes) (and-true (holdsPart isVisible len (getD words 2 0)))
+
+    zero-word : (left : ℕ) → 0 < left → holdsPart isVisible left 0 ≡ false
+    unfolding holdsPart holdsByte isBetween
+    zero-word left some = rw (lt-ltb 0 left some)
+
+    pub short-value-over : (len : ℕ) → 4 < len → holdsValue len (drop 2 words) ≡ false
+    unfolding holdsValue
+    short-value-over len over = rw (one-word, zero-word (len - 4) (omega arith)) (and-false (holdsPart isVisible len (getD words 2 0)))
+
+  short-fails-by : (test : Bool) → eqb (bitOr lowWords highWords) 0 ≡ test → isUnused 3 words ≡ false → test ≡ false
+  short-fails-by false fails used = refl
+  short-fails-by true holds used =
+      let halves = or-none lowWords highWords (eqb-true (bitOr lowWords highWords) 0 holds) in
+      let low = or-none (bitOr (getD words 3 0) (getD words 4 0)) (getD words 5 0) (halves .0) in
+      let lowest = or-none (getD words 3 0) (getD words 4 0) (low .0) in
+      let high = or-none (bitOr (bitOr (getD words 6 0) (getD words 7 0)) (getD words 8 0)) (getD words 9 0) (halves .1) in
+      let higher = or-none (bitOr (getD words 6 0) (getD words 7 0)) (getD words 8 0) (high .0) in
+      let highest = or-none (getD words 6 0) (getD words 7 0) (higher .0) in
+      let from3 = unused-begins 3 words (omega arith) in
+      let from4 = unused-goes-on 3 words 3 from3 (omega arith) (lowest .0) in
+      let from5 = unused-goes-on 3 words 4 from4 (omega arith) (lowest .1) in
+      let from6 = unused-goes-on 3 words 5 from5 (omega arith) (low .1) in
+      let from7 = unused-goes-on 3 words 6 from6 (omega arith) (highest .0) in
+      let from8 = unused-goes-on 3 words 7 from7 (omega arith) (highest .1) in
+      let from9 = unused-goes-on 3 words 8 from8 (omega arith) (higher .1) in
+      let from10 = unused-goes-on 3 words 9 from9 (omega arith) (high .1) in
+      absurd (false≢true (sym used ∙ unused-ends 3 words 10 from10 (omega arith)))
+
+  short-by : (unused : Bool) → isUnused 3 words ≡ unused → eqb (bitOr lowWords highWords) 0 ≡ unused
+  short-by true unused = short-passes unused
+  short-by false used = short-fails-by (eqb (bitOr lowWords highWords) 0) refl used
+
+  pub isUnused-short : eqb (bitOr lowWords highWords) 0 ≡ isUnused 3 words
+  isUnused-short = short-by (isUnused 3 words) refl

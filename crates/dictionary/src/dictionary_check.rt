@@ -1,6 +1,7 @@
 // The check of lent words: whether they begin with the arrangement of an accepted dictionary.
 use crate::line_order::Standing;
 use crate::line_order::next_standing;
+use crate::line_runs::run_behind;
 use crate::line_texts::length_of;
 use crate::records::line_at;
 use sorting::search::is_strictly_ascending;
@@ -27,7 +28,7 @@ fn may_end(stage: u8) -> bool
 
 // The lines of so many records are those of an accepted text, but for what is defined again.
 fn is_accepted(words: &[u32], lines: usize) -> bool
-    requires { ⌜ 4 + 10 * lines ≤ length (now words) ⌝ }
+    requires { ⌜ (lines ≤ 4294967295) × (4 + 10 * lines ≤ length (now words)) ⌝ }
     ensures { λ answer. ⌜ answer ≡ accepts start 1 0 (linesFrom lines (drop 4 (now (words .entry)))) ⌝ }
 {
     let mut counts = [0u32; 40];
@@ -47,13 +48,14 @@ fn is_accepted(words: &[u32], lines: usize) -> bool
         if !next.taken {
             return false;
         }
-        total += length_of(line) + 1;
+        let run = run_behind(next, lines - done - 1, words, at + 10);
+        total += length_of(line) + 1 + run.bytes;
         if 65536 < total {
             return false;
         }
         standing = next;
-        done += 1;
-        at += 10;
+        done += 1 + run.lines;
+        at += 10 + 10 * run.lines;
     }
     may_end(standing.stage)
 }

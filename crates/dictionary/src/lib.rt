@@ -3,5 +3,6 @@ pub mod defined_tags;
 pub mod definitions;
 pub mod dictionary_check;
 pub mod line_order;
+pub mod line_runs;
 pub mod line_texts;
 pub mod records;

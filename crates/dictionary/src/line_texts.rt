@@ -9,7 +9,7 @@ ghost use lib.ListN.{getD};
 ghost use Rattle.dictionary.specs.LineTexts.{digitCount, typeLengths, appLength, endLength, lengthOf};
 
 // How many digits the number has.
-fn digit_count(n: u32) -> usize
+pub fn digit_count(n: u32) -> usize
     ensures count { λ count. ⌜ count ≡ digitCount n ⌝ }
     ensures few { λ count. ⌜ count ≤ 10 ⌝ }
 {
@@ -44,7 +44,7 @@ fn digit_count(n: u32) -> usize
 }
 
 // How long the name of the FieldType at this place is.
-fn type_length(place: u32) -> usize
+pub fn type_length(place: u32) -> usize
     ensures length { λ len. ⌜ len ≡ getD typeLengths place 0 ⌝ }
     ensures few { λ len. ⌜ len ≤ 255 ⌝ }
 {

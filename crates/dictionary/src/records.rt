@@ -6,7 +6,7 @@ use texts::line_parts::Number32;
 use texts::line_parts::parse_number;
 ghost use mathlib.Core.Path.{_≡_};
 ghost use Prim.Native.Nat.{_+_, _-_, _≤_};
-ghost use lib.ListN.{length, take, drop};
+ghost use lib.ListN.{length, getD, take, drop};
 ghost use Rattle.ascii.specs.Notation.{isBetween};
 ghost use Rattle.texts.specs.LineParts.{numberOf, isAlphanumeric, isVisible};
 ghost use Rattle.dictionary.specs.Records.{holdsByte, holdsPart, lettersLength, lettersText, holdsLetters, holdsValue, isUnused, if-unused, defFrom, admittedFrom, valueFrom, messageFrom, fieldFrom, groupFrom, useFrom, endOfLetters, endOfNumber, outerFrom, bodyFrom, lineFrom};
@@ -127,6 +127,31 @@ fn holds_value(len: u32, words: &[u32]) -> bool
     left == 0
 }
 
+// The last seven words of a record are 0, as in that of every line but a group's and a value's of more than four bytes.
+pub fn is_short(words: &[u32]) -> bool
+    requires { ⌜ length (now words) ≡ 10 ⌝ }
+    ensures { λ answer. ⌜ answer ≡ isUnused 3 (now (words .entry)) ⌝ }
+{
+    // one test of all of them: a jump for each takes longer
+    let low = words[3] | words[4] | words[5];
+    let high = words[6] | words[7] | words[8] | words[9];
+    low | high == 0
+}
+
+// The record holds as many bytes 21 to 7E as it says, and 0 behind them.
+pub fn holds_value_in(words: &[u32]) -> bool
+    requires { ⌜ length (now words) ≡ 10 ⌝ }
+    ensures { λ answer. ⌜ answer ≡ holdsValue (getD (now (words .entry)) 1 0) (drop 2 (now (words .entry))) ⌝ }
+{
+    if is_short(words) {
+        if 4 < words[1] {
+            return false;
+        }
+        return holds_visible_part(words[1], words[2]);
+    }
+    holds_value(words[1], &words[2..])
+}
+
 // Every word behind the first `used` is 0.
 fn is_unused(used: usize, words: &[u32]) -> bool
     requires { ⌜ used ≤ length (now words) ⌝ }
@@ -186,7 +211,7 @@ fn value_from(words: &[u32]) -> Line
     if words[1] < 1 {
         return Line::Unknown;
     }
-    if holds_value(words[1], &words[2..]) {
+    if holds_value_in(words) {
         return Line::Value(admitted_from(words));
     }
     Line::Unknown

@@ -32,7 +32,20 @@ next-standing-requires c κs = c .before .before .before .loop .inv .few-open
 returns : tie.Need-returns Inv-loop μ-loop
 returns c = sym (accepts-faulty _ _ _ _ _ _ (c .before .before .before .before .before .before .loop .inv) (c .before .before .before .before .before .loop-test .taken) _ (c .before .before .before .before .line-at .ensures) _ (c .before .before .next-standing .ensures .0 _) (not-true _ (c .if1 .taken)))
 
--- total += length_of(line) + 1;
+-- let run = run_behind(next, lines - done - 1, words, at + 10);
+sub-run-behind : tie.Need-sub-run-behind Inv-loop μ-loop
+sub-run-behind c = search needs
+
+sub-run-behind-2 : tie.Need-sub-run-behind-2 Inv-loop μ-loop
+sub-run-behind-2 c = search needs
+
+add-run-behind : tie.Need-add-run-behind Inv-loop μ-loop
+add-run-behind c = search needs
+
+run-behind-requires : tie.Need-run-behind-requires Inv-loop μ-loop
+run-behind-requires c κs = (omega arith, omega (arith, c .before .before .before .before .before .before .loop .inv .place, c .before .before .before .before .before .before .before .before .pre))
+
+-- total += length_of(line) + 1 + run.bytes;
 length-of-requires : tie.Need-length-of-requires Inv-loop μ-loop
 length-of-requires c κs = search needs
 
@@ -40,26 +53,38 @@ add-total : tie.Need-add-total Inv-loop μ-loop
 add-total c = omega (arith, c .length-of .ensures .1)
 
 add-total-2 : tie.Need-add-total-2 Inv-loop μ-loop
-add-total-2 c = omega (arith, c .length-of .ensures .1, c .before .before .before .before .before .before .before .loop .inv .few-bytes)
+add-total-2 c = omega (arith, c .before .length-of .ensures .1, c .before .before .run-behind .ensures .1, c .before .before .before .before .before .before .before .before .before .before .before .pre)
+
+add-total-3 : tie.Need-add-total-3 Inv-loop μ-loop
+add-total-3 c = omega (arith, c .before .length-of .ensures .1, c .before .before .before .before .before .before .before .before .before .loop .inv .few-bytes, c .before .before .run-behind .ensures .1, c .before .before .before .before .before .before .before .before .before .before .before .pre)
 
 -- return false;
 returns-2 : tie.Need-returns-2 Inv-loop μ-loop
-returns-2 c = sym (accepts-long _ _ _ _ _ _ (c .before .before .before .before .before .before .before .before .loop .inv) (c .before .before .before .before .before .before .before .loop-test .taken) _ (c .before .before .before .before .before .before .line-at .ensures) _ (c .before .before .before .before .next-standing .ensures .0 _) (not-false _ (c .before .before .if1 .left)) _ (c .before .length-of .ensures .0) (c .if2 .taken))
+returns-2 c = sym (accepts-long _ _ _ _ _ _ (c .before .before .before .before .before .before .before .before .before .before .loop .inv) (c .before .before .before .before .before .before .before .before .before .loop-test .taken) _ (c .before .before .before .before .before .before .before .before .line-at .ensures) _ (c .before .before .before .before .before .before .next-standing .ensures .0 _) (not-false _ (c .before .before .before .before .if1 .left)) _ (c .before .before .length-of .ensures .0) _ (c .before .before .before .before .before .before .next-standing .ensures .1 _) _ (c .before .before .before .run-behind .ensures .0) (c .before .before .before .run-behind .ensures .1 .0) (c .if2 .taken))
 
--- done += 1;
+-- done += 1 + run.lines;
 add-done : tie.Need-add-done Inv-loop μ-loop
-add-done c = omega (arith, c .before .before .before .before .before .before .before .loop-test .taken, c .before .before .before .before .before .before .before .before .before .before .pre)
+add-done c = omega (arith, c .before .before .before .before .before .before .before .before .before .before .loop-test .taken, c .before .before .before .before .run-behind .ensures .1, c .before .before .before .before .before .before .before .before .before .before .before .before .before .pre)
 
--- at += 10;
+add-done-2 : tie.Need-add-done-2 Inv-loop μ-loop
+add-done-2 c = search needs
+
+-- at += 10 + 10 * run.lines;
+mul-at : tie.Need-mul-at Inv-loop μ-loop
+mul-at c = search needs
+
 add-at : tie.Need-add-at Inv-loop μ-loop
-add-at c = omega (arith, c .before .before .before .before .before .before .before .loop-test .taken, c .before .before .before .before .before .before .before .before .loop .inv .place, c .before .before .before .before .before .before .before .before .before .before .pre)
+add-at c = search needs
+
+add-at-2 : tie.Need-add-at-2 Inv-loop μ-loop
+add-at-2 c = search needs
 
 -- while done < lines {
 loop-less : tie.Need-loop-less Inv-loop μ-loop
-loop-less c = omega (arith, c .before .before .before .before .before .before .before .loop-test .taken)
+loop-less c = omega (arith, c .before .before .before .before .before .before .before .before .before .before .before .loop-test .taken)
 
 loop-again : tie.Need-loop-again Inv-loop μ-loop
-loop-again c = accepts-goes-on _ _ _ _ _ _ (c .before .before .before .before .before .before .before .before .loop .inv) (c .before .before .before .before .before .before .before .loop-test .taken) _ (c .before .before .before .before .before .before .line-at .ensures) _ (c .before .before .before .before .next-standing .ensures .0 _) (not-false _ (c .before .before .if1 .left)) _ (c .before .length-of .ensures .0) _ (c .before .before .before .before .next-standing .ensures .1 _) (c .if2 .left)
+loop-again c = accepts-goes-on _ _ _ _ _ _ (c .before .before .before .before .before .before .before .before .before .before .before .before .loop .inv) (c .before .before .before .before .before .before .before .before .before .before .before .loop-test .taken) _ (c .before .before .before .before .before .before .before .before .before .before .line-at .ensures) _ (c .before .before .before .before .before .before .before .before .next-standing .ensures .0 _) (not-false _ (c .before .before .before .before .before .before .if1 .left)) _ (c .before .before .before .before .length-of .ensures .0) _ (c .before .before .before .before .before .before .before .before .next-standing .ensures .1 _) _ (c .before .before .before .before .before .run-behind .ensures .0) (c .before .before .before .before .before .run-behind .ensures .1 .0) (c .before .before .if2 .left)
 
 -- may_end(standing.stage)
 may-end-requires : tie.Need-may-end-requires Inv-loop μ-loop
@@ -79,12 +104,20 @@ is-accepted-spec =
     line-at-requires
     next-standing-requires
     returns
+    sub-run-behind
+    sub-run-behind-2
+    add-run-behind
+    run-behind-requires
     length-of-requires
     add-total
     add-total-2
+    add-total-3
     returns-2
     add-done
+    add-done-2
+    mul-at
     add-at
+    add-at-2
     loop-less
     loop-again
     may-end-requires

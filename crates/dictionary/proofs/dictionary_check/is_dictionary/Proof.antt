@@ -74,7 +74,7 @@ returns-2 c = sym (dictionary-short _ (c .before .before .before .before .before
 
 -- if !is_accepted(words, lines) {
 is-accepted-requires : tie.Need-is-accepted-requires
-is-accepted-requires c κs = search needs
+is-accepted-requires c κs = (omega (arith, c .before .before .before .before .before .before .shared-slice-known .given 0), omega arith)
 
 -- return false;
 returns-3 : tie.Need-returns-3
