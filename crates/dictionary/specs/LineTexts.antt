@@ -104,6 +104,10 @@ digitCountFrom (suc digits) bound n = if n <ᵇ bound then 1 else suc (digitCoun
 unfoldable pub digitCount : ℕ → ℕ
 digitCount n = digitCountFrom 10 10 n
 
+-- 1 where the number is at least the bound
+abbrev pub reaches : ℕ → ℕ → ℕ
+reaches bound n = if n <ᵇ bound then 0 else 1
+
 -- the lengths of the names of `FieldType`, Int to Reserved
 abbrev pub typeLengths : List ℕ
 typeLengths =

@@ -18,7 +18,7 @@ use Rattle.texts.specs.declared.line_parts.Number32.the-variants.{Number}
 use Rattle.texts.specs.Lines.{positionOf, before, behind}
 use Rattle.texts.specs.LineParts.{noLeadingZero, numberOf, isAlphanumeric, isVisible}
 use Rattle.texts.specs.LinePartsLaws.{isBetween-inside}
-use Rattle.dictionary.specs.LineTexts.{digitsOf, numeral, digitCountFrom, digitCount}
+use Rattle.dictionary.specs.LineTexts.{digitsOf, numeral, digitCountFrom, digitCount, reaches}
 
 -- ---- every
 
@@ -222,3 +222,28 @@ digitsOf-length (suc digits) n = digitsOf-length-by (ltb n 10) digits n (digitsO
 pub numeral-length : (n : ℕ) → length (numeral n) ≡ digitCount n
 unfolding digitCount
 numeral-length n = digitsOf-length 10 n
+
+-- ---- digitCount as a sum: the tests of `digit_count`
+
+count-more-by : (digits bound n : ℕ) (few : Bool) → ltb n bound ≡ few
+    → cond few 1 (suc (digitCountFrom (suc digits) (10 * bound) n)) ≡ cond few 0 1 + digitCountFrom (suc digits) (10 * bound) n
+count-more-by digits bound n true few = let below = ltb-true n bound few in rw (lt-ltb n (10 * bound) (omega arith))
+count-more-by digits bound n false many = omega arith
+
+count-more : (digits bound n : ℕ) → digitCountFrom (suc (suc digits)) bound n ≡ reaches bound n + digitCountFrom (suc digits) (10 * bound) n
+count-more digits bound n = count-more-by digits bound n (ltb n bound) refl
+
+module _ (n : ℕ) where
+  pub digitCount-small : n < 10000 → 1 + reaches 10 n + reaches 100 n + reaches 1000 n ≡ digitCount n
+  unfolding digitCount
+  digitCount-small small =
+      let last : digitCountFrom 7 10000 n ≡ 1 = rw (lt-ltb n 10000 small) in
+      omega (arith, count-more 8 10 n, count-more 7 100 n, count-more 6 1000 n)
+
+  pub digitCount-large : 10000 ≤ n → n < 2 ^ 32
+      → 5 + reaches 100000 n + reaches 1000000 n + reaches 10000000 n + reaches 100000000 n + reaches 1000000000 n ≡ digitCount n
+  unfolding digitCount
+  digitCount-large large few =
+      let last : digitCountFrom 1 10000000000 n ≡ 1 = rw (lt-ltb n 10000000000 (omega arith)) in
+      rw (le-ltb n 10 (omega arith), le-ltb n 100 (omega arith), le-ltb n 1000 (omega arith), le-ltb n 10000 (omega arith))
+      (omega (arith, count-more 4 100000 n, count-more 3 1000000 n, count-more 2 10000000 n, count-more 1 100000000 n, count-more 0 1000000000 n))

@@ -1,14 +1,15 @@
 -- Laws of the bytes in words (`Records.antt`, `LineTexts.antt`): a T is read from `lettersText`, a V from `valueText`. Assumes nothing.
 use mathlib.Core.Path.{_≡_, refl, sym, ap, _∙_}
-use Prim.Native.Nat.{ℕ, zero, suc, _+_, _*_, _-_, _≤_, _<_}
+use Prim.Native.Nat.{ℕ, zero, suc, _+_, _*_, _-_, _%_, _≤_, _<_}
 use mathlib.Core.Bool.{Bool, true, false, _&&_, cond, false≢true}
 use mathlib.Core.List.{List, [], _∷_, append-nil}
 use native.Mathlib.Omega.{arith}
+use lib.Arith.{mod-mul}
 use lib.Dec.{leb, eqb}
 use lib.ListN.{length, getD, take, List·getD-eq-default}
 use lib.Seq.{length-take-le, take-all, take-nil}
 use borrow.Author.Tests.{leb-true, leb-false, eqb-true, eq-eqb, ne-eqb}
-use Rattle.ascii.specs.NotationLaws.{and-left, and-right}
+use Rattle.ascii.specs.NotationLaws.{and-left, and-right, and-true, and-false}
 use Rattle.ascii.specs.Bytes.{every}
 use Rattle.texts.specs.declared.line_parts.Flag.the-variants.{Required, Optional}
 use Rattle.texts.specs.declared.line_parts.MessageType.the-variants.{Letters}
@@ -17,7 +18,7 @@ use Rattle.texts.specs.declared.line_parts.ValueText.the-variants.{Bytes}
 use Rattle.texts.specs.Lines.{behind}
 use Rattle.texts.specs.LineParts.{flagOf, wordAt, isAlphanumeric, messageTypeOf, isVisible, admittedBytes, valueOf}
 use Rattle.texts.specs.LinePartsLaws.{messageTypeOf-letters, valueOf-bytes}
-use Rattle.dictionary.specs.Records.{byte0, byte1, byte2, byte3, bytesOf, holdsByte, holdsPart, lettersLength, lettersText, holdsLetters, holdsValue, valueWords}
+use Rattle.dictionary.specs.Records.{byte0, byte1, byte2, byte3, bytesOf, isZero, holdsByte, holdsPart, lettersLength, lettersText, holdsLetters, holdsValue, valueWords}
 use Rattle.dictionary.specs.RecordsLaws.{holdsByte-inside, holdsByte-behind}
 use Rattle.dictionary.specs.LineTexts.{flagText, bytesFrom, valueText}
 use Rattle.dictionary.specs.NumeralLaws.{every-append, every-weaker, isAbove, alphanumeric-above}
@@ -146,6 +147,34 @@ part-empty-by test word false other = sym (ne-eqb word 0 (λ zero-word. false≢
 
 pub part-empty : (test : ℕ → Bool) (word : ℕ) → holdsPart test 0 word ≡ eqb word 0
 part-empty test word = part-empty-by test word (holdsPart test 0 word) refl
+
+-- a part of one byte
+
+module _ (word : ℕ) where
+  abbrev behindFirst : Bool
+  behindFirst = isZero (byte1 word) && (isZero (byte2 word) && isZero (byte3 word))
+
+  behind-first-by : (held : Bool) → behindFirst ≡ held → held ≡ eqb (word % 16777216) 0
+  behind-first-by true held =
+      let others = and-right (isZero (byte1 word)) (isZero (byte2 word) && isZero (byte3 word)) held in
+      let first = eqb-true (byte1 word) 0 (and-left (isZero (byte1 word)) (isZero (byte2 word) && isZero (byte3 word)) held) in
+      let second = eqb-true (byte2 word) 0 (and-left (isZero (byte2 word)) (isZero (byte3 word)) others) in
+      let third = eqb-true (byte3 word) 0 (and-right (isZero (byte2 word)) (isZero (byte3 word)) others) in
+      let low : word % 65536 ≡ 0 = omega arith in
+      sym (eq-eqb (word % 16777216) 0 (omega (arith, mod-mul word {m = 256} {c = 65536} (omega arith) (omega arith))))
+  behind-first-by false other = sym (ne-eqb (word % 16777216) 0 (λ none. false≢true (sym other ∙ all-none none)))
+    where
+      all-none : word % 16777216 ≡ 0 → behindFirst ≡ true
+      all-none none = rw (eq-eqb (byte1 word) 0 (omega arith), eq-eqb (byte2 word) 0 (omega arith), eq-eqb (byte3 word) 0 (omega arith))
+
+  module _ (test : ℕ → Bool) where
+    pub part-one : word % 16777216 ≡ 0 → holdsPart test 1 word ≡ test (byte0 word)
+    unfolding holdsPart holdsByte
+    part-one none = rw (behind-first-by behindFirst refl, eq-eqb (word % 16777216) 0 none) (and-true (test (byte0 word)))
+
+    pub part-one-more : (word % 16777216 ≡ 0 → ⊥) → holdsPart test 1 word ≡ false
+    unfolding holdsPart holdsByte
+    part-one-more some = rw (behind-first-by behindFirst refl, ne-eqb (word % 16777216) 0 some) (and-false (test (byte0 word)))
 
 -- four bytes make the word again
 word-of : (bytes : List ℕ) (word : ℕ)

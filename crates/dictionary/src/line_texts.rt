@@ -6,41 +6,30 @@ use texts::line_parts::Number32;
 ghost use mathlib.Core.Path.{_≡_};
 ghost use Prim.Native.Nat.{_+_, _≤_};
 ghost use lib.ListN.{getD};
-ghost use Rattle.dictionary.specs.LineTexts.{digitCount, typeLengths, appLength, endLength, lengthOf};
+ghost use Rattle.dictionary.specs.LineTexts.{reaches, digitCount, typeLengths, appLength, endLength, lengthOf};
 
-// How many digits the number has.
+// 1 where the number is at least the bound.
+fn reaches(bound: u32, n: u32) -> usize
+    ensures one { λ one. ⌜ one ≡ reaches bound n ⌝ }
+    ensures few { λ one. ⌜ one ≤ 1 ⌝ }
+{
+    if n < bound { 0 } else { 1 }
+}
+
+// How many digits the number has. Sums, since a jump that hangs on the number is often wrong.
 pub fn digit_count(n: u32) -> usize
     ensures count { λ count. ⌜ count ≡ digitCount n ⌝ }
     ensures few { λ count. ⌜ count ≤ 10 ⌝ }
 {
-    if n < 10 {
-        return 1;
-    }
-    if n < 100 {
-        return 2;
-    }
-    if n < 1000 {
-        return 3;
-    }
     if n < 10000 {
-        return 4;
+        return 1 + reaches(10, n) + reaches(100, n) + reaches(1000, n);
     }
-    if n < 100000 {
-        return 5;
-    }
-    if n < 1000000 {
-        return 6;
-    }
-    if n < 10000000 {
-        return 7;
-    }
-    if n < 100000000 {
-        return 8;
-    }
-    if n < 1000000000 {
-        return 9;
-    }
-    10
+    5
+        + reaches(100000, n)
+        + reaches(1000000, n)
+        + reaches(10000000, n)
+        + reaches(100000000, n)
+        + reaches(1000000000, n)
 }
 
 // How long the name of the FieldType at this place is.

@@ -85,12 +85,24 @@ fn holds_letters(word: u32) -> bool
     holds_letter(left, 3, word % 0x100)
 }
 
+fn holds_one_visible(word: u32) -> bool
+    ensures { λ answer. ⌜ answer ≡ holdsPart isVisible 1 word ⌝ }
+{
+    if word % 0x100_0000 != 0 {
+        return false;
+    }
+    is_between(0x21, 0x7E, word / 0x100_0000)
+}
+
 fn holds_visible_part(left: u32, word: u32) -> bool
     ensures { λ answer. ⌜ answer ≡ holdsPart isVisible left word ⌝ }
 {
-    // most values are short: the words behind their bytes need one look each
+    // most values are short: one byte, and the words behind it need one look each
     if left == 0 {
         return word == 0;
+    }
+    if left == 1 {
+        return holds_one_visible(word);
     }
     if !holds_visible(left, 0, word / 0x100_0000) {
         return false;
@@ -211,7 +223,7 @@ fn value_from(words: &[u32]) -> Line
     if words[1] < 1 {
         return Line::Unknown;
     }
-    if holds_value_in(words) {
+    if holds_value(words[1], &words[2..]) {
         return Line::Value(admitted_from(words));
     }
     Line::Unknown
