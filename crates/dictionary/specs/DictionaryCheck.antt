@@ -6,6 +6,7 @@
 --   accepts state number total lines   lines from this number on, read in this state behind so many bytes, are those of an accepted text, but for row 5
 --   isIndex kind at count words  the index at this place has the names of all records of this kind, each once, and where they stand
 --   isDictionary words           the words begin with the arrangement of an accepted dictionary
+use mathlib.Core.Path.{_≡_}
 use Prim.Native.Nat.{ℕ, zero, suc, _+_, _*_}
 use mathlib.Core.Bool.{Bool, true, false, _&&_}
 use mathlib.Core.List.{List, [], _∷_}
@@ -44,6 +45,15 @@ accepts state number total (line ∷ rest) =
 unfoldable pub countOf : ℕ → ℕ → List ℕ → ℕ
 countOf kind zero words = 0
 countOf kind (suc count) words = if getD words 0 0 ≡ᵇ kind then suc (countOf kind count (drop 10 words)) else countOf kind count (drop 10 words)
+
+abbrev pub countOne : ℕ → ℕ → ℕ
+countOne found kind = if found ≡ᵇ kind then 1 else 0
+
+-- so many records are definitions, components and messages
+pub record Counted (lines : ℕ) (words : List ℕ) (tags components messages : ℕ) : Type 0 where
+  pub of-tags : tags ≡ countOf kinds.definitions lines words
+  pub of-components : components ≡ countOf kinds.components lines words
+  pub of-messages : messages ≡ countOf kinds.messages lines words
 
 -- the record with this number is of this kind and has this name
 unfoldable pub standsAt : ℕ → ℕ → ℕ → List ℕ → Bool

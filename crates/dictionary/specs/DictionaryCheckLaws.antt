@@ -1,13 +1,13 @@
 -- Laws of `DictionaryCheck.antt`: its loops, turn by turn, and its tests, one by one. Assumes nothing.
 use mathlib.Core.Path.{_≡_, refl, sym, _∙_}
 use Prim.Native.Nat.{ℕ, suc, _+_, _*_, _-_, _≤_, _<_}
-use mathlib.Core.Bool.{Bool, true, false}
+use mathlib.Core.Bool.{Bool, true, false, cond}
 use mathlib.Core.List.{List, _∷_}
 use native.Mathlib.Omega.{arith}
-use lib.Dec.{leb}
+use lib.Dec.{leb, eqb}
 use lib.ListN.{length, getD, take, drop}
 use lib.Seq.{drop-drop, getD-drop}
-use borrow.Author.Tests.{le-leb, lt-leb, leb-true, leb-false, eq-eqb, ne-eqb}
+use borrow.Author.Tests.{le-leb, lt-leb, leb-true, leb-false, eq-eqb, ne-eqb, eqb-true, eqb-false}
 use Rattle.ascii.specs.Notation.{isBetween}
 use Rattle.sorting.specs.Search.{isStrictlyAscending}
 use Rattle.texts.specs.declared.line.Line.{Line}
@@ -22,7 +22,7 @@ use Rattle.dictionary.specs.LineOrderLaws.{state-again}
 use Rattle.dictionary.specs.declared.line_runs.Run.{Run}
 use Rattle.dictionary.specs.LineRuns.{runBehind}
 use Rattle.dictionary.specs.LineRunsLaws.{acceptsBehind, runBehind-passes}
-use Rattle.dictionary.specs.DictionaryCheck.{isTaken, linesFrom, accepts, countOf, standsAt, standsEach, isIndex, tagsAt, componentsAt, messagesAt, sizeOf, isDictionary}
+use Rattle.dictionary.specs.DictionaryCheck.{isTaken, linesFrom, accepts, countOf, countOne, standsAt, standsEach, isIndex, tagsAt, componentsAt, messagesAt, sizeOf, isDictionary}
 
 -- ---- linesFrom
 
@@ -119,7 +119,7 @@ module _ (words : List ℕ) (lines : ℕ) (state : State) (total done at : ℕ) 
                 rest = run-passed (omega arith) ∙ rw (bytes-together, le-leb (total + (len + 1 + run .bytes)) 65536 few, number, left, drop-drop (10 * run .lines) (at + 10) words, behind);
               }
 
--- ---- countOf: the loop of `count_of`
+-- ---- countOf: the loop of `counts_of`
 
 pub record CountSoFar (kind : ℕ) (words : List ℕ) (lines count done at : ℕ) : Type 0 where
   pub within : done ≤ lines
@@ -144,7 +144,7 @@ module _ (kind : ℕ) (words : List ℕ) (lines count done at : ℕ) (so-far : C
     first-word : getD (drop at words) 0 0 ≡ getD words at 0
     first-word = let same : at + 0 ≡ at = omega arith in getD-drop at words 0 0 ∙ rw same
 
-    pub count-adds : getD words at 0 ≡ kind → CountSoFar kind words lines (count + 1) (done + 1) (at + 10)
+    count-adds : getD words at 0 ≡ kind → CountSoFar kind words lines (count + 1) (done + 1) (at + 10)
     unfolding countOf
     count-adds same =
         let more : lines - done ≡ suc (lines - (done + 1)) = omega arith in
@@ -152,13 +152,20 @@ module _ (kind : ℕ) (words : List ℕ) (lines count done at : ℕ) (so-far : C
         rw (more, first-word, eq-eqb (getD words at 0) kind same, drop-drop 10 at words) in
         record { within = omega arith; place = omega (arith, so-far .place); few = omega (arith, so-far .few); rest = omega (arith, so-far .rest) }
 
-    pub count-skips : (getD words at 0 ≡ kind → ⊥) → CountSoFar kind words lines count (done + 1) (at + 10)
+    count-skips : (getD words at 0 ≡ kind → ⊥) → CountSoFar kind words lines count (done + 1) (at + 10)
     unfolding countOf
     count-skips other =
         let more : lines - done ≡ suc (lines - (done + 1)) = omega arith in
         let step : countOf kind (lines - done) (drop at words) ≡ countOf kind (lines - (done + 1)) (drop (at + 10) words) =
         rw (more, first-word, ne-eqb (getD words at 0) kind other, drop-drop 10 at words) in
         record { within = omega arith; place = omega (arith, so-far .place); few = omega (arith, so-far .few); rest = omega (arith, so-far .rest) }
+
+    count-step-by : (same : Bool) → eqb (getD words at 0) kind ≡ same → CountSoFar kind words lines (count + cond same 1 0) (done + 1) (at + 10)
+    count-step-by true same = count-adds (eqb-true (getD words at 0) kind same)
+    count-step-by false other = let none : count + 0 ≡ count = omega arith in rw none (count-skips (eqb-false (getD words at 0) kind other))
+
+    pub count-step : (one : ℕ) → one ≡ countOne (getD words at 0) kind → CountSoFar kind words lines (count + one) (done + 1) (at + 10)
+    count-step one counts = rw counts (count-step-by (eqb (getD words at 0) kind) refl)
 
 -- ---- standsEach: the loop of `stands_each`
 

@@ -13,10 +13,9 @@ use lib.Dec.{leb, ltb, eqb}
 use lib.ListN.{length, getD, take, drop, replicate, drop-of-length-le, length-drop, getD-replicate}
 use lib.Seq.{getD-drop}
 use borrow.Author.Tests.{lt-ltb, le-ltb, ltb-true, le-leb, leb-true, eq-eqb, ne-eqb, eqb-true, eqb-false}
-use Rattle.ascii.specs.Notation.{isBetween}
 use Rattle.ascii.specs.Bytes.{every}
 use Rattle.ascii.specs.BytesLaws.{drop-step, every-step, every-stop, every-end}
-use Rattle.ascii.specs.NotationLaws.{and-left, and-right, and-true, and-false}
+use Rattle.ascii.specs.NotationLaws.{and-left, and-right}
 use Rattle.texts.specs.declared.line.Line.{Line}
 use Rattle.texts.specs.declared.line.Line.the-variants.{Def, Value, BeginHeader, BeginTrailer, EndHeader, EndTrailer, Component, Message, Field, Group, Use, End, Member, RequiredTag, Unknown}
 use Rattle.texts.specs.declared.line_parts.Number32.{Number32}
@@ -334,7 +333,7 @@ module _ (words : List ℕ) (ten : length words ≡ 10) (small : Words32 words) 
 pub lineFrom-part : (words : List ℕ) (at past : ℕ) → past ≡ at + 10 → lineFrom (take (past - at) (drop at words)) ≡ lineFrom (take 10 (drop at words))
 lineFrom-part words at past same = let ten : past - at ≡ 10 = omega arith in rw ten
 
--- ---- a record whose last seven words are 0: the tests of `is_short` and `holds_value_in`
+-- ---- isUnused 3: the test of `is_short`
 
 or-none : (a b : ℕ) → bitOr a b ≡ 0 → (a ≡ 0) × (b ≡ 0)
 or-none a b none =
@@ -371,27 +370,6 @@ module _ (words : List ℕ) (ten : length words ≡ 10) where
           zero-at 5 (omega arith),
           zero-at 6 (omega arith),
         )
-
-    one-word : drop 2 words ≡ getD words 2 0 ∷ replicate 7 0
-    one-word = drop-step words 2 (omega arith) ∙ rw seven-zeros
-
-    no-bytes : holdsValue 0 (replicate 7 0) ≡ true
-    unfolding holdsValue holdsPart holdsByte
-    no-bytes = refl
-
-    pub short-value : (len : ℕ) → len ≤ 4 → holdsValue len (drop 2 words) ≡ holdsPart isVisible len (getD words 2 0)
-    unfolding holdsValue
-    short-value len few =
-        let none : len - 4 ≡ 0 = omega arith in
-        rw (one-word, none, no-bytes) (and-true (holdsPart isVisible len (getD words 2 0)))
-
-    zero-word : (left : ℕ) → 0 < left → holdsPart isVisible left 0 ≡ false
-    unfolding holdsPart holdsByte isBetween
-    zero-word left some = rw (lt-ltb 0 left some)
-
-    pub short-value-over : (len : ℕ) → 4 < len → holdsValue len (drop 2 words) ≡ false
-    unfolding holdsValue
-    short-value-over len over = rw (one-word, zero-word (len - 4) (omega arith)) (and-false (holdsPart isVisible len (getD words 2 0)))
 
   short-fails-by : (test : Bool) → eqb (bitOr lowWords highWords) 0 ≡ test → isUnused 3 words ≡ false → test ≡ false
   short-fails-by false fails used = refl

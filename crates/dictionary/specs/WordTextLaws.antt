@@ -6,11 +6,12 @@ use mathlib.Core.List.{List, [], _∷_, append-nil}
 use native.Mathlib.Omega.{arith}
 use lib.Arith.{mod-mul}
 use lib.Dec.{leb, eqb}
-use lib.ListN.{length, getD, take, List·getD-eq-default}
+use lib.ListN.{length, getD, take, drop, List·getD-eq-default}
 use lib.Seq.{length-take-le, take-all, take-nil}
 use borrow.Author.Tests.{leb-true, leb-false, eqb-true, eq-eqb, ne-eqb}
 use Rattle.ascii.specs.NotationLaws.{and-left, and-right, and-true, and-false}
 use Rattle.ascii.specs.Bytes.{every}
+use Rattle.ascii.specs.BytesLaws.{drop-step}
 use Rattle.texts.specs.declared.line_parts.Flag.the-variants.{Required, Optional}
 use Rattle.texts.specs.declared.line_parts.MessageType.the-variants.{Letters}
 use Rattle.texts.specs.declared.line_parts.Admitted.{Admitted}
@@ -18,7 +19,7 @@ use Rattle.texts.specs.declared.line_parts.ValueText.the-variants.{Bytes}
 use Rattle.texts.specs.Lines.{behind}
 use Rattle.texts.specs.LineParts.{flagOf, wordAt, isAlphanumeric, messageTypeOf, isVisible, admittedBytes, valueOf}
 use Rattle.texts.specs.LinePartsLaws.{messageTypeOf-letters, valueOf-bytes}
-use Rattle.dictionary.specs.Records.{byte0, byte1, byte2, byte3, bytesOf, isZero, holdsByte, holdsPart, lettersLength, lettersText, holdsLetters, holdsValue, valueWords}
+use Rattle.dictionary.specs.Records.{byte0, byte1, byte2, byte3, bytesOf, isZero, holdsByte, holdsPart, lettersLength, lettersText, holdsLetters, holdsValue, valueWords, isUnused}
 use Rattle.dictionary.specs.RecordsLaws.{holdsByte-inside, holdsByte-behind}
 use Rattle.dictionary.specs.LineTexts.{flagText, bytesFrom, valueText}
 use Rattle.dictionary.specs.NumeralLaws.{every-append, every-weaker, isAbove, alphanumeric-above}
@@ -147,6 +148,27 @@ part-empty-by test word false other = sym (ne-eqb word 0 (λ zero-word. false≢
 
 pub part-empty : (test : ℕ → Bool) (word : ℕ) → holdsPart test 0 word ≡ eqb word 0
 part-empty test word = part-empty-by test word (holdsPart test 0 word) refl
+
+-- the words behind the bytes of a value are 0
+
+holdsValue-none : (words : List ℕ) → holdsValue 0 words ≡ every isZero words
+unfolding holdsValue every
+holdsValue-none [] = refl
+holdsValue-none (word ∷ rest) = rw (part-empty isVisible word, holdsValue-none rest)
+
+-- the bytes of a record that says at most four stand in one word
+module _ (words : List ℕ) (ten : length words ≡ 10) (len : ℕ) (few : len ≤ 4) where
+  value-in-one : holdsValue len (drop 2 words) ≡ holdsPart isVisible len (getD words 2 0) && isUnused 3 words
+  unfolding holdsValue isUnused
+  value-in-one =
+      let none : len - 4 ≡ 0 = omega arith in
+      rw (drop-step words 2 (omega arith), none, holdsValue-none (drop 3 words))
+
+  pub short-value : isUnused 3 words ≡ true → holdsValue len (drop 2 words) ≡ holdsPart isVisible len (getD words 2 0)
+  short-value unused = value-in-one ∙ rw unused (and-true (holdsPart isVisible len (getD words 2 0)))
+
+  pub short-value-more : isUnused 3 words ≡ false → holdsValue len (drop 2 words) ≡ false
+  short-value-more used = value-in-one ∙ rw used (and-false (holdsPart isVisible len (getD words 2 0)))
 
 -- a part of one byte
 

@@ -14,7 +14,7 @@ ghost use Prim.Native.Nat.{_+_, _*_, _≤_};
 ghost use lib.ListN.{length, getD, drop};
 ghost use Rattle.ascii.specs.Notation.{isBetween};
 ghost use Rattle.texts.specs.DictionaryOrder.{start, behindTrailer, behindMessage};
-ghost use Rattle.dictionary.specs.DictionaryCheck.{linesFrom, accepts, countOf, standsAt, standsEach, isIndex, isDictionary};
+ghost use Rattle.dictionary.specs.DictionaryCheck.{linesFrom, accepts, countOf, countOne, Counted, standsAt, standsEach, isIndex, isDictionary};
 
 // A text may end here: behind its trailer, and with no block open.
 fn may_end(stage: u8) -> bool
@@ -60,23 +60,44 @@ fn is_accepted(words: &[u32], lines: usize) -> bool
     may_end(standing.stage)
 }
 
-// How many of so many records are of this kind.
-fn count_of(words: &[u32], lines: usize, kind: u32) -> usize
-    requires { ⌜ 4 + 10 * lines ≤ length (now words) ⌝ }
-    ensures { λ count. ⌜ count ≡ countOf kind lines (drop 4 (now (words .entry))) ⌝ }
+// How many records define a tag, a component, a message.
+struct Counts {
+    tags: usize,
+    components: usize,
+    messages: usize,
+}
+
+// 1 for a record of this kind.
+fn count_one(found: u32, kind: u32) -> usize
+    ensures one { λ one. ⌜ one ≡ countOne found kind ⌝ }
+    ensures few { λ one. ⌜ one ≤ 1 ⌝ }
 {
-    let mut count: usize = 0;
+    if found == kind { 1 } else { 0 }
+}
+
+// How many of so many records are definitions, components and messages.
+fn counts_of(words: &[u32], lines: usize) -> Counts
+    requires { ⌜ 4 + 10 * lines ≤ length (now words) ⌝ }
+    ensures { λ counts. ⌜ Counted lines (drop 4 (now (words .entry))) (counts .tags) (counts .components) (counts .messages) ⌝ }
+{
+    let mut tags: usize = 0;
+    let mut components: usize = 0;
+    let mut messages: usize = 0;
     let mut done: usize = 0;
     let mut at: usize = 4;
     while done < lines {
         let found = words[at];
+        tags += count_one(found, 1);
+        components += count_one(found, 5);
+        messages += count_one(found, 6);
         done += 1;
         at += 10;
-        if found == kind {
-            count += 1;
-        }
     }
-    count
+    Counts {
+        tags,
+        components,
+        messages,
+    }
 }
 
 // The record with this number is of this kind and has this name.
@@ -113,12 +134,12 @@ fn stands_each(words: &[u32], kind: u32, at: usize, count: usize) -> bool
 }
 
 // The index at this place has the names of all records of this kind, each once, and where they stand.
-fn is_index(words: &[u32], kind: u32, at: usize, count: usize) -> bool
+fn is_index(words: &[u32], kind: u32, at: usize, count: usize, counted: usize) -> bool
     requires { ⌜ (4 ≤ length (now words)) × ((4 + 10 * getD (now words) 0 0 ≤ length (now words)) × (at + 2 * count ≤ length (now words))) ⌝ }
+    requires counted { ⌜ counted ≡ countOf kind (getD (now words) 0 0) (drop 4 (now words)) ⌝ }
     ensures { λ answer. ⌜ answer ≡ isIndex kind at count (now (words .entry)) ⌝ }
 {
-    let lines = words[0] as usize;
-    if count_of(words, lines, kind) != count {
+    if counted != count {
         return false;
     }
     let past = at + count;
@@ -149,11 +170,12 @@ pub fn is_dictionary(words: &[u32]) -> bool
     if !is_accepted(words, lines) {
         return false;
     }
-    if !is_index(words, 1, tags_at, tags) {
+    let counts = counts_of(words, lines);
+    if !is_index(words, 1, tags_at, tags, counts.tags) {
         return false;
     }
-    if !is_index(words, 5, components_at, components) {
+    if !is_index(words, 5, components_at, components, counts.components) {
         return false;
     }
-    is_index(words, 6, messages_at, messages)
+    is_index(words, 6, messages_at, messages, counts.messages)
 }

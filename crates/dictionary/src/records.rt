@@ -155,8 +155,8 @@ pub fn holds_value_in(words: &[u32]) -> bool
     requires { ⌜ length (now words) ≡ 10 ⌝ }
     ensures { λ answer. ⌜ answer ≡ holdsValue (getD (now (words .entry)) 1 0) (drop 2 (now (words .entry))) ⌝ }
 {
-    if is_short(words) {
-        if 4 < words[1] {
+    if words[1] <= 4 {
+        if !is_short(words) {
             return false;
         }
         return holds_visible_part(words[1], words[2]);

@@ -7,20 +7,9 @@ use borrow.Author.Needs.{needs}
 use Rattle.dictionary.proofs.dictionary_check.is_index.Statement.{statement}
 use Rattle.dictionary.proofs.dictionary_check.is_index.Tie as tie
 
--- let lines = words[0] as usize;
-shared-slice-read-lines : tie.Need-shared-slice-read-lines
-shared-slice-read-lines c = search needs
-
-cast-lines : tie.Need-cast-lines
-cast-lines c = search needs
-
--- if count_of(words, lines, kind) != count {
-count-of-requires : tie.Need-count-of-requires
-count-of-requires c κs = search needs
-
 -- return false;
 returns : tie.Need-returns
-returns c = sym (index-miscounted (c .before .before .before .before .args .kind) (c .before .before .before .before .args .at) (c .before .before .before .before .args .count) (c .before .before .before .before .args .words .now) _ (c .before .count-of .ensures) (c .if1 .taken))
+returns c = sym (index-miscounted (c .before .before .args .kind) (c .before .before .args .at) (c .before .before .args .count) (c .before .before .args .words .now) _ (c .before .before .pre .1) (c .if1 .taken))
 
 -- let past = at + count;
 add-past : tie.Need-add-past
@@ -44,23 +33,20 @@ is-strictly-ascending-requires c κs = search needs
 
 -- return false;
 returns-2 : tie.Need-returns-2
-returns-2 c = sym (index-unordered (c .before .before .before .before .before .before .before .args .kind) (c .before .before .before .before .before .before .before .args .at) (c .before .before .before .before .before .before .before .args .count) (c .before .before .before .before .before .before .before .args .words .now) _ (c .before .before .before .before .count-of .ensures) (c .before .before .before .if1 .left) _ (c .before .is-strictly-ascending .ensures) (not-true _ (c .if2 .taken)))
+returns-2 c = sym (index-unordered (c .before .before .before .before .before .args .kind) (c .before .before .before .before .before .args .at) (c .before .before .before .before .before .args .count) (c .before .before .before .before .before .args .words .now) _ (c .before .before .before .before .before .pre .1) (c .before .before .before .if1 .left) _ (c .before .is-strictly-ascending .ensures) (not-true _ (c .if2 .taken)))
 
 -- stands_each(words, kind, at, count)
 stands-each-requires : tie.Need-stands-each-requires
 stands-each-requires c κs = search needs
 
--- fn is_index(words: &[u32], kind: u32, at: usize, count: usize) -> bool
+-- fn is_index(words: &[u32], kind: u32, at: usize, count: usize, counted: usize) -> bool
 returns-3 : tie.Need-returns-3
-returns-3 c = c .stands-each .ensures ∙ sym (index-ordered (c .before .before .before .before .before .before .before .before .args .kind) (c .before .before .before .before .before .before .before .before .args .at) (c .before .before .before .before .before .before .before .before .args .count) (c .before .before .before .before .before .before .before .before .args .words .now) _ (c .before .before .before .before .before .count-of .ensures) (c .before .before .before .before .if1 .left) _ (c .before .before .is-strictly-ascending .ensures) (not-false _ (c .before .if2 .left)))
+returns-3 c = c .stands-each .ensures ∙ sym (index-ordered (c .before .before .before .before .before .before .args .kind) (c .before .before .before .before .before .before .args .at) (c .before .before .before .before .before .before .args .count) (c .before .before .before .before .before .before .args .words .now) _ (c .before .before .before .before .before .before .pre .1) (c .before .before .before .before .if1 .left) _ (c .before .before .is-strictly-ascending .ensures) (not-false _ (c .before .if2 .left)))
 
 pub is-index-spec : {M : Type 1} → statement M
 is-index-spec =
     tie.close
     (tie.spec
-    shared-slice-read-lines
-    cast-lines
-    count-of-requires
     returns
     add-past
     mul-is-strictly-ascending
