@@ -62,13 +62,13 @@ fn is_accepted(words: &[u32], lines: usize) -> bool
 
 // How many records define a tag, a component, a message.
 struct Counts {
-    tags: usize,
-    components: usize,
-    messages: usize,
+    tags: u32,
+    components: u32,
+    messages: u32,
 }
 
 // 1 for a record of this kind.
-fn count_one(found: u32, kind: u32) -> usize
+fn count_one(found: u32, kind: u32) -> u32
     ensures one { λ one. ⌜ one ≡ countOne found kind ⌝ }
     ensures few { λ one. ⌜ one ≤ 1 ⌝ }
 {
@@ -77,12 +77,12 @@ fn count_one(found: u32, kind: u32) -> usize
 
 // How many of so many records are definitions, components and messages.
 fn counts_of(words: &[u32], lines: usize) -> Counts
-    requires { ⌜ 4 + 10 * lines ≤ length (now words) ⌝ }
+    requires { ⌜ (lines ≤ 4294967295) × (4 + 10 * lines ≤ length (now words)) ⌝ }
     ensures { λ counts. ⌜ Counted lines (drop 4 (now (words .entry))) (counts .tags) (counts .components) (counts .messages) ⌝ }
 {
-    let mut tags: usize = 0;
-    let mut components: usize = 0;
-    let mut messages: usize = 0;
+    let mut tags: u32 = 0;
+    let mut components: u32 = 0;
+    let mut messages: u32 = 0;
     let mut done: usize = 0;
     let mut at: usize = 4;
     while done < lines {
@@ -134,12 +134,12 @@ fn stands_each(words: &[u32], kind: u32, at: usize, count: usize) -> bool
 }
 
 // The index at this place has the names of all records of this kind, each once, and where they stand.
-fn is_index(words: &[u32], kind: u32, at: usize, count: usize, counted: usize) -> bool
+fn is_index(words: &[u32], kind: u32, at: usize, count: usize, counted: u32) -> bool
     requires { ⌜ (4 ≤ length (now words)) × ((4 + 10 * getD (now words) 0 0 ≤ length (now words)) × (at + 2 * count ≤ length (now words))) ⌝ }
     requires counted { ⌜ counted ≡ countOf kind (getD (now words) 0 0) (drop 4 (now words)) ⌝ }
     ensures { λ answer. ⌜ answer ≡ isIndex kind at count (now (words .entry)) ⌝ }
 {
-    if counted != count {
+    if counted as usize != count {
         return false;
     }
     let past = at + count;

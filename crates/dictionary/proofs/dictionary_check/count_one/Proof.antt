@@ -5,7 +5,7 @@ use borrow.Author.Tests.{eq-eqb, ne-eqb}
 use Rattle.dictionary.proofs.dictionary_check.count_one.Statement.{statement}
 use Rattle.dictionary.proofs.dictionary_check.count_one.Tie as tie
 
--- fn count_one(found: u32, kind: u32) -> usize
+-- fn count_one(found: u32, kind: u32) -> u32
 returns : tie.Need-returns
 returns c = (rw (eq-eqb _ _ (c .if1 .taken)), omega arith)
 

@@ -82,7 +82,7 @@ returns-3 c = sym (dictionary-disordered (c .before .before .before .before .bef
 
 -- let counts = counts_of(words, lines);
 counts-of-requires : tie.Need-counts-of-requires
-counts-of-requires c κs = omega arith
+counts-of-requires c κs = (omega (arith, c .before .before .before .before .before .before .before .before .shared-slice-known .given 0), omega arith)
 
 -- if !is_index(words, 1, tags_at, tags, counts.tags) {
 is-index-requires : tie.Need-is-index-requires

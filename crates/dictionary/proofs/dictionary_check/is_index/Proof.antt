@@ -39,7 +39,7 @@ returns-2 c = sym (index-unordered (c .before .before .before .before .before .a
 stands-each-requires : tie.Need-stands-each-requires
 stands-each-requires c κs = search needs
 
--- fn is_index(words: &[u32], kind: u32, at: usize, count: usize, counted: usize) -> bool
+-- fn is_index(words: &[u32], kind: u32, at: usize, count: usize, counted: u32) -> bool
 returns-3 : tie.Need-returns-3
 returns-3 c = c .stands-each .ensures ∙ sym (index-ordered (c .before .before .before .before .before .before .args .kind) (c .before .before .before .before .before .before .args .at) (c .before .before .before .before .before .before .args .count) (c .before .before .before .before .before .before .args .words .now) _ (c .before .before .before .before .before .before .pre .1) (c .before .before .before .before .if1 .left) _ (c .before .before .is-strictly-ascending .ensures) (not-false _ (c .before .if2 .left)))
 
