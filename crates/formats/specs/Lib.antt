@@ -5,6 +5,7 @@ pub mod CountLaws
 pub mod Boolean
 pub mod BooleanLaws
 pub mod FieldType
+pub mod FieldTypeLaws
 pub mod Number
 pub mod NumberLaws
 pub mod NumberCases

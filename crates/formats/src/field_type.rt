@@ -98,43 +98,6 @@ pub enum NumberedType {
     Nothing,
 }
 
-const FIELD_TYPES: [FieldType; 34] = [
-    FieldType::Int,
-    FieldType::Length,
-    FieldType::SeqNum,
-    FieldType::NumInGroup,
-    FieldType::TagNum,
-    FieldType::DayOfMonth,
-    FieldType::Float,
-    FieldType::Qty,
-    FieldType::Price,
-    FieldType::PriceOffset,
-    FieldType::Amt,
-    FieldType::Percentage,
-    FieldType::Char,
-    FieldType::Boolean,
-    FieldType::String,
-    FieldType::MultipleCharValue,
-    FieldType::MultipleStringValue,
-    FieldType::Country,
-    FieldType::Currency,
-    FieldType::Exchange,
-    FieldType::MonthYear,
-    FieldType::UtcTimestamp,
-    FieldType::UtcTimeOnly,
-    FieldType::UtcDateOnly,
-    FieldType::LocalMktDate,
-    FieldType::LocalMktTime,
-    FieldType::TzTimeOnly,
-    FieldType::TzTimestamp,
-    FieldType::Data,
-    FieldType::XmlData,
-    FieldType::Language,
-    FieldType::Pattern,
-    FieldType::Tenor,
-    FieldType::Reserved,
-];
-
 impl FieldType {
     // The form that a value of this type must have.
     pub fn format(self) -> Format
@@ -221,14 +184,45 @@ impl FieldType {
     }
 }
 
-// The type whose number is given.
+// The type whose number is given. The numbers are those of the enum's own cases, so that no table is read.
 pub fn type_numbered(number: usize) -> NumberedType
     ensures { λ numbered. ⌜ numbered ≡ typeNumbered number ⌝ }
 {
-    if number < 34 {
-        let types = FIELD_TYPES;
-        let found = types[number];
-        return NumberedType::Numbered(found);
+    match number {
+        0 => NumberedType::Numbered(FieldType::Int),
+        1 => NumberedType::Numbered(FieldType::Length),
+        2 => NumberedType::Numbered(FieldType::SeqNum),
+        3 => NumberedType::Numbered(FieldType::NumInGroup),
+        4 => NumberedType::Numbered(FieldType::TagNum),
+        5 => NumberedType::Numbered(FieldType::DayOfMonth),
+        6 => NumberedType::Numbered(FieldType::Float),
+        7 => NumberedType::Numbered(FieldType::Qty),
+        8 => NumberedType::Numbered(FieldType::Price),
+        9 => NumberedType::Numbered(FieldType::PriceOffset),
+        10 => NumberedType::Numbered(FieldType::Amt),
+        11 => NumberedType::Numbered(FieldType::Percentage),
+        12 => NumberedType::Numbered(FieldType::Char),
+        13 => NumberedType::Numbered(FieldType::Boolean),
+        14 => NumberedType::Numbered(FieldType::String),
+        15 => NumberedType::Numbered(FieldType::MultipleCharValue),
+        16 => NumberedType::Numbered(FieldType::MultipleStringValue),
+        17 => NumberedType::Numbered(FieldType::Country),
+        18 => NumberedType::Numbered(FieldType::Currency),
+        19 => NumberedType::Numbered(FieldType::Exchange),
+        20 => NumberedType::Numbered(FieldType::MonthYear),
+        21 => NumberedType::Numbered(FieldType::UtcTimestamp),
+        22 => NumberedType::Numbered(FieldType::UtcTimeOnly),
+        23 => NumberedType::Numbered(FieldType::UtcDateOnly),
+        24 => NumberedType::Numbered(FieldType::LocalMktDate),
+        25 => NumberedType::Numbered(FieldType::LocalMktTime),
+        26 => NumberedType::Numbered(FieldType::TzTimeOnly),
+        27 => NumberedType::Numbered(FieldType::TzTimestamp),
+        28 => NumberedType::Numbered(FieldType::Data),
+        29 => NumberedType::Numbered(FieldType::XmlData),
+        30 => NumberedType::Numbered(FieldType::Language),
+        31 => NumberedType::Numbered(FieldType::Pattern),
+        32 => NumberedType::Numbered(FieldType::Tenor),
+        33 => NumberedType::Numbered(FieldType::Reserved),
+        _ => NumberedType::Nothing,
     }
-    NumberedType::Nothing
 }
