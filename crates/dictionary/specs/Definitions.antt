@@ -7,6 +7,7 @@
 --   messageOf words value           the number of the record of the message whose T is this value of a field 35
 --   lineNumbered words number       the line of the record with this number: a body's lines are those behind its component's, message's or group's line
 --   isAmong value left at words     the value is that of one of the `left` records from this place on, as long as they are `value=V` lines
+--   isEnumerated words number       the definition with this record has admitted values: a `value=V` line stands behind it
 --   admitsValue words number value  "`value=V` lines (none: every value admitted)": the definition with this record admits the value
 use Prim.Native.Nat.{ℕ, zero, suc, _+_, _*_, _-_}
 use mathlib.Core.Bool.{Bool, true, false, _&&_, _||_}
@@ -80,6 +81,9 @@ isAmong value (suc left) at words =
 abbrev pub amongWith : ValueText → ℕ → ℕ → List ℕ → Bool
 amongWith (Bytes value) left at words = isAmong value left at words
 amongWith NoBytes left at words = false
+
+unfoldable pub isEnumerated : List ℕ → ℕ → Bool
+isEnumerated words number = if getD words 0 0 - number - 1 ≡ᵇ 0 then false else getD words (4 + 10 * number + 10) 0 ≡ᵇ 2
 
 unfoldable pub admitsValue : List ℕ → ℕ → List ℕ → Bool
 admitsValue words number value =

@@ -1,13 +1,14 @@
 -- Laws of `Definitions.antt`: what a dictionary's words are known to hold when they are searched. Assumes nothing.
-use mathlib.Core.Path.{_≡_, refl, ap, _∙_}
+use mathlib.Core.Path.{_≡_, refl, sym, ap, _∙_}
 use Prim.Native.Nat.{ℕ, zero, suc, _+_, _*_, _-_, _≤_, _<_}
-use mathlib.Core.Bool.{Bool, true, false, _&&_}
+use mathlib.Core.Bool.{Bool, true, false, _&&_, false≢true}
 use mathlib.Core.List.{List}
 use native.Mathlib.Omega.{arith}
 use lib.Dec.{leb, eqb}
 use lib.ListN.{length, getD, take, drop, length-drop}
 use lib.Seq.{length-take-le}
 use borrow.Author.Tests.{eq-eqb, ne-eqb, leb-true, ltb-true}
+use Rattle.ascii.specs.Notation.{if_then_else_}
 use Rattle.ascii.specs.NotationLaws.{and-left, and-right}
 use Rattle.sorting.specs.declared.search.Found.{Found}
 use Rattle.sorting.specs.declared.search.Found.the-variants.{At, Nothing}
@@ -15,7 +16,7 @@ use Rattle.sorting.specs.Search.{StrictlyAscending, isStrictlyAscending, rankIn
 use Rattle.sorting.specs.SearchLaws.{isStrictlyAscending-true, holds-at}
 use Rattle.texts.specs.DictionaryOrder.{start}
 use Rattle.dictionary.specs.DictionaryCheck.{linesFrom, accepts, countOf, standsAt, standsEach, isIndex, tagsAt, componentsAt, messagesAt, sizeOf, isDictionary}
-use Rattle.dictionary.specs.Definitions.{recordIn, isSameValue, isAmong}
+use Rattle.dictionary.specs.Definitions.{recordIn, isSameValue, isAmong, isEnumerated, admitsValue}
 use Rattle.dictionary.specs.Records.{admittedFrom}
 use Rattle.texts.specs.declared.line_parts.Admitted.{Admitted}
 
@@ -161,22 +162,36 @@ module _ (value : Admitted) (records first : ℕ) (words : List ℕ) (left at : 
     unfolding isAmong
     among-stops other = let more : left ≡ suc (left - 1) = omega arith in so-far .rest ∙ rw (more, ne-eqb (getD words at 0) 2 other)
 
-    module _ (admitted : Admitted) (kind : getD words at 0 ≡ 2) (read : admitted ≡ admittedFrom (take (at + 10 - at) (drop at words))) where
-      admitted-here : admitted ≡ admittedFrom (take 10 (drop at words))
-      admitted-here = let ten : at + 10 - at ≡ 10 = omega arith in rw ten at read
+    module _ (kind : getD words at 0 ≡ 2) where
+      ten : at + 10 - at ≡ 10
+      ten = omega arith
 
-      pub among-found : isSameValue admitted value ≡ true → isAmong value records first words ≡ true
+      pub among-found : isSameValue (admittedFrom (take (at + 10 - at) (drop at words))) value ≡ true → isAmong value records first words ≡ true
       unfolding isAmong
-      among-found same = let more : left ≡ suc (left - 1) = omega arith in so-far .rest ∙ rw (more, eq-eqb (getD words at 0) 2 kind, ← admitted-here, same)
+      among-found same =
+          let more : left ≡ suc (left - 1) = omega arith in
+          let here : isSameValue (admittedFrom (take 10 (drop at words))) value ≡ true = rw ten at same in
+          so-far .rest ∙ rw (more, eq-eqb (getD words at 0) 2 kind, here)
 
-      pub among-goes-on : isSameValue admitted value ≡ false → AmongSoFar value records first words (left - 1) (at + 10)
+      pub among-goes-on : isSameValue (admittedFrom (take (at + 10 - at) (drop at words))) value ≡ false → AmongSoFar value records first words (left - 1) (at + 10)
       unfolding isAmong
       among-goes-on other =
           let more : left ≡ suc (left - 1) = omega arith in
+          let here : isSameValue (admittedFrom (take 10 (drop at words))) value ≡ false = rw ten at other in
           record {
             fits = omega (arith, so-far .fits);
-            rest = so-far .rest ∙ among-step more other;
+            rest = so-far .rest ∙ ap (λ (count : ℕ). isAmong value count at words) more ∙ rw (eq-eqb (getD words at 0) 2 kind, here);
           }
-        where
-          among-step : left ≡ suc (left - 1) → isSameValue admitted value ≡ false → isAmong value left at words ≡ isAmong value (left - 1) (at + 10) words
-          among-step more other = ap (λ (count : ℕ). isAmong value count at words) more ∙ rw (eq-eqb (getD words at 0) 2 kind, ← admitted-here, other)
+
+-- ---- admitsValue
+
+choose-true : (none some other : Bool) → (if none then false else some) ≡ false → (if none then true else if some then other else true) ≡ true
+choose-true true some other holds = refl
+choose-true false true other holds = absurd (false≢true (sym holds))
+choose-true false false other holds = refl
+
+-- a definition without admitted values admits every value
+pub admitsValue-any : (words : List ℕ) (number : ℕ) (value : List ℕ) → isEnumerated words number ≡ false → admitsValue words number value ≡ true
+unfolding isEnumerated admitsValue
+admitsValue-any words number value unlisted =
+    choose-true (eqb (getD words 0 0 - number - 1) 0) (eqb (getD words (4 + 10 * number + 10) 0) 2) _ unlisted

@@ -1,5 +1,4 @@
 // What a dictionary defines, looked up in its words.
-use crate::records::admitted_from;
 use crate::records::line_at;
 use sorting::search::Found;
 use sorting::search::binary_search;
@@ -14,8 +13,9 @@ ghost use mathlib.Core.Bool.{true};
 ghost use Prim.Native.Nat.{_+_, _*_, _≤_, _<_};
 ghost use lib.ListN.{length, getD};
 ghost use Rattle.dictionary.specs.DictionaryCheck.{isIndex, messagesAt, isDictionary};
-ghost use Rattle.dictionary.specs.Definitions.{recordIn, definitionOf, componentOf, messageOf, lineNumbered, isSameValue, isAmong, admitsValue};
+ghost use Rattle.dictionary.specs.Definitions.{recordIn, definitionOf, componentOf, messageOf, lineNumbered, isSameValue, isAmong, isEnumerated, admitsValue};
 ghost use Rattle.dictionary.specs.DefinitionsLaws.{Below};
+ghost use Rattle.dictionary.specs.Records.{admittedFrom};
 
 // The definition of a tag.
 pub enum Definition {
@@ -101,34 +101,36 @@ pub fn line_numbered(words: &[u32], number: usize) -> Line
     line_at(words, 4 + 10 * number)
 }
 
-fn is_same_value(one: Admitted, other: Admitted) -> bool
-    ensures { λ answer. ⌜ answer ≡ isSameValue one other ⌝ }
+// The value is that of the record. Most records differ from it in their first words, and no other is read.
+fn is_same_value(words: &[u32], value: Admitted) -> bool
+    requires { ⌜ length (now words) ≡ 10 ⌝ }
+    ensures { λ answer. ⌜ answer ≡ isSameValue (admittedFrom (now (words .entry))) value ⌝ }
 {
-    if one.len != other.len {
+    if words[1] != value.len {
         return false;
     }
-    if one.word0 != other.word0 {
+    if words[2] != value.word0 {
         return false;
     }
-    if one.word1 != other.word1 {
+    if words[3] != value.word1 {
         return false;
     }
-    if one.word2 != other.word2 {
+    if words[4] != value.word2 {
         return false;
     }
-    if one.word3 != other.word3 {
+    if words[5] != value.word3 {
         return false;
     }
-    if one.word4 != other.word4 {
+    if words[6] != value.word4 {
         return false;
     }
-    if one.word5 != other.word5 {
+    if words[7] != value.word5 {
         return false;
     }
-    if one.word6 != other.word6 {
+    if words[8] != value.word6 {
         return false;
     }
-    one.word7 == other.word7
+    words[9] == value.word7
 }
 
 // The value is among those that the records from this place on admit.
@@ -143,14 +145,26 @@ fn is_among(words: &[u32], first: usize, records: usize, value: Admitted) -> boo
             return false;
         }
         let past = at + 10;
-        let admitted = admitted_from(&words[at..past]);
-        if is_same_value(admitted, value) {
+        if is_same_value(&words[at..past], value) {
             return true;
         }
         left -= 1;
         at += 10;
     }
     false
+}
+
+// The definition with this record has admitted values: a `value=V` line stands behind it.
+pub fn is_enumerated(words: &[u32], number: usize) -> bool
+    requires { ⌜ (isDictionary (now words) ≡ true) × (number < getD (now words) 0 0) ⌝ }
+    ensures { λ answer. ⌜ answer ≡ isEnumerated (now (words .entry)) number ⌝ }
+{
+    let lines = words[0] as usize;
+    if lines - number - 1 == 0 {
+        return false;
+    }
+    let at = 4 + 10 * number + 10;
+    words[at] == 2
 }
 
 // The definition with this record admits the value: it has no admitted values, or the value is one of them.

@@ -32,29 +32,25 @@ returns c = sym (among-stops _ _ _ _ _ _ (c .before .before .before .loop .inv) 
 add-past : tie.Need-add-past Inv-loop μ-loop
 add-past c = search needs
 
--- let admitted = admitted_from(&words[at..past]);
-mul-admitted-from : tie.Need-mul-admitted-from Inv-loop μ-loop
-mul-admitted-from c = search needs
+-- if is_same_value(&words[at..past], value) {
+mul-is-same-value : tie.Need-mul-is-same-value Inv-loop μ-loop
+mul-is-same-value c = search needs
 
-sub-admitted-from : tie.Need-sub-admitted-from Inv-loop μ-loop
-sub-admitted-from c = search needs
+sub-is-same-value : tie.Need-sub-is-same-value Inv-loop μ-loop
+sub-is-same-value c = search needs
 
-part-admitted-from-start : tie.Need-part-admitted-from-start Inv-loop μ-loop
-part-admitted-from-start c = search needs
+part-is-same-value-start : tie.Need-part-is-same-value-start Inv-loop μ-loop
+part-is-same-value-start c = search needs
 
-part-admitted-from-end : tie.Need-part-admitted-from-end Inv-loop μ-loop
-part-admitted-from-end c = search needs
+part-is-same-value-end : tie.Need-part-is-same-value-end Inv-loop μ-loop
+part-is-same-value-end c = search needs
 
-admitted-from-requires : tie.Need-admitted-from-requires Inv-loop μ-loop
-admitted-from-requires c κs = search needs
-
--- if is_same_value(admitted, value) {
 is-same-value-requires : tie.Need-is-same-value-requires Inv-loop μ-loop
 is-same-value-requires c κs = search needs
 
 -- return true;
 returns-2 : tie.Need-returns-2 Inv-loop μ-loop
-returns-2 c = sym (among-found _ _ _ _ _ _ (c .before .before .before .before .before .before .before .loop .inv) (c .before .before .before .before .before .before .loop-test .taken) _ (c .before .before .before .before .if1 .left) (c .before .before .admitted-from .ensures) (sym (c .before .is-same-value .ensures) ∙ c .if2 .taken))
+returns-2 c = sym (among-found _ _ _ _ _ _ (c .before .before .before .before .before .before .loop .inv) (c .before .before .before .before .before .loop-test .taken) (c .before .before .before .if1 .left) (sym (c .before .is-same-value .ensures) ∙ c .if2 .taken))
 
 -- left -= 1;
 sub-left : tie.Need-sub-left Inv-loop μ-loop
@@ -69,7 +65,7 @@ loop-less : tie.Need-loop-less Inv-loop μ-loop
 loop-less c = search needs
 
 loop-again : tie.Need-loop-again Inv-loop μ-loop
-loop-again c = among-goes-on _ _ _ _ _ _ (c .before .before .before .before .before .before .before .loop .inv) (c .before .before .before .before .before .before .loop-test .taken) _ (c .before .before .before .before .if1 .left) (c .before .before .admitted-from .ensures) (sym (c .before .is-same-value .ensures) ∙ c .if2 .left)
+loop-again c = among-goes-on _ _ _ _ _ _ (c .before .before .before .before .before .before .loop .inv) (c .before .before .before .before .before .loop-test .taken) (c .before .before .before .if1 .left) (sym (c .before .is-same-value .ensures) ∙ c .if2 .left)
 
 -- fn is_among(words: &[u32], first: usize, records: usize, value: Admitted) -> bool
 returns-3 : tie.Need-returns-3 Inv-loop μ-loop
@@ -86,11 +82,10 @@ is-among-spec =
     shared-slice-read-if1
     returns
     add-past
-    mul-admitted-from
-    sub-admitted-from
-    part-admitted-from-start
-    part-admitted-from-end
-    admitted-from-requires
+    mul-is-same-value
+    sub-is-same-value
+    part-is-same-value-start
+    part-is-same-value-end
     is-same-value-requires
     returns-2
     sub-left
