@@ -1,15 +1,62 @@
 -- Laws of `Verdict.antt`, in its order, and the loop of `admits_each`. Assumes nothing.
-use mathlib.Core.Path.{_≡_, refl, _∙_}
+use mathlib.Core.Path.{_≡_, refl, sym, ap, _∙_}
 use Prim.Native.Nat.{ℕ, _+_, _-_, _≤_}
-use mathlib.Core.Bool.{true, false}
+use mathlib.Core.Bool.{Bool, true, false}
 use mathlib.Core.List.{List}
 use native.Mathlib.Omega.{arith}
 use lib.ListN.{length, take, drop}
 use Rattle.ascii.specs.BytesLaws.{part-to-end}
-use Rattle.ascii.specs.Split.{indexOf, split, everyPart}
+use Rattle.ascii.specs.Notation.{if_then_else_}
+use Rattle.ascii.specs.Split.{indexOf, Parts, last, part, split, everyPart}
 use Rattle.ascii.specs.SplitLaws.{found-within, everyPart-last, everyPart-goes-on, everyPart-fails}
-use Rattle.dictionary.specs.Definitions.{admitsValue}
-use Rattle.verdicts.specs.Verdict.{admitsEach}
+use Rattle.formats.specs.declared.field_type.FieldType.{FieldType}
+use Rattle.formats.specs.declared.field_type.Format.{Format}
+use Rattle.formats.specs.FieldType.{formatOf, isMultiValue}
+use Rattle.formats.specs.FieldValue.{isOfFormat, isValidValue, isInRanges}
+use Rattle.dictionary.specs.Definitions.{isEnumerated, admitsValue}
+use Rattle.dictionary.specs.DefinitionsLaws.{admitsValue-any}
+use Rattle.verdicts.specs.Verdict.{hasFormat, admitsEach, isAdmitted}
+
+-- ---- hasFormat: one test of the form serves both modes
+
+module _ (type : FieldType) (value : List ℕ) (format : Format) (known : format ≡ formatOf type) (formed : Bool) (form : formed ≡ isOfFormat format value)
+    (strict : Bool) where
+  formed-here : formed ≡ isValidValue type value
+  formed-here = form ∙ ap (λ (other : Format). isOfFormat other value) known
+
+  pub hasFormat-plain : strict ≡ false → formed ≡ hasFormat strict type value
+  hasFormat-plain plain = rw plain formed-here
+
+  module _ (asked : strict ≡ true) where
+    pub hasFormat-unformed : formed ≡ false → formed ≡ hasFormat strict type value
+    hasFormat-unformed bad =
+        let invalid : isValidValue type value ≡ false = sym formed-here ∙ bad in
+        rw (asked, invalid) bad
+
+    pub hasFormat-ranges : formed ≡ true → (ranged : Bool) → ranged ≡ isInRanges format value → ranged ≡ hasFormat strict type value
+    hasFormat-ranges good ranged tested =
+        let valid : isValidValue type value ≡ true = sym formed-here ∙ good in
+        rw (asked, valid) (tested ∙ ap (λ (other : Format). isInRanges other value) known)
+
+-- ---- isAdmitted
+
+everyPart-each : (test : List ℕ → Bool) → ((bytes : List ℕ) → test bytes ≡ true) → (parts : Parts) → everyPart test parts ≡ true
+unfolding everyPart
+everyPart-each test each (last bytes) = each bytes
+everyPart-each test each (part bytes others) = rw (each bytes) (everyPart-each test each others)
+
+-- a definition without admitted values admits every value, of whatever type
+module _ (dictionary : List ℕ) (number : ℕ) (unlisted : isEnumerated dictionary number ≡ false) (value : List ℕ) where
+  admitsEach-any : admitsEach dictionary number value ≡ true
+  unfolding admitsEach
+  admitsEach-any = everyPart-each (admitsValue dictionary number) (λ bytes. admitsValue-any dictionary number bytes unlisted) (split 0x20 value)
+
+  admitted-by : (each : Bool) → (if each then admitsEach dictionary number value else admitsValue dictionary number value) ≡ true
+  admitted-by true = admitsEach-any
+  admitted-by false = admitsValue-any dictionary number value unlisted
+
+  pub isAdmitted-any : (type : FieldType) → isAdmitted dictionary number type value ≡ true
+  isAdmitted-any type = admitted-by (isMultiValue type)
 
 -- ---- the loop of `admits_each`
 

@@ -3,11 +3,12 @@ use ascii::split::find;
 use dictionary::definitions::Definition;
 use dictionary::definitions::admits;
 use dictionary::definitions::definition_of;
+use dictionary::definitions::is_enumerated;
 use formats::field_type::FieldType;
 use formats::field_type::NumberedType;
 use formats::field_type::type_numbered;
-use formats::field_value::is_strict_value;
-use formats::field_value::is_valid_value;
+use formats::field_value::is_in_ranges;
+use formats::field_value::is_of_format;
 ghost use mathlib.Core.Path.{_≡_};
 ghost use mathlib.Core.Bool.{true};
 ghost use Prim.Native.Nat.{_<_};
@@ -42,10 +43,14 @@ pub fn verdict_word(verdict: Verdict) -> u64
 fn has_format(field_type: FieldType, value: &[u8], strict: bool) -> bool
     ensures { λ answer. ⌜ answer ≡ hasFormat strict «field_type» (now (value .entry)) ⌝ }
 {
+    let format = field_type.format();
+    let formed = is_of_format(format, value);
     if strict {
-        return is_strict_value(field_type, value);
+        if formed {
+            return is_in_ranges(format, value);
+        }
     }
-    is_valid_value(field_type, value)
+    formed
 }
 
 // Returns true if the definition with this record admits every token of a space-separated list.
@@ -71,6 +76,9 @@ fn is_admitted(dictionary: &[u32], number: usize, field_type: FieldType, value: 
     requires { ⌜ (isDictionary (now dictionary) ≡ true) × (number < getD (now dictionary) 0 0) ⌝ }
     ensures { λ answer. ⌜ answer ≡ isAdmitted (now (dictionary .entry)) number «field_type» (now (value .entry)) ⌝ }
 {
+    if !is_enumerated(dictionary, number) {
+        return true;
+    }
     if field_type.is_multi_value() {
         return admits_each(dictionary, number, value);
     }
