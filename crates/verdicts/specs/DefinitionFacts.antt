@@ -111,3 +111,15 @@ module _ (words : List ℕ) (holds : isDictionary words ≡ true) where
           let type-is : getD words (4 + 10 * getD words (tagsAt words + getD words 1 0 + rank) 0 + 2) 0 ≡ type = cc in
           rw (← type-is, ← number-is, ← place) facts
       go Nothing there same = let never : _≡_ {A = ℕ} 0 1 = cc in absurd (omega arith)
+
+-- the type of a definition stands in its record
+pub definition-type : (words : List ℕ) (tag type number : ℕ) → definitionOf words tag ≡ Defined type number → getD words (4 + 10 * number + 2) 0 ≡ type
+unfolding definitionOf
+definition-type words tag type number defined = go (recordIn (tagsAt words) (getD words 1 0) tag words) defined
+  where
+    go : (found : Found) → definitionAt words found ≡ Defined type number → getD words (4 + 10 * number + 2) 0 ≡ type
+    go (At other) same =
+        let number-is : other ≡ number = cc in
+        let type-is : getD words (4 + 10 * other + 2) 0 ≡ type = cc in
+        rw (← number-is) type-is
+    go Nothing same = let never : _≡_ {A = ℕ} 0 1 = cc in absurd (omega arith)

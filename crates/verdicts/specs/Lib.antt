@@ -2,6 +2,8 @@ pub mod Verdict
 pub mod DefinitionFacts
 pub mod VerdictLaws
 pub mod AdmittedCharacters
+pub mod FieldRecords
+pub mod FieldRecordsLaws
 pub mod Verdicts
 pub mod VerdictsLaws
 pub mod VerdictCases

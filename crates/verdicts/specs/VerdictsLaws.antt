@@ -1,12 +1,12 @@
--- Laws of `Verdicts.antt`, in its order, and the loop of `write_verdicts`. Assumes nothing.
+-- Laws of `Verdicts.antt`, in its order, and the loop of `judge_values`. Assumes nothing.
 use mathlib.Core.Path.{_≡_, refl, sym, ap, _∙_}
 use Prim.Native.Nat.{ℕ, zero, suc, _+_, _-_, _≤_, _<_}
 use mathlib.Core.Bool.{Bool, true, false}
-use mathlib.Core.List.{List}
+use mathlib.Core.List.{List, _++_}
 use native.Mathlib.Omega.{arith}
 use native.Mathlib.Numerals.{add-one}
-use lib.ListN.{length, set, length-set}
-use lib.Seq.{sets, sets-eq}
+use lib.ListN.{length, getD, set, length-set}
+use lib.Seq.{sets, sets-eq, getD-set-other}
 use borrow.Author.Tests.{le-leb, lt-leb}
 use Rattle.texts.specs.declared.refusal.Refusal.the-variants.{UnknownForm, BadField, SpaceShort}
 use Rattle.dictionary.specs.DictionaryCheck.{isDictionary}
@@ -17,6 +17,8 @@ use Rattle.verdicts.specs.declared.verdict.Verdict.{Verdict}
 use Rattle.verdicts.specs.declared.verdicts_call.Judged.{Judged}
 use Rattle.verdicts.specs.declared.verdicts_call.Judged.the-variants.{Done, Refused}
 use Rattle.verdicts.specs.Verdict.{verdictWord}
+use Rattle.verdicts.specs.FieldRecords.{fieldRecord, filledIn, Holds}
+use Rattle.verdicts.specs.FieldRecordsLaws.{filledIn-behind}
 use Rattle.verdicts.specs.Verdicts.{fieldVerdict, verdictsFrom, verdictsOf, spaceAnswer, judgedOf, writtenIn, spaceWith, verdictsIn}
 
 -- ---- the words of the verdicts
@@ -27,21 +29,26 @@ unfolding verdictsFrom
 verdictsFrom-length dictionary strict fields zero position = refl
 verdictsFrom-length dictionary strict fields (suc left) position = ap suc (verdictsFrom-length dictionary strict fields left (suc position))
 
--- ---- the loop of `write_verdicts`
+-- ---- the loop of `judge_values`
 
 module _ (dictionary fields message : List ℕ) (strict : Bool) (space : List ℕ) where
   -- the verdicts on the fields before `index` are written
   pub record WrittenSoFar (index : ℕ) (now : List ℕ) : Type 0 where
     pub within : index ≤ rowCount fields
     pub same-length : length now ≡ length space
+    pub ahead : (position : ℕ) → index ≤ position → getD now position 0 ≡ getD space position 0
     pub left : sets space 0 (verdictsOf dictionary strict (fieldsOf fields message)) ≡ sets now index (verdictsFrom dictionary strict (fieldsOf fields message) (rowCount fields - index) index)
 
   pub written-begins : WrittenSoFar 0 space
   written-begins =
       let all : rowCount fields - 0 ≡ rowCount fields = omega arith in
-      record { within = omega arith; same-length = refl; left = rw all }
+      record { within = omega arith; same-length = refl; ahead = λ position behind. refl; left = rw all }
 
   module _ (index : ℕ) (now : List ℕ) (so-far : WrittenSoFar index now) where
+    -- the number of the field's record still stands where its verdict will
+    pub written-record : Holds (fieldRecord dictionary fields) (rowCount fields) space → index < rowCount fields → getD now index 0 ≡ fieldRecord dictionary fields index
+    written-record kept inside = so-far .ahead index (omega arith) ∙ kept index inside
+
     pub written-goes-on : (verdict : Verdict) (word : ℕ) → index < rowCount fields
         → verdict ≡ fieldVerdict dictionary strict (fieldsOf fields message) index
         → word ≡ verdictWord verdict
@@ -52,6 +59,7 @@ module _ (dictionary fields message : List ℕ) (strict : Bool) (space : List �
         record {
           within = omega arith;
           same-length = length-set now index word ∙ so-far .same-length;
+          ahead = λ position behind. getD-set-other now index position word 0 (λ same. absurd (omega arith)) ∙ so-far .ahead position (omega arith);
           left = so-far .left ∙ rw (more, add-one index, is-word, judged);
         }
 
@@ -63,6 +71,17 @@ module _ (dictionary fields message : List ℕ) (strict : Bool) (space : List �
         let last : sets space 0 (verdictsOf dictionary strict (fieldsOf fields message)) ≡ now = so-far .left ∙ rw none-left in
         let none-before : 0 + rowCount fields ≡ rowCount fields = omega arith in
         sym last ∙ sets-eq (verdictsOf dictionary strict (fieldsOf fields message)) space 0 (omega arith) ∙ rw (all, none-before)
+
+-- ---- `write_verdicts`: the words behind the verdicts are those that were there before the records' numbers
+
+pub written-over : (dictionary fields message : List ℕ) (strict : Bool) (space between after : List ℕ)
+    → between ≡ filledIn (fieldRecord dictionary fields) (rowCount fields) space
+    → after ≡ writtenIn dictionary fields message strict between
+    → after ≡ writtenIn dictionary fields message strict space
+written-over dictionary fields message strict space between after filled written =
+    written
+    ∙ ap (λ (rest : List ℕ). verdictsOf dictionary strict (fieldsOf fields message) ++ rest)
+    (filledIn-behind (fieldRecord dictionary fields) (rowCount fields) space between filled)
 
 -- ---- each answer by the tests in the order of the code
 

@@ -14,7 +14,7 @@ ghost use mathlib.Core.Bool.{true};
 ghost use Prim.Native.Nat.{_<_};
 ghost use lib.ListN.{getD};
 ghost use Rattle.dictionary.specs.DictionaryCheck.{isDictionary};
-ghost use Rattle.verdicts.specs.Verdict.{verdictWord, hasFormat, admitsEach, isAdmitted, checkValue};
+ghost use Rattle.verdicts.specs.Verdict.{verdictWord, hasFormat, admitsEach, isAdmitted, recordOf, recordedVerdict};
 
 // What is said of a value. The Rust pushes an error for each but the first.
 pub enum Verdict {
@@ -85,15 +85,28 @@ fn is_admitted(dictionary: &[u32], number: usize, field_type: FieldType, value: 
     admits(dictionary, number, value)
 }
 
-// Checks that a field is defined, well-formed for its type, and — when enumerated — carries a defined value.
-pub fn check_value(dictionary: &[u32], tag: u32, value: &[u8], strict: bool) -> Verdict
+// The number of the record that defines the tag, or for an undefined one the number of all records.
+pub fn record_of(dictionary: &[u32], tag: u32) -> usize
     requires { ⌜ isDictionary (now dictionary) ≡ true ⌝ }
-    ensures { λ verdict. ⌜ verdict ≡ checkValue (now (dictionary .entry)) strict tag (now (value .entry)) ⌝ }
+    ensures { λ number. ⌜ number ≡ recordOf (now (dictionary .entry)) tag ⌝ }
 {
-    let Definition::Defined(type_number, number) = definition_of(dictionary, tag) else {
+    match definition_of(dictionary, tag) {
+        Definition::Defined(_, number) => number,
+        Definition::Undefined => dictionary[0] as usize,
+    }
+}
+
+// Checks that a field is defined, well-formed for its type, and — when enumerated — carries a defined value. The record of its tag was found before.
+pub fn check_recorded(dictionary: &[u32], number: usize, value: &[u8], strict: bool) -> Verdict
+    requires { ⌜ isDictionary (now dictionary) ≡ true ⌝ }
+    ensures { λ verdict. ⌜ verdict ≡ recordedVerdict (now (dictionary .entry)) strict (now (value .entry)) number ⌝ }
+{
+    let lines = dictionary[0] as usize;
+    if lines <= number {
         return Verdict::Undefined;
-    };
-    let NumberedType::Numbered(field_type) = type_numbered(type_number as usize) else {
+    }
+    let place = 4 + 10 * number + 2;
+    let NumberedType::Numbered(field_type) = type_numbered(dictionary[place] as usize) else {
         return Verdict::Undefined;
     };
     if !has_format(field_type, value, strict) {

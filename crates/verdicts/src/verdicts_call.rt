@@ -1,6 +1,7 @@
 // The verdicts on the values of a message, on lent words: a call that refuses what it cannot judge, and else writes one word a field.
 use crate::verdict::Verdict;
-use crate::verdict::check_value;
+use crate::verdict::check_recorded;
+use crate::verdict::record_of;
 use crate::verdict::verdict_word;
 use dictionary::dictionary_check::is_dictionary;
 use texts::refusal::Refusal;
@@ -16,6 +17,7 @@ ghost use lib.ListN.{length};
 ghost use Rattle.dictionary.specs.DictionaryCheck.{isDictionary};
 ghost use Rattle.walk.specs.FieldTable.{rowCount, AcceptedTable, fieldsOf};
 ghost use Rattle.verdicts.specs.Verdicts.{fieldVerdict, writtenIn, spaceAnswer, spaceWith, judgedOf, verdictsIn};
+ghost use Rattle.verdicts.specs.FieldRecords.{fieldRecord, filledIn, Holds};
 
 // What the call answers.
 pub enum Judged {
@@ -24,26 +26,67 @@ pub enum Judged {
     Refused(Refusal),
 }
 
-// The verdict on the field at `index`.
+// Writes the number of the record that defines each field's tag.
+fn write_records(dictionary: &[u32], fields: &[u32], verdicts: &mut [u64])
+    requires { ⌜ isDictionary (now dictionary) ≡ true ⌝ }
+    requires { ⌜ rowCount (now fields) ≤ length (now verdicts) ⌝ }
+    ensures memory { λ _. ⌜ now (verdicts .exit) ≡ filledIn (fieldRecord (now (dictionary .entry)) (now (fields .entry))) (rowCount (now (fields .entry))) (now (verdicts .entry)) ⌝ }
+{
+    let count = fields.len() / 3;
+    let mut position = 0;
+    while position < count {
+        let tag = tag_at(fields, position);
+        verdicts[position] = record_of(dictionary, tag) as u64;
+        position += 1;
+    }
+}
+
+// The verdict on the field at `index`, whose tag has the record with this number.
 fn verdict_at(
     dictionary: &[u32],
     fields: &[u32],
     message: &[u8],
     strict: bool,
     index: usize,
+    number: usize,
 ) -> Verdict
     requires { ⌜ isDictionary (now dictionary) ≡ true ⌝ }
     requires { ⌜ AcceptedTable (now fields) (length (now message)) ⌝ }
     requires { ⌜ index < rowCount (now fields) ⌝ }
+    requires { ⌜ number ≡ fieldRecord (now dictionary) (now fields) index ⌝ }
     ensures { λ verdict. ⌜ verdict ≡ fieldVerdict (now (dictionary .entry)) strict (fieldsOf (now (fields .entry)) (now (message .entry))) index ⌝ }
 {
-    let tag = tag_at(fields, index);
     let first = first_at(fields, index);
     let past = past_at(fields, index);
-    check_value(dictionary, tag, &message[first..past], strict)
+    check_recorded(dictionary, number, &message[first..past], strict)
 }
 
-// Writes the verdict on each field, in the order of the table.
+// Writes the verdict on each field over the number of its record.
+fn judge_values(
+    dictionary: &[u32],
+    fields: &[u32],
+    message: &[u8],
+    strict: bool,
+    verdicts: &mut [u64],
+)
+    requires { ⌜ isDictionary (now dictionary) ≡ true ⌝ }
+    requires { ⌜ AcceptedTable (now fields) (length (now message)) ⌝ }
+    requires { ⌜ rowCount (now fields) ≤ length (now verdicts) ⌝ }
+    requires { ⌜ Holds (fieldRecord (now dictionary) (now fields)) (rowCount (now fields)) (now verdicts) ⌝ }
+    ensures memory { λ _. ⌜ now (verdicts .exit) ≡ writtenIn (now (dictionary .entry)) (now (fields .entry)) (now (message .entry)) strict (now (verdicts .entry)) ⌝ }
+{
+    let rows = fields.len() / 3;
+    let mut index = 0;
+    while index < rows {
+        let number = verdicts[index] as usize;
+        let verdict = verdict_at(dictionary, fields, message, strict, index, number);
+        verdicts[index] = verdict_word(verdict);
+        index += 1;
+    }
+}
+
+// Writes the verdict on each field, in the order of the table. All tags are searched for before a value is judged: so no search waits for the tests of a
+// value, whose jumps hang on the message (docs/SPEED.md).
 fn write_verdicts(
     dictionary: &[u32],
     fields: &[u32],
@@ -56,13 +99,8 @@ fn write_verdicts(
     requires { ⌜ rowCount (now fields) ≤ length (now verdicts) ⌝ }
     ensures memory { λ _. ⌜ now (verdicts .exit) ≡ writtenIn (now (dictionary .entry)) (now (fields .entry)) (now (message .entry)) strict (now (verdicts .entry)) ⌝ }
 {
-    let rows = fields.len() / 3;
-    let mut index = 0;
-    while index < rows {
-        let verdict = verdict_at(dictionary, fields, message, strict, index);
-        verdicts[index] = verdict_word(verdict);
-        index += 1;
-    }
+    write_records(dictionary, fields, verdicts);
+    judge_values(dictionary, fields, message, strict, verdicts);
 }
 
 // The verdicts, once the lent words are accepted.
