@@ -7,19 +7,17 @@ use native.Mathlib.Omega.{arith}
 use lib.ListN.{length, getD, take, drop}
 use borrow.Author.Tests.{lt-ltb, le-ltb}
 use Rattle.ascii.specs.BytesLaws.{part-to-end}
-use Rattle.ascii.specs.Notation.{if_then_else_}
-use Rattle.ascii.specs.Split.{indexOf, Parts, last, part, split, everyPart}
+use Rattle.ascii.specs.Split.{indexOf, split, everyPart}
 use Rattle.ascii.specs.SplitLaws.{found-within, everyPart-last, everyPart-goes-on, everyPart-fails}
 use Rattle.formats.specs.declared.field_type.FieldType.{FieldType}
 use Rattle.formats.specs.declared.field_type.Format.{Format}
-use Rattle.formats.specs.FieldType.{formatOf, isMultiValue}
+use Rattle.formats.specs.FieldType.{formatOf}
 use Rattle.formats.specs.FieldValue.{isOfFormat, isValidValue, isInRanges}
 use Rattle.dictionary.specs.declared.definitions.Definition.{Definition}
 use Rattle.dictionary.specs.declared.definitions.Definition.the-variants.{Defined, Undefined}
 use Rattle.dictionary.specs.DictionaryCheck.{isDictionary}
-use Rattle.dictionary.specs.Definitions.{definitionOf, isEnumerated, admitsValue}
-use Rattle.dictionary.specs.DefinitionsLaws.{admitsValue-any}
-use Rattle.verdicts.specs.Verdict.{hasFormat, admitsEach, isAdmitted, definedVerdict, checkValue, recordWith, recordOf, recordedVerdict}
+use Rattle.dictionary.specs.Definitions.{definitionOf, admitsValue}
+use Rattle.verdicts.specs.Verdict.{hasFormat, admitsEach, definedVerdict, checkValue, recordWith, recordOf, recordedVerdict}
 use Rattle.verdicts.specs.DefinitionFacts.{definition-known, definition-type}
 
 -- ---- hasFormat: one test of the form serves both modes
@@ -42,26 +40,6 @@ module _ (type : FieldType) (value : List ℕ) (format : Format) (known : format
     hasFormat-ranges good ranged tested =
         let valid : isValidValue type value ≡ true = sym formed-here ∙ good in
         rw (asked, valid) (tested ∙ ap (λ (other : Format). isInRanges other value) known)
-
--- ---- isAdmitted
-
-everyPart-each : (test : List ℕ → Bool) → ((bytes : List ℕ) → test bytes ≡ true) → (parts : Parts) → everyPart test parts ≡ true
-unfolding everyPart
-everyPart-each test each (last bytes) = each bytes
-everyPart-each test each (part bytes others) = rw (each bytes) (everyPart-each test each others)
-
--- a definition without admitted values admits every value, of whatever type
-module _ (dictionary : List ℕ) (number : ℕ) (unlisted : isEnumerated dictionary number ≡ false) (value : List ℕ) where
-  admitsEach-any : admitsEach dictionary number value ≡ true
-  unfolding admitsEach
-  admitsEach-any = everyPart-each (admitsValue dictionary number) (λ bytes. admitsValue-any dictionary number bytes unlisted) (split 0x20 value)
-
-  admitted-by : (each : Bool) → (if each then admitsEach dictionary number value else admitsValue dictionary number value) ≡ true
-  admitted-by true = admitsEach-any
-  admitted-by false = admitsValue-any dictionary number value unlisted
-
-  pub isAdmitted-any : (type : FieldType) → isAdmitted dictionary number type value ≡ true
-  isAdmitted-any type = admitted-by (isMultiValue type)
 
 -- ---- recordedVerdict
 

@@ -76,11 +76,11 @@ fn is_admitted(dictionary: &[u32], number: usize, field_type: FieldType, value: 
     requires { ⌜ (isDictionary (now dictionary) ≡ true) × (number < getD (now dictionary) 0 0) ⌝ }
     ensures { λ answer. ⌜ answer ≡ isAdmitted (now (dictionary .entry)) number «field_type» (now (value .entry)) ⌝ }
 {
-    if !is_enumerated(dictionary, number) {
-        return true;
-    }
     if field_type.is_multi_value() {
         return admits_each(dictionary, number, value);
+    }
+    if !is_enumerated(dictionary, number) {
+        return true;
     }
     admits(dictionary, number, value)
 }
