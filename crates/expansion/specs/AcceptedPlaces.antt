@@ -8,6 +8,9 @@
 --   OpenIn state opened       what is left of each body that is open in this state
 --   accepted-order            accepted lines are in order
 --   accepted-header, accepted-trailer   and have a header and a trailer
+--   isDefinition line         a line `def=TAG,TYPE` or `value=V`
+--   Parted lines header       the lines before this place are definitions, and no other
+--   accepted-parted           the definitions of accepted lines stand before their header, and none behind it
 use mathlib.Core.Path.{_≡_, refl, sym, ap, _∙_}
 use Prim.Native.Nat.{ℕ, zero, suc, _+_, _-_, _≤_, _<_}
 use mathlib.Core.Bool.{Bool, true, false, _&&_, _||_, cond, false≢true}
@@ -15,14 +18,16 @@ use mathlib.Core.List.{List, [], _∷_}
 use native.Mathlib.Omega.{arith}
 use native.Mathlib.Numerals.{add-one}
 use lib.Dec.{leb, ltb, eqb}
-use lib.ListN.{length, getD}
-use borrow.Author.Tests.{leb-true, leb-false, ltb-true, ltb-false, eqb-true}
+use lib.ListN.{length, getD, drop}
+use borrow.Author.Tests.{leb-true, leb-false, ltb-true, ltb-false, eqb-true, ne-eqb}
 use Rattle.ascii.specs.Notation.{isBetween}
 use Rattle.ascii.specs.NotationLaws.{and-left, and-right, isBetween-range}
 use Rattle.texts.specs.declared.line.Line.{Line}
 use Rattle.texts.specs.declared.line.Line.the-variants.{Def, Value, BeginHeader, BeginTrailer, EndHeader, EndTrailer, Component, Message, Field, Group, Use, End, Member, RequiredTag, Unknown}
 use Rattle.texts.specs.declared.line_parts.Number32.{Number32}
+use Rattle.texts.specs.declared.line_parts.Number32.the-variants.{Number, NoNumber}
 use Rattle.texts.specs.declared.line_parts.MessageType.{MessageType}
+use Rattle.texts.specs.declared.line_parts.MessageType.the-variants.{Letters, NoLetters}
 use Rattle.texts.specs.declared.dictionary_order.State.{State}
 use Rattle.texts.specs.declared.dictionary_order.Step.{Step}
 use Rattle.texts.specs.DictionaryOrder.{start, standing, taken, notAllowed, openedBlock, closedBlock, usedIn, isNumber, isLetters, openGroup, closeGroup, closeComponent, closeMessage, endStep, stepOf}
@@ -699,7 +704,136 @@ blocks-from state number total (line ∷ rest) here passes =
       λ comes. trailer-later line state next rest step (behind .1) comes,
     )
 
+-- ---- the definitions stand before the header
+
+abbrev pub isDefinition : Line → Bool
+isDefinition line = isOf 1 line || isOf 2 line
+
+pub record Parted (lines : List Line) (header : ℕ) : Type 0 where
+  pub before-it : (number : ℕ) → number < header → isDefinition (getD lines number Unknown) ≡ true
+  pub behind-it : (number : ℕ) → header ≤ number → number < length lines → isDefinition (getD lines number Unknown) ≡ false
+
+end-other : (number : Number32) (letters : MessageType) → isDefinition (End number letters) ≡ false
+unfolding isOf recordOf
+end-other number (Letters letters) = refl
+end-other (Number number) NoLetters = refl
+end-other NoNumber NoLetters = refl
+
+end-late : (state next : State) → Closes state next → 2 ≤ state .stage → 2 ≤ next .stage
+end-late state next (group-ends deep stage part depth) late = omega arith
+end-late state next (block-ends shallow high low from part depth) late = omega arith
+
+-- behind the first line of the header no line is a definition
+late-line : (line : Line) (state next : State) → Moves line state next → 2 ≤ state .stage → (isDefinition line ≡ false) × (2 ≤ next .stage)
+unfolding isOf recordOf
+late-line (Def tag place) state next step late = absurd (omega (arith, step .0))
+late-line (Value admitted) state next step late = absurd (omega (arith, step .0))
+late-line BeginHeader state next step late = absurd (omega (arith, step .0))
+late-line BeginTrailer state next step late = (refl, omega (arith, step .1 .0))
+late-line EndHeader state next step late = (refl, omega (arith, step .1 .0))
+late-line EndTrailer state next step late = (refl, omega (arith, step .1 .0))
+late-line (Component name) state next step late = (refl, omega (arith, step .1 .0))
+late-line (Message letters app) state next step late = (refl, omega (arith, step .1 .0))
+late-line (Field tag required) state next step late = (refl, omega (arith, ap (λ (each : State). each .stage) (step .1)))
+late-line (Group count delimiter required) state next step late = (refl, omega (arith, step .1 .0))
+late-line (Use name required) state next step late = (refl, omega (arith, step .1 .0))
+late-line (End number letters) state next step late = (end-other number letters, end-late state next step late)
+late-line (Member tag) state next step late = absurd step
+late-line (RequiredTag tag) state next step late = absurd step
+late-line Unknown state next step late = absurd step
+
+late-lines : (state : State) (number total : ℕ) (lines : List Line)
+    → accepts state number total lines ≡ true
+    → 2 ≤ state .stage
+    → (place : ℕ) → place < length lines → isDefinition (getD lines place Unknown) ≡ false
+late-lines state number total [] passes late place inside = absurd (omega arith)
+late-lines state number total (line ∷ rest) passes late zero inside = late-line line state (stepOf state number line .next) (first-moves state number total line rest passes) late .0
+late-lines state number total (line ∷ rest) passes late (suc place) inside =
+    late-lines (stepOf state number line .next) (number + 1) (total + (lengthOf line + 1)) rest (rest-accepted state number total line rest passes)
+    (late-line line state (stepOf state number line .next) (first-moves state number total line rest passes) late .1)
+    place
+    (omega arith)
+
+module _ (rest : List Line) where
+  parted-here : ((place : ℕ) → place < length rest → isDefinition (getD rest place Unknown) ≡ false) → Parted (BeginHeader ∷ rest) (placeOf 3 0 (BeginHeader ∷ rest))
+  unfolding placeOf isOf nameOf recordOf
+  parted-here none = record {
+    before-it = λ number. elim number [ zero ↦ λ low. absurd (omega arith) | suc number ↦ λ low. absurd (omega arith) ];
+    behind-it = λ number. elim number [ zero ↦ λ from inside. refl | suc number ↦ λ from inside. none number (omega arith) ];
+  }
+
+  parted-next : (line : Line) (header : ℕ) → isDefinition line ≡ true → Parted rest header → Parted (line ∷ rest) (suc header)
+  parted-next line header defines parted = record {
+    before-it = λ number. elim number [ zero ↦ λ low. defines | suc number ↦ λ low. parted .before-it number (omega arith) ];
+    behind-it = λ number. elim number [ zero ↦ λ from inside. absurd (omega arith) | suc number ↦ λ from inside. parted .behind-it number (omega arith) (omega arith) ];
+  }
+
+parted-later : (line : Line) (state next : State) (rest : List Line)
+    → Standing state
+    → Moves line state next
+    → (HeaderComes next → Parted rest (placeOf 3 0 rest))
+    → (2 ≤ next .stage → (place : ℕ) → place < length rest → isDefinition (getD rest place Unknown) ≡ false)
+    → HeaderComes state
+    → Parted (line ∷ rest) (placeOf 3 0 (line ∷ rest))
+unfolding placeOf isOf nameOf recordOf
+parted-later BeginHeader state next rest here step behind none comes = parted-here rest (none (omega (arith, step .1 .0)))
+parted-later (Def tag place) state next rest here step behind none comes = parted-next rest (Def tag place) (placeOf 3 0 rest) refl (behind (omega (arith, step .1 .0)))
+parted-later (Value admitted) state next rest here step behind none comes =
+    parted-next rest (Value admitted) (placeOf 3 0 rest) refl (behind (omega (arith, step .0, ap (λ (each : State). each .stage) (step .1))))
+parted-later BeginTrailer state next rest here step behind none comes = absurd (omega (arith, step .0))
+parted-later EndHeader state next rest here step behind none comes = absurd (omega (arith, step .0 .0))
+parted-later EndTrailer state next rest here step behind none comes = absurd (omega (arith, step .0 .0))
+parted-later (Component name) state next rest here step behind none comes = absurd (omega (arith, step .0))
+parted-later (Message letters app) state next rest here step behind none comes = absurd (omega (arith, step .0 .0))
+parted-later (Field tag required) state next rest here step behind none comes = absurd (omega (arith, step .0, here .no-part (omega arith)))
+parted-later (Group count delimiter required) state next rest here step behind none comes = absurd (omega (arith, step .0, here .no-part (omega arith)))
+parted-later (Use name required) state next rest here step behind none comes = absurd (omega (arith, step .0 .0, here .no-part (omega arith)))
+parted-later (End number letters) state next rest here step behind none comes = absurd (no-close state next here step (omega arith))
+parted-later (Member tag) state next rest here step behind none comes = absurd step
+parted-later (RequiredTag tag) state next rest here step behind none comes = absurd step
+parted-later Unknown state next rest here step behind none comes = absurd step
+
+parted-from : (state : State) (number total : ℕ) (lines : List Line)
+    → Standing state
+    → accepts state number total lines ≡ true
+    → HeaderComes state
+    → Parted lines (placeOf 3 0 lines)
+parted-from state number total [] here passes comes = absurd (omega (arith, isBetween-range 3 4 (state .stage) (unfold accepts in passes) .0))
+parted-from state number total (line ∷ rest) here passes comes =
+    let step = first-moves state number total line rest passes in
+    let next = stepOf state number line .next in
+    let accepted = rest-accepted state number total line rest passes in
+    parted-later line state next rest here step
+    (parted-from next (number + 1) (total + (lengthOf line + 1)) rest (standing-next line state next here step) accepted)
+    (late-lines next (number + 1) (total + (lengthOf line + 1)) rest accepted)
+    comes
+
+-- a definition is of no other kind
+kind-by : (kind other : ℕ) (one two : Bool) → eqb kind 1 ≡ one → eqb kind 2 ≡ two → one || two ≡ true → 2 < other → eqb kind other ≡ false
+kind-by kind other true two first second holds above = ne-eqb kind other (λ there. let same = eqb-true kind 1 first in omega arith)
+kind-by kind other false true first second holds above = ne-eqb kind other (λ there. let same = eqb-true kind 2 second in omega arith)
+kind-by kind other false false first second holds above = absurd (false≢true holds)
+
+definition-kind : (line : Line) (other : ℕ) → isDefinition line ≡ true → 2 < other → isOf other line ≡ false
+unfolding isOf
+definition-kind line other defines above = kind-by (getD (recordOf line) 0 0) other (eqb (getD (recordOf line) 0 0) 1) (eqb (getD (recordOf line) 0 0) 2) refl refl defines above
+
+-- lines of another kind are looked for behind the definitions
+pub place-behind : (kind name : ℕ) (lines : List Line) (header : ℕ) → 2 < kind
+    → header ≤ length lines
+    → ((number : ℕ) → number < header → isDefinition (getD lines number Unknown) ≡ true)
+    → placeOf kind name lines ≡ header + placeOf kind name (drop header lines)
+unfolding placeOf
+place-behind kind name lines zero above within define = omega arith
+place-behind kind name [] (suc header) above within define = absurd (omega arith)
+place-behind kind name (line ∷ rest) (suc header) above within define =
+    let deeper = place-behind kind name rest header above (omega arith) (λ number low. define (suc number) (omega arith)) in
+    rw (definition-kind line kind (define 0 (omega arith)) above) (omega (arith, deeper))
+
 module _ (lines : List Line) (passes : accepts start 1 0 lines ≡ true) where
+  pub accepted-parted : Parted lines (placeOf 3 0 lines)
+  accepted-parted = parted-from start 1 0 lines standing-start passes (omega arith)
+
   pub accepted-header : placeOf 3 0 lines < length lines
   accepted-header = blocks-from start 1 0 lines standing-start passes .0 (omega arith)
 

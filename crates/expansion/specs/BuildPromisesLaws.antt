@@ -1,8 +1,8 @@
 -- Laws of `BuildPromises.antt`, and the steps of the functions of src/build.rt: the line that opens the header or the trailer, the three bodies of the message
 -- level one behind the other, and the choice of the message. Assumes nothing.
 use mathlib.Core.Path.{_≡_, refl, sym, ap, _∙_}
-use Prim.Native.Nat.{ℕ, zero, suc, _+_, _≤_, _<_}
-use mathlib.Core.Bool.{Bool, true, false, _&&_}
+use Prim.Native.Nat.{ℕ, zero, suc, _+_, _*_, _≤_, _<_}
+use mathlib.Core.Bool.{Bool, true, false, not, _&&_, _||_, false≢true}
 use mathlib.Core.List.{List, [], _∷_}
 use native.Mathlib.Omega.{arith}
 use native.Mathlib.Numerals.{add-one}
@@ -28,7 +28,8 @@ use Rattle.expansion.specs.declared.builder.Added.{Added}
 use Rattle.expansion.specs.declared.builder.Added.the-variants.{Done, Refused}
 use Rattle.expansion.specs.Dictionary.{Body, usesOf, messageOf}
 use Rattle.expansion.specs.Dictionary as Tree
-use Rattle.expansion.specs.DictionaryLookups.{wordLines, dictionaryIn, bodyAt, lines-counted, stands-line, Begins, header-begins, trailer-begins, message-found, message-missing}
+use Rattle.expansion.specs.AcceptedPlaces.{Parted, isDefinition, place-behind}
+use Rattle.expansion.specs.DictionaryLookups.{wordLines, dictionaryIn, bodyAt, lines-counted, kind-at, stands-line, definitions-first, header-comes, Begins, header-begins, trailer-begins, message-found, message-missing}
 use Rattle.expansion.specs.Expansion.{Work, Builder, OpenLevel, emptyLevel, nothingSpent, eachUse, addEnvelope, addMessage, build, outcomeOf, expandOf, Expanded, finish}
 use Rattle.expansion.specs.Expansion as Definition
 use Rattle.expansion.specs.Trace.{Frame, First, InWork, run, atStart, builderOf, workOf, Fits, Grown, Grows, Adds}
@@ -37,13 +38,54 @@ use Rattle.expansion.specs.FillLaws.{first-fill, adds-same}
 use Rattle.expansion.specs.ExpansionPromises.{fillAt, Uses}
 use Rattle.expansion.specs.BuildPromises.{builtOf, topFrame, Built, expansionIn, Traced}
 
--- ---- block_of: the loop over the lines before the one that opens a block
+-- ---- header_of: the place is halved in
+
+pub record HeaderSoFar (words : List ℕ) (first past : ℕ) : Type 0 where
+  pub from : first ≤ placeOf 3 0 (wordLines words)
+  pub to : placeOf 3 0 (wordLines words) ≤ past
+  pub inside : past ≤ getD words 0 0
+
+module _ (words : List ℕ) (small : Words32 words) (passed : isDictionary words ≡ true) where
+  pub header-starts : HeaderSoFar words 0 (getD words 0 0)
+  header-starts = record { from = omega arith; to = omega (arith, header-comes words small passed); inside = omega arith }
+
+  module _ (first past middle : ℕ) (so-far : HeaderSoFar words first past) (from : first ≤ middle) (below : middle < past) where
+    abbrev defines : Bool
+    defines = eqb (getD words (4 + 10 * middle) 0) 1 || eqb (getD words (4 + 10 * middle) 0) 2
+
+    defines-line : defines ≡ isDefinition (getD (wordLines words) middle Unknown)
+    unfolding isOf
+    defines-line = rw (kind-at words small passed middle (omega (arith, so-far .inside))) refl
+
+    -- a line on the wrong side of the header
+    wrong-side : (side : Bool) → defines ≡ side → defines ≡ not side → ⊥
+    wrong-side true one other = false≢true (sym other ∙ one)
+    wrong-side false one other = false≢true (sym one ∙ other)
+
+    pub header-above : defines ≡ true → HeaderSoFar words (middle + 1) past
+    header-above test =
+        let other : placeOf 3 0 (wordLines words) ≤ middle → ⊥ = λ before.
+        wrong-side true test (defines-line ∙ definitions-first words small passed .behind-it middle before (omega (arith, lines-counted words, so-far .inside))) in
+        record { from = omega (arith, other); to = so-far .to; inside = so-far .inside }
+
+    pub header-below : defines ≡ false → HeaderSoFar words first middle
+    header-below test =
+        let other : middle < placeOf 3 0 (wordLines words) → ⊥ = λ behind.
+        wrong-side false test (defines-line ∙ definitions-first words small passed .before-it middle behind) in
+        record { from = so-far .from; to = omega (arith, other); inside = omega (arith, so-far .inside) }
+
+-- ---- trailer_of: the loop over the lines before the one that opens a block
 
 pub record BlockSoFar (words : List ℕ) (kind at : ℕ) : Type 0 where
   pub ahead : placeOf kind 0 (wordLines words) ≡ at + placeOf kind 0 (drop at (wordLines words))
 
-pub block-begins : (words : List ℕ) (kind : ℕ) → BlockSoFar words kind 0
-block-begins words kind = record { ahead = omega arith }
+pub trailer-starts : (words : List ℕ) → Words32 words → isDictionary words ≡ true → (header : ℕ) → header ≡ placeOf 3 0 (wordLines words) → BlockSoFar words 4 header
+trailer-starts words small passed header same = record {
+  ahead =
+      rw same
+      (place-behind 4 0 (wordLines words) (placeOf 3 0 (wordLines words)) (omega arith) (omega (arith, header-comes words small passed, lines-counted words))
+      (definitions-first words small passed .before-it));
+}
 
 module _ (words : List ℕ) (small : Words32 words) (passed : isDictionary words ≡ true) (kind at : ℕ) (comes : placeOf kind 0 (wordLines words) < getD words 0 0)
     (so-far : BlockSoFar words kind at) where

@@ -45,7 +45,7 @@ use Rattle.dictionary.specs.PassAccepted.{accepts-records}
 use Rattle.expansion.specs.Dictionary.{Body, Blocks, Dictionary, FoundBody, nothingRead, usesOf, innermost, aroundIt, before, blocksOf, dictionaryOf, bodyCalled, componentOf, messageOf}
 use Rattle.expansion.specs.Dictionary as Tree
 use Rattle.expansion.specs.DictionaryPlaces.{openAt, OneBody, InOrder, InPlace, in-place}
-use Rattle.expansion.specs.AcceptedPlaces.{accepted-order, accepted-header, accepted-trailer}
+use Rattle.expansion.specs.AcceptedPlaces.{Parted, accepted-order, accepted-parted, accepted-header, accepted-trailer}
 
 abbrev pub wordLines : List ℕ → List Line
 wordLines words = linesFrom (getD words 0 0) (drop 4 words)
@@ -446,9 +446,10 @@ module _ (words : List ℕ) (small : Words32 words) (passes : isDictionary words
   whole : 4 + 10 * length lines ≤ length words
   whole = omega (arith, lines-counted words, known .fits)
 
-  word-at : (number place : ℕ) → number < getD words 0 0
+  -- a word of the record with a number is that of the line at this place
+  pub word-at : (number place : ℕ) → number < getD words 0 0
       → place < 10
-      → getD words (4 + 10 * number + place) 0 ≡ getD (recordOf (getD lines number Unknown)) place 0
+      → getD words (4 + 10 * number + place) 0 ≡ getD (recordOf (getD (wordLines words) number Unknown)) place 0
   word-at number place inside few =
       let counted = lines-counted words in
       let shift : 4 + 10 * number + place ≡ 4 + (10 * number + place) = omega arith in
@@ -458,15 +459,17 @@ module _ (words : List ℕ) (small : Words32 words) (passes : isDictionary words
       ∙ ap (λ (each : List ℕ). getD each (10 * number + place) 0) (sym records)
       ∙ record-word-at lines number place (omega arith) few
 
+  pub kind-at : (number : ℕ) → number < getD words 0 0 → getD words (4 + 10 * number) 0 ≡ getD (recordOf (getD (wordLines words) number Unknown)) 0 0
+  kind-at number inside =
+      let same : 4 + 10 * number + 0 ≡ 4 + 10 * number = omega arith in
+      ap (λ (at : ℕ). getD words at 0) (sym same) ∙ word-at number 0 inside (omega arith)
+
   -- the record with a number is that of the line at this place
   pub stands-line : (kind name number : ℕ) → number < getD words 0 0
       → standsAt kind name number words ≡ (isOf kind (getD (wordLines words) number Unknown) && eqb (nameOf (getD (wordLines words) number Unknown)) name)
   unfolding standsAt isOf nameOf
   stands-line kind name number inside =
-      let same : 4 + 10 * number + 0 ≡ 4 + 10 * number = omega arith in
-      let first : getD words (4 + 10 * number) 0 ≡ getD (recordOf (getD lines number Unknown)) 0 0 =
-      ap (λ (at : ℕ). getD words at 0) (sym same) ∙ word-at number 0 inside (omega arith) in
-      rw (lt-ltb number (getD words 0 0) inside, first, word-at number 1 inside (omega arith)) refl
+      rw (lt-ltb number (getD words 0 0) inside, kind-at number inside, word-at number 1 inside (omega arith)) refl
 
   begins : (kind name : ℕ) → 3 ≤ kind → kind ≤ 6 → placeOf kind name lines < length lines → BodyAt lines (placeOf kind name lines + 1)
   begins kind name from to inside =
@@ -558,6 +561,9 @@ module _ (words : List ℕ) (small : Words32 words) (passes : isDictionary words
         (missing-at 6 letters messageIn message-placed missing)
 
   -- the header and the trailer begin behind the first line of their kind, and have no use
+  pub definitions-first : Parted (wordLines words) (placeOf 3 0 (wordLines words))
+  definitions-first = accepted-parted lines (known .accepted)
+
   pub header-comes : placeOf 3 0 (wordLines words) < getD words 0 0
   header-comes = omega (arith, accepted-header lines (known .accepted), lines-counted words)
 

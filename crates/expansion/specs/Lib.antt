@@ -4,6 +4,7 @@ pub mod Dictionary
 pub mod DictionaryPlaces
 pub mod AcceptedPlaces
 pub mod DictionaryLookups
+pub mod BodyLines
 pub mod Expansion
 pub mod ExpansionCases
 pub mod Trace

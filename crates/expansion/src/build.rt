@@ -9,10 +9,11 @@ use dictionary::dictionary_check::stands_at;
 use sorting::search::Found;
 use texts::refusal::Refusal;
 ghost use mathlib.Core.Path.{_≡_};
-ghost use mathlib.Core.Bool.{true};
+ghost use mathlib.Core.Bool.{true, _||_};
 ghost use mathlib.Core.List.{[]};
-ghost use Prim.Native.Nat.{_+_, _≤_, _<_};
-ghost use lib.ListN.{length, getD};
+ghost use Prim.Native.Nat.{_+_, _≤_};
+ghost use lib.ListN.{length};
+ghost use Rattle.ascii.specs.Notation.{_≡ᵇ_};
 ghost use Rattle.dictionary.specs.DictionaryWords.{placeOf};
 ghost use Rattle.dictionary.specs.DictionaryCheck.{isDictionary};
 ghost use Rattle.expansion.specs.DictionaryLookups.{wordLines, Begins};
@@ -23,8 +24,10 @@ ghost use Rattle.expansion.specs.BuildPromises.{Built, Traced};
 // Document 01: "top 0; over 32 refuses". So 33 depths are left at the top.
 const DEPTHS: usize = 33;
 
-// The kinds of the records that open the header and the trailer.
-const BEGIN_HEADER: u32 = 3;
+// The kinds of the records that define a tag and an admitted value, and of the one that opens the trailer.
+const DEFINITION: u32 = 1;
+
+const VALUE: u32 = 2;
 
 const BEGIN_TRAILER: u32 = 4;
 
@@ -40,14 +43,42 @@ fn nothing_open() -> Path
     }
 }
 
-// The place of the first line of this kind, which has no name.
-fn block_of(words: &[u32], kind: u32) -> usize
-    requires { ⌜ (isDictionary (now words) ≡ true) × (placeOf kind 0 (wordLines (now words)) < getD (now words) 0 0) ⌝ }
-    ensures { λ place. ⌜ place ≡ placeOf kind 0 (wordLines (now (words .entry))) ⌝ }
+// A record of this kind defines a tag or a value that it admits.
+fn is_definition(kind: u32) -> bool
+    ensures { λ answer. ⌜ answer ≡ (kind ≡ᵇ 1 || kind ≡ᵇ 2) ⌝ }
 {
-    let mut at: u32 = 0;
+    if kind == DEFINITION {
+        return true;
+    }
+    kind == VALUE
+}
+
+// The place of the line that opens the header: the definitions stand before it, and none behind it. So it is found by halving.
+fn header_of(words: &[u32]) -> usize
+    requires { ⌜ isDictionary (now words) ≡ true ⌝ }
+    ensures { λ place. ⌜ place ≡ placeOf 3 0 (wordLines (now (words .entry))) ⌝ }
+{
+    let mut first = 0;
+    let mut past = words[0] as usize;
+    while first < past {
+        let middle = (first + past) / 2;
+        if is_definition(words[4 + 10 * middle]) {
+            first = middle + 1;
+        } else {
+            past = middle;
+        }
+    }
+    first
+}
+
+// The place of the line that opens the trailer, which stands behind the header's.
+fn trailer_of(words: &[u32], header: usize) -> usize
+    requires { ⌜ (isDictionary (now words) ≡ true) × (header ≡ placeOf 3 0 (wordLines (now words))) ⌝ }
+    ensures { λ place. ⌜ place ≡ placeOf 4 0 (wordLines (now (words .entry))) ⌝ }
+{
+    let mut at = header as u32;
     loop {
-        if stands_at(words, kind, 0, at) {
+        if stands_at(words, BEGIN_TRAILER, 0, at) {
             return at as usize;
         }
         at += 1;
@@ -70,8 +101,8 @@ pub fn build(words: &[u32], message: usize, trace: &mut [u64]) -> Added
     requires { ⌜ (isDictionary (now words) ≡ true) × (Begins (now words) message × (14336 ≤ length (now trace))) ⌝ }
     ensures { λ added. ⌜ Built (now (words .entry)) message added (now (trace .exit)) ⌝ }
 {
-    let header = block_of(words, BEGIN_HEADER);
-    let trailer = block_of(words, BEGIN_TRAILER);
+    let header = header_of(words);
+    let trailer = trailer_of(words, header);
     let nothing = Builder {
         nodes: 0,
         members: 0,

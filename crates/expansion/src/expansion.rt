@@ -3,6 +3,8 @@
 //
 // A body is walked by its lines: a place is the number of a line among the dictionary's lines, from 0. What is added goes into the trace
 // (builder.rt), so that a level needs no memory of its own.
+use crate::body_line::BodyLine;
+use crate::body_line::body_line;
 use crate::builder::Added;
 use crate::builder::Builder;
 use crate::builder::add_field;
@@ -11,9 +13,7 @@ use crate::builder::leave_group;
 use crate::builder::spend;
 use crate::seen::contains;
 use dictionary::definitions::component_of;
-use dictionary::definitions::line_numbered;
 use sorting::search::Found;
-use texts::line::Line;
 use texts::refusal::Refusal;
 ghost use mathlib.Core.Path.{_≡_};
 ghost use mathlib.Core.Bool.{_&&_};
@@ -99,8 +99,8 @@ pub fn add_body(
     let mut at = place;
     let mut so_far = builder;
     loop {
-        match line_numbered(words, at) {
-            Line::Field(tag, required) => {
+        match body_line(words, at) {
+            BodyLine::Field(tag, required) => {
                 let needed = both(collect, required);
                 match add_field(trace, so_far, tag, needed) {
                     Added::Done(next) => {
@@ -112,7 +112,7 @@ pub fn add_body(
                     }
                 }
             }
-            Line::Group(count, delimiter, required) => {
+            BodyLine::Group(count, delimiter, required) => {
                 let first = at + 1;
                 let group = GroupLine {
                     count,
@@ -130,7 +130,7 @@ pub fn add_body(
                     }
                 }
             }
-            Line::Use(name, required) => {
+            BodyLine::Use(name, required) => {
                 match add_component(
                     words,
                     name,
@@ -150,7 +150,7 @@ pub fn add_body(
                     }
                 }
             }
-            _ => {
+            BodyLine::Other => {
                 let behind = at + 1;
                 return Filled::UpTo(behind, so_far);
             }

@@ -1,4 +1,5 @@
 // The expansion of a message type: from the definitions of a dictionary to the layout of a message.
+pub mod body_line;
 pub mod build;
 pub mod builder;
 pub mod expansion;

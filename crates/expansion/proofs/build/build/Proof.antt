@@ -2,24 +2,24 @@
 -- `expansion::build::build` meets its contract: three bodies, one behind the other, by the laws of specs/BuildPromisesLaws.antt.
 use mathlib.Core.Path.{_∙_}
 use native.Mathlib.Omega.{arith}
-use Rattle.expansion.specs.DictionaryLookups.{header-comes, trailer-comes, header-begins, trailer-begins}
+use Rattle.expansion.specs.DictionaryLookups.{header-begins, trailer-begins}
 use Rattle.expansion.specs.TraceLaws.{done-grown}
 use Rattle.expansion.specs.BuildPromisesLaws.{nothing-fits, built-header-over, built-trailer-over, built-message}
 use borrow.Author.Needs.{needs}
 use Rattle.expansion.proofs.build.build.Statement.{statement}
 use Rattle.expansion.proofs.build.build.Tie as tie
 
--- let header = block_of(words, BEGIN_HEADER);
-block-of-requires : tie.Need-block-of-requires
-block-of-requires c κs = (c .before .before .pre .0, header-comes (c .before .before .args .words .now) (λ place. (c .before .shared-slice-known .given place) .fits) (c .before .before .pre .0))
+-- let header = header_of(words);
+header-of-requires : tie.Need-header-of-requires
+header-of-requires c κs = c .before .before .pre .0
 
--- let trailer = block_of(words, BEGIN_TRAILER);
-block-of-requires-2 : tie.Need-block-of-requires-2
-block-of-requires-2 c κs = (c .before .before .before .pre .0, trailer-comes (c .before .before .before .args .words .now) (λ place. (c .before .before .shared-slice-known .given place) .fits) (c .before .before .before .pre .0))
+-- let trailer = trailer_of(words, header);
+trailer-of-requires : tie.Need-trailer-of-requires
+trailer-of-requires c κs = (c .before .before .before .pre .0, c .header-of .ensures)
 
 -- match add_top(words, header, trace, nothing) {
 add-top-requires : tie.Need-add-top-requires
-add-top-requires c κs = (c .before .before .before .before .before .pre .0, (header-begins (c .before .before .before .before .before .args .words .now) (λ place. (c .before .before .before .before .shared-slice-known .given place) .fits) (c .before .before .before .before .before .pre .0) _ (c .before .before .block-of .ensures) .0, (nothing-fits, c .before .before .before .before .before .pre .1 .1)))
+add-top-requires c κs = (c .before .before .before .before .before .pre .0, (header-begins (c .before .before .before .before .before .args .words .now) (λ place. (c .before .before .before .before .shared-slice-known .given place) .fits) (c .before .before .before .before .before .pre .0) _ (c .before .before .header-of .ensures) .0, (nothing-fits, c .before .before .before .before .before .pre .1 .1)))
 
 -- Added::Refused(refusal) => Added::Refused(refusal),
 enum-known-refusal : tie.Need-enum-known-refusal
@@ -30,7 +30,7 @@ enum-known-head : tie.Need-enum-known-head
 enum-known-head c = search needs
 
 add-top-requires-2 : tie.Need-add-top-requires-2
-add-top-requires-2 c κs = (c .before .before .before .before .before .before .before .before .before .before .before .before .pre .0, (trailer-begins (c .before .before .before .before .before .before .before .before .before .before .before .before .args .words .now) (λ place. (c .before .before .before .before .before .before .before .before .before .before .before .shared-slice-known .given place) .fits) (c .before .before .before .before .before .before .before .before .before .before .before .before .pre .0) _ (c .before .before .before .before .before .before .before .before .block-of2 .ensures) .0, (done-grown _ _ ((rw (c .before .before .head .given .1) at (c .before .before .before .before .before .before .add-top .ensures)) .grows) .fits, omega (arith, c .before .before .before .before .before .before .add-top .kept .1 .1 .0, c .before .before .before .before .before .before .before .before .before .before .before .before .pre .1 .1))))
+add-top-requires-2 c κs = (c .before .before .before .before .before .before .before .before .before .before .before .before .pre .0, (trailer-begins (c .before .before .before .before .before .before .before .before .before .before .before .before .args .words .now) (λ place. (c .before .before .before .before .before .before .before .before .before .before .before .shared-slice-known .given place) .fits) (c .before .before .before .before .before .before .before .before .before .before .before .before .pre .0) _ (c .before .before .before .before .before .before .before .before .trailer-of .ensures) .0, (done-grown _ _ ((rw (c .before .before .head .given .1) at (c .before .before .before .before .before .before .add-top .ensures)) .grows) .fits, omega (arith, c .before .before .before .before .before .before .add-top .kept .1 .1 .0, c .before .before .before .before .before .before .before .before .before .before .before .before .pre .1 .1))))
 
 -- Added::Refused(refusal) => Added::Refused(refusal),
 enum-known-refusal-2 : tie.Need-enum-known-refusal-2
@@ -48,26 +48,26 @@ same-length : tie.Need-same-length
 same-length c = search needs
 
 returns : tie.Need-returns
-returns c = built-header-over (c .before .before .before .before .before .before .before .before .before .before .before .args .words .now) (λ place. (c .before .before .before .before .before .before .before .before .before .before .shared-slice-known .given place) .fits) (c .before .before .before .before .before .before .before .before .before .before .before .pre .0) _ _ (c .before .before .before .before .before .before .before .before .before .before .before .args .message) (c .before .before .before .before .before .before .before .before .block-of .ensures) (c .before .before .before .before .before .before .before .block-of2 .ensures) (c .before .before .before .before .before .before .before .before .before .before .before .args .trace .now) _ _ _ (rw (c .before .refusal .given .1) at (c .before .before .before .before .before .add-top .ensures))
+returns c = built-header-over (c .before .before .before .before .before .before .before .before .before .before .before .args .words .now) (λ place. (c .before .before .before .before .before .before .before .before .before .before .shared-slice-known .given place) .fits) (c .before .before .before .before .before .before .before .before .before .before .before .pre .0) _ _ (c .before .before .before .before .before .before .before .before .before .before .before .args .message) (c .before .before .before .before .before .before .before .before .header-of .ensures) (c .before .before .before .before .before .before .before .trailer-of .ensures) (c .before .before .before .before .before .before .before .before .before .before .before .args .trace .now) _ _ _ (rw (c .before .refusal .given .1) at (c .before .before .before .before .before .add-top .ensures))
 
 same-length-2 : tie.Need-same-length-2
 same-length-2 c = search needs
 
 returns-2 : tie.Need-returns-2
-returns-2 c = built-trailer-over (c .before .before .before .before .before .before .before .before .before .before .before .before .before .before .before .before .before .before .args .words .now) (λ place. (c .before .before .before .before .before .before .before .before .before .before .before .before .before .before .before .before .before .shared-slice-known .given place) .fits) (c .before .before .before .before .before .before .before .before .before .before .before .before .before .before .before .before .before .before .pre .0) _ _ (c .before .before .before .before .before .before .before .before .before .before .before .before .before .before .before .before .before .before .args .message) (c .before .before .before .before .before .before .before .before .before .before .before .before .before .before .before .block-of .ensures) (c .before .before .before .before .before .before .before .before .before .before .before .before .before .before .block-of2 .ensures) (c .before .before .before .before .before .before .before .before .before .before .before .before .before .before .before .before .before .before .args .trace .now) _ _ (rw (c .before .before .before .before .before .before .before .before .head .given .1) at (c .before .before .before .before .before .before .before .before .before .before .before .before .add-top .ensures)) _ _ _ (rw (c .before .refusal2 .given .1) at (c .before .before .before .before .before .add-top2 .ensures))
+returns-2 c = built-trailer-over (c .before .before .before .before .before .before .before .before .before .before .before .before .before .before .before .before .before .before .args .words .now) (λ place. (c .before .before .before .before .before .before .before .before .before .before .before .before .before .before .before .before .before .shared-slice-known .given place) .fits) (c .before .before .before .before .before .before .before .before .before .before .before .before .before .before .before .before .before .before .pre .0) _ _ (c .before .before .before .before .before .before .before .before .before .before .before .before .before .before .before .before .before .before .args .message) (c .before .before .before .before .before .before .before .before .before .before .before .before .before .before .before .header-of .ensures) (c .before .before .before .before .before .before .before .before .before .before .before .before .before .before .trailer-of .ensures) (c .before .before .before .before .before .before .before .before .before .before .before .before .before .before .before .before .before .before .args .trace .now) _ _ (rw (c .before .before .before .before .before .before .before .before .head .given .1) at (c .before .before .before .before .before .before .before .before .before .before .before .before .add-top .ensures)) _ _ _ (rw (c .before .refusal2 .given .1) at (c .before .before .before .before .before .add-top2 .ensures))
 
 same-length-3 : tie.Need-same-length-3
 same-length-3 c = search needs
 
 returns-3 : tie.Need-returns-3
-returns-3 c = built-message (c .before .before .before .before .before .before .before .before .before .before .before .before .before .before .before .before .before .before .before .before .before .before .args .words .now) (λ place. (c .before .before .before .before .before .before .before .before .before .before .before .before .before .before .before .before .before .before .before .before .before .shared-slice-known .given place) .fits) (c .before .before .before .before .before .before .before .before .before .before .before .before .before .before .before .before .before .before .before .before .before .before .pre .0) _ _ (c .before .before .before .before .before .before .before .before .before .before .before .before .before .before .before .before .before .before .before .before .before .before .args .message) (c .before .before .before .before .before .before .before .before .before .before .before .before .before .before .before .before .before .before .before .block-of .ensures) (c .before .before .before .before .before .before .before .before .before .before .before .before .before .before .before .before .before .before .block-of2 .ensures) (c .before .before .before .before .before .before .before .before .before .before .before .before .before .before .before .before .before .before .before .before .before .before .args .trace .now) _ _ (rw (c .before .before .before .before .before .before .before .before .before .before .before .before .head .given .1) at (c .before .before .before .before .before .before .before .before .before .before .before .before .before .before .before .before .add-top .ensures)) _ _ _ _ (rw (c .before .before .before .before .before .envelope .given .1) at (c .before .before .before .before .before .before .before .before .before .add-top2 .ensures)) (c .before .before .add-top3 .ensures)
+returns-3 c = built-message (c .before .before .before .before .before .before .before .before .before .before .before .before .before .before .before .before .before .before .before .before .before .before .args .words .now) (λ place. (c .before .before .before .before .before .before .before .before .before .before .before .before .before .before .before .before .before .before .before .before .before .shared-slice-known .given place) .fits) (c .before .before .before .before .before .before .before .before .before .before .before .before .before .before .before .before .before .before .before .before .before .before .pre .0) _ _ (c .before .before .before .before .before .before .before .before .before .before .before .before .before .before .before .before .before .before .before .before .before .before .args .message) (c .before .before .before .before .before .before .before .before .before .before .before .before .before .before .before .before .before .before .before .header-of .ensures) (c .before .before .before .before .before .before .before .before .before .before .before .before .before .before .before .before .before .before .trailer-of .ensures) (c .before .before .before .before .before .before .before .before .before .before .before .before .before .before .before .before .before .before .before .before .before .before .args .trace .now) _ _ (rw (c .before .before .before .before .before .before .before .before .before .before .before .before .head .given .1) at (c .before .before .before .before .before .before .before .before .before .before .before .before .before .before .before .before .add-top .ensures)) _ _ _ _ (rw (c .before .before .before .before .before .envelope .given .1) at (c .before .before .before .before .before .before .before .before .before .add-top2 .ensures)) (c .before .before .add-top3 .ensures)
 
 pub build-spec : {M : Type 1} → statement M
 build-spec =
     tie.close
     (tie.spec
-    block-of-requires
-    block-of-requires-2
+    header-of-requires
+    trailer-of-requires
     add-top-requires
     enum-known-refusal
     enum-known-head

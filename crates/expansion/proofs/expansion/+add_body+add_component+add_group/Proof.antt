@@ -2,17 +2,10 @@
 -- The cycle of calls {add_body, add_component, add_group}: a group and a use go one depth down, a body stays at its depth, and so each call falls on
 -- the depths left. The loop's invariant is `BodySoFar`, and the laws are those of specs/ExpansionPromisesLaws.antt.
 use mathlib.Core.Path.{sym, _∙_}
-use mathlib.Core.List.{List, [], _∷_}
 use Prim.Native.Nat.{_+_, _-_, _*_}
 use native.Mathlib.Omega.{arith}
 use lib.ListN.{getD}
-use denote.Enum.Declared.{tagOf}
-use types.Run.{OneOf, miss}
-use Rattle.texts.proofs.line.Line.{the-type}
-use Rattle.texts.specs.declared.line.Line.{Line}
-use Rattle.texts.specs.declared.line.Line.the-variants.{Def, Value, BeginHeader, BeginTrailer, EndHeader, EndTrailer, Component, Message, Field, Group, Use, End, Member, RequiredTag, Unknown}
 use Rattle.dictionary.specs.DefinitionsLaws.{isDictionary-parts}
-use Rattle.expansion.specs.DictionaryPlaces.{IsOther}
 use Rattle.expansion.specs.DictionaryLookups.{wordLines, dictionaryIn, bodyAt, line-at, component-found, component-missing}
 use Rattle.expansion.specs.TraceLaws.{grows-then, grown-grows, done-grown, refused-grows}
 use Rattle.expansion.specs.ExpansionPromises.{openNames, groupAt}
@@ -31,7 +24,7 @@ use Rattle.expansion.proofs.expansion.add_group.Reads as add-group
 use Rattle.expansion.proofs.expansion.add_group.Kinds as add-group-kinds
 use Rattle.expansion.proofs.expansion.+add_body+add_component+add_group.Lts-add_group as add-group-lts
 use Rattle.dictionary.proofs.definitions.component_of.Reads as component-of-reads
-use Rattle.dictionary.proofs.definitions.line_numbered.Reads as line-numbered-reads
+use Rattle.expansion.proofs.body_line.body_line.Reads as body-line-reads
 use Rattle.expansion.proofs.builder.add_field.Reads as add-field-reads
 use Rattle.expansion.proofs.builder.enter_group.Reads as enter-group-reads
 use Rattle.expansion.proofs.builder.leave_group.Reads as leave-group-reads
@@ -79,7 +72,7 @@ add-group-below t =
     and 2 add-group-kinds.ps (falls 2 add-group-kinds.ps _<_ μ-add-group t) add-group.Pre
 
 abbrev add-body-claims : ℕ → add-body-lts.Claims
-add-body-claims t = (line-numbered-reads.Asked, line-numbered-reads.Learnt, both-reads.Asked, both-reads.Learnt, add-field-reads.Asked, add-field-reads.Learnt, add-group-below t, add-group.Post, add-component-below t, add-component.Post)
+add-body-claims t = (body-line-reads.Asked, body-line-reads.Learnt, both-reads.Asked, both-reads.Learnt, add-field-reads.Asked, add-field-reads.Learnt, add-group-below t, add-group.Post, add-component-below t, add-component.Post)
 
 abbrev add-body-Inv-loop : add-body-lts.InvT-loop
 add-body-Inv-loop words place depth-left path collect trace₀ at₀ so-far₀ trace at so-far = BodySoFar words depth-left (openNames path) collect place so-far₀ trace₀ at so-far trace
@@ -91,11 +84,11 @@ add-body-μ-loop words place depth-left path collect trace₀ at₀ so-far₀ tr
 add-body-loop-holds : (t : ℕ) → add-body-lts.Need-loop-holds (add-body-claims t) (add-body-at t) add-body.Post add-body-Inv-loop add-body-μ-loop
 add-body-loop-holds t c = body-begins _ _ _ _ _ _ _ (c .before .before .pre .1 .1) (c .before .before .pre .1 .0 .fits)
 
--- match line_numbered(words, at) {
-add-body-line-numbered-requires : (t : ℕ) → add-body-lts.Need-line-numbered-requires (add-body-claims t) (add-body-at t) add-body.Post add-body-Inv-loop add-body-μ-loop
-add-body-line-numbered-requires t c κs = (c .before .before .before .pre .1 .0 .passed, body-inside (c .before .before .before .args .words .now) (λ place. (c .before .before .shared-slice-known .given place) .fits) (c .before .before .before .pre .1 .0 .passed) (c .before .before .before .args .depth-left) (openNames (c .before .before .before .args .path)) (c .before .before .before .args .collect) (c .before .before .before .args .place) (c .before .before .before .args .builder) (c .before .before .before .args .trace .now) (c .loop .at) (c .loop .so-far) _ (c .loop .inv))
+-- match body_line(words, at) {
+add-body-body-line-requires : (t : ℕ) → add-body-lts.Need-body-line-requires (add-body-claims t) (add-body-at t) add-body.Post add-body-Inv-loop add-body-μ-loop
+add-body-body-line-requires t c κs = (c .before .before .before .pre .1 .0 .passed, body-inside (c .before .before .before .args .words .now) (λ place. (c .before .before .shared-slice-known .given place) .fits) (c .before .before .before .pre .1 .0 .passed) (c .before .before .before .args .depth-left) (openNames (c .before .before .before .args .path)) (c .before .before .before .args .collect) (c .before .before .before .args .place) (c .before .before .before .args .builder) (c .before .before .before .args .trace .now) (c .loop .at) (c .loop .so-far) _ (c .loop .inv))
 
--- Line::Field(tag, required) => {
+-- BodyLine::Field(tag, required) => {
 add-body-enum-known-tag : (t : ℕ) → add-body-lts.Need-enum-known-tag (add-body-claims t) (add-body-at t) add-body.Post add-body-Inv-loop add-body-μ-loop
 add-body-enum-known-tag t c = search needs
 
@@ -120,7 +113,7 @@ add-body-loop-less : (t : ℕ) → add-body-lts.Need-loop-less (add-body-claims 
 add-body-loop-less t c = omega (arith, body-inside (c .before .before .before .before .before .before .before .before .before .before .before .before .before .before .before .args .words .now) (λ place. (c .before .before .before .before .before .before .before .before .before .before .before .before .before .before .shared-slice-known .given place) .fits) (c .before .before .before .before .before .before .before .before .before .before .before .before .before .before .before .pre .1 .0 .passed) (c .before .before .before .before .before .before .before .before .before .before .before .before .before .before .before .args .depth-left) (openNames (c .before .before .before .before .before .before .before .before .before .before .before .before .before .before .before .args .path)) (c .before .before .before .before .before .before .before .before .before .before .before .before .before .before .before .args .collect) (c .before .before .before .before .before .before .before .before .before .before .before .before .before .before .before .args .place) (c .before .before .before .before .before .before .before .before .before .before .before .before .before .before .before .args .builder) (c .before .before .before .before .before .before .before .before .before .before .before .before .before .before .before .args .trace .now) (c .before .before .before .before .before .before .before .before .before .before .before .before .loop .at) (c .before .before .before .before .before .before .before .before .before .before .before .before .loop .so-far) _ (c .before .before .before .before .before .before .before .before .before .before .before .before .loop .inv))
 
 add-body-loop-again : (t : ℕ) → add-body-lts.Need-loop-again (add-body-claims t) (add-body-at t) add-body.Post add-body-Inv-loop add-body-μ-loop
-add-body-loop-again t c = body-field (c .before .before .before .before .before .before .before .before .before .before .before .before .before .before .before .args .words .now) (λ place. (c .before .before .before .before .before .before .before .before .before .before .before .before .before .before .shared-slice-known .given place) .fits) (c .before .before .before .before .before .before .before .before .before .before .before .before .before .before .before .pre .1 .0 .passed) (c .before .before .before .before .before .before .before .before .before .before .before .before .before .before .before .args .depth-left) (openNames (c .before .before .before .before .before .before .before .before .before .before .before .before .before .before .before .args .path)) (c .before .before .before .before .before .before .before .before .before .before .before .before .before .before .before .args .collect) (c .before .before .before .before .before .before .before .before .before .before .before .before .before .before .before .args .place) (c .before .before .before .before .before .before .before .before .before .before .before .before .before .before .before .args .builder) (c .before .before .before .before .before .before .before .before .before .before .before .before .before .before .before .args .trace .now) (c .before .before .before .before .before .before .before .before .before .before .before .before .loop .at) (c .before .before .before .before .before .before .before .before .before .before .before .before .loop .so-far) _ (c .before .before .before .before .before .before .before .before .before .before .before .before .loop .inv) _ _ _ (sym (line-at (c .before .before .before .before .before .before .before .before .before .before .before .before .before .before .before .args .words .now) (c .before .before .before .before .before .before .before .before .before .before .before .before .loop .at) (body-inside (c .before .before .before .before .before .before .before .before .before .before .before .before .before .before .before .args .words .now) (λ place. (c .before .before .before .before .before .before .before .before .before .before .before .before .before .before .shared-slice-known .given place) .fits) (c .before .before .before .before .before .before .before .before .before .before .before .before .before .before .before .pre .1 .0 .passed) (c .before .before .before .before .before .before .before .before .before .before .before .before .before .before .before .args .depth-left) (openNames (c .before .before .before .before .before .before .before .before .before .before .before .before .before .before .before .args .path)) (c .before .before .before .before .before .before .before .before .before .before .before .before .before .before .before .args .collect) (c .before .before .before .before .before .before .before .before .before .before .before .before .before .before .before .args .place) (c .before .before .before .before .before .before .before .before .before .before .before .before .before .before .before .args .builder) (c .before .before .before .before .before .before .before .before .before .before .before .before .before .before .before .args .trace .now) (c .before .before .before .before .before .before .before .before .before .before .before .before .loop .at) (c .before .before .before .before .before .before .before .before .before .before .before .before .loop .so-far) _ (c .before .before .before .before .before .before .before .before .before .before .before .before .loop .inv))) ∙ sym (c .before .before .before .before .before .before .before .before .before .before .before .line-numbered .ensures) ∙ c .before .before .before .before .before .before .before .before .before .tag .given .1) (c .before .before .before .before .before .before .before .both .ensures) _ _ (rw (c .before .next .given .1) at (c .before .before .before .before .before .add-field .ensures .0)) (rw (c .before .next .given .1) at (c .before .before .before .before .before .add-field .ensures .1)) (c .before .before .before .before .before .add-field .kept .0)
+add-body-loop-again t c = body-field (c .before .before .before .before .before .before .before .before .before .before .before .before .before .before .before .args .words .now) (λ place. (c .before .before .before .before .before .before .before .before .before .before .before .before .before .before .shared-slice-known .given place) .fits) (c .before .before .before .before .before .before .before .before .before .before .before .before .before .before .before .pre .1 .0 .passed) (c .before .before .before .before .before .before .before .before .before .before .before .before .before .before .before .args .depth-left) (openNames (c .before .before .before .before .before .before .before .before .before .before .before .before .before .before .before .args .path)) (c .before .before .before .before .before .before .before .before .before .before .before .before .before .before .before .args .collect) (c .before .before .before .before .before .before .before .before .before .before .before .before .before .before .before .args .place) (c .before .before .before .before .before .before .before .before .before .before .before .before .before .before .before .args .builder) (c .before .before .before .before .before .before .before .before .before .before .before .before .before .before .before .args .trace .now) (c .before .before .before .before .before .before .before .before .before .before .before .before .loop .at) (c .before .before .before .before .before .before .before .before .before .before .before .before .loop .so-far) _ (c .before .before .before .before .before .before .before .before .before .before .before .before .loop .inv) _ _ _ (sym (line-at (c .before .before .before .before .before .before .before .before .before .before .before .before .before .before .before .args .words .now) (c .before .before .before .before .before .before .before .before .before .before .before .before .loop .at) (body-inside (c .before .before .before .before .before .before .before .before .before .before .before .before .before .before .before .args .words .now) (λ place. (c .before .before .before .before .before .before .before .before .before .before .before .before .before .before .shared-slice-known .given place) .fits) (c .before .before .before .before .before .before .before .before .before .before .before .before .before .before .before .pre .1 .0 .passed) (c .before .before .before .before .before .before .before .before .before .before .before .before .before .before .before .args .depth-left) (openNames (c .before .before .before .before .before .before .before .before .before .before .before .before .before .before .before .args .path)) (c .before .before .before .before .before .before .before .before .before .before .before .before .before .before .before .args .collect) (c .before .before .before .before .before .before .before .before .before .before .before .before .before .before .before .args .place) (c .before .before .before .before .before .before .before .before .before .before .before .before .before .before .before .args .builder) (c .before .before .before .before .before .before .before .before .before .before .before .before .before .before .before .args .trace .now) (c .before .before .before .before .before .before .before .before .before .before .before .before .loop .at) (c .before .before .before .before .before .before .before .before .before .before .before .before .loop .so-far) _ (c .before .before .before .before .before .before .before .before .before .before .before .before .loop .inv))) ∙ (rw (c .before .before .before .before .before .before .before .before .before .tag .given .1) at (c .before .before .before .before .before .before .before .before .before .before .before .body-line .ensures))) (c .before .before .before .before .before .before .before .both .ensures) _ _ (rw (c .before .next .given .1) at (c .before .before .before .before .before .add-field .ensures .0)) (rw (c .before .next .given .1) at (c .before .before .before .before .before .add-field .ensures .1)) (c .before .before .before .before .before .add-field .kept .0)
 
 -- Added::Refused(refusal) => {
 add-body-enum-known-refusal : (t : ℕ) → add-body-lts.Need-enum-known-refusal (add-body-claims t) (add-body-at t) add-body.Post add-body-Inv-loop add-body-μ-loop
@@ -131,9 +124,9 @@ add-body-same-length : (t : ℕ) → add-body-lts.Need-same-length (add-body-cla
 add-body-same-length t c = c .before .before .before .before .before .add-field .kept .0 ∙ c .before .before .before .before .before .before .before .before .before .before .before .before .loop .inv .size
 
 add-body-returns : (t : ℕ) → add-body-lts.Need-returns (add-body-claims t) (add-body-at t) add-body.Post add-body-Inv-loop add-body-μ-loop
-add-body-returns t c = body-field-over (c .before .before .before .before .before .before .before .before .before .before .before .before .before .before .before .args .words .now) (λ place. (c .before .before .before .before .before .before .before .before .before .before .before .before .before .before .shared-slice-known .given place) .fits) (c .before .before .before .before .before .before .before .before .before .before .before .before .before .before .before .pre .1 .0 .passed) (c .before .before .before .before .before .before .before .before .before .before .before .before .before .before .before .args .depth-left) (openNames (c .before .before .before .before .before .before .before .before .before .before .before .before .before .before .before .args .path)) (c .before .before .before .before .before .before .before .before .before .before .before .before .before .before .before .args .collect) (c .before .before .before .before .before .before .before .before .before .before .before .before .before .before .before .args .place) (c .before .before .before .before .before .before .before .before .before .before .before .before .before .before .before .args .builder) (c .before .before .before .before .before .before .before .before .before .before .before .before .before .before .before .args .trace .now) (c .before .before .before .before .before .before .before .before .before .before .before .before .loop .at) (c .before .before .before .before .before .before .before .before .before .before .before .before .loop .so-far) _ (c .before .before .before .before .before .before .before .before .before .before .before .before .loop .inv) _ _ _ (sym (line-at (c .before .before .before .before .before .before .before .before .before .before .before .before .before .before .before .args .words .now) (c .before .before .before .before .before .before .before .before .before .before .before .before .loop .at) (body-inside (c .before .before .before .before .before .before .before .before .before .before .before .before .before .before .before .args .words .now) (λ place. (c .before .before .before .before .before .before .before .before .before .before .before .before .before .before .shared-slice-known .given place) .fits) (c .before .before .before .before .before .before .before .before .before .before .before .before .before .before .before .pre .1 .0 .passed) (c .before .before .before .before .before .before .before .before .before .before .before .before .before .before .before .args .depth-left) (openNames (c .before .before .before .before .before .before .before .before .before .before .before .before .before .before .before .args .path)) (c .before .before .before .before .before .before .before .before .before .before .before .before .before .before .before .args .collect) (c .before .before .before .before .before .before .before .before .before .before .before .before .before .before .before .args .place) (c .before .before .before .before .before .before .before .before .before .before .before .before .before .before .before .args .builder) (c .before .before .before .before .before .before .before .before .before .before .before .before .before .before .before .args .trace .now) (c .before .before .before .before .before .before .before .before .before .before .before .before .loop .at) (c .before .before .before .before .before .before .before .before .before .before .before .before .loop .so-far) _ (c .before .before .before .before .before .before .before .before .before .before .before .before .loop .inv))) ∙ sym (c .before .before .before .before .before .before .before .before .before .before .before .line-numbered .ensures) ∙ c .before .before .before .before .before .before .before .before .before .tag .given .1) (c .before .before .before .before .before .before .before .both .ensures) _ _ _ (rw (c .before .refusal .given .1) at (c .before .before .before .before .before .add-field .ensures .0))
+add-body-returns t c = body-field-over (c .before .before .before .before .before .before .before .before .before .before .before .before .before .before .before .args .words .now) (λ place. (c .before .before .before .before .before .before .before .before .before .before .before .before .before .before .shared-slice-known .given place) .fits) (c .before .before .before .before .before .before .before .before .before .before .before .before .before .before .before .pre .1 .0 .passed) (c .before .before .before .before .before .before .before .before .before .before .before .before .before .before .before .args .depth-left) (openNames (c .before .before .before .before .before .before .before .before .before .before .before .before .before .before .before .args .path)) (c .before .before .before .before .before .before .before .before .before .before .before .before .before .before .before .args .collect) (c .before .before .before .before .before .before .before .before .before .before .before .before .before .before .before .args .place) (c .before .before .before .before .before .before .before .before .before .before .before .before .before .before .before .args .builder) (c .before .before .before .before .before .before .before .before .before .before .before .before .before .before .before .args .trace .now) (c .before .before .before .before .before .before .before .before .before .before .before .before .loop .at) (c .before .before .before .before .before .before .before .before .before .before .before .before .loop .so-far) _ (c .before .before .before .before .before .before .before .before .before .before .before .before .loop .inv) _ _ _ (sym (line-at (c .before .before .before .before .before .before .before .before .before .before .before .before .before .before .before .args .words .now) (c .before .before .before .before .before .before .before .before .before .before .before .before .loop .at) (body-inside (c .before .before .before .before .before .before .before .before .before .before .before .before .before .before .before .args .words .now) (λ place. (c .before .before .before .before .before .before .before .before .before .before .before .before .before .before .shared-slice-known .given place) .fits) (c .before .before .before .before .before .before .before .before .before .before .before .before .before .before .before .pre .1 .0 .passed) (c .before .before .before .before .before .before .before .before .before .before .before .before .before .before .before .args .depth-left) (openNames (c .before .before .before .before .before .before .before .before .before .before .before .before .before .before .before .args .path)) (c .before .before .before .before .before .before .before .before .before .before .before .before .before .before .before .args .collect) (c .before .before .before .before .before .before .before .before .before .before .before .before .before .before .before .args .place) (c .before .before .before .before .before .before .before .before .before .before .before .before .before .before .before .args .builder) (c .before .before .before .before .before .before .before .before .before .before .before .before .before .before .before .args .trace .now) (c .before .before .before .before .before .before .before .before .before .before .before .before .loop .at) (c .before .before .before .before .before .before .before .before .before .before .before .before .loop .so-far) _ (c .before .before .before .before .before .before .before .before .before .before .before .before .loop .inv))) ∙ (rw (c .before .before .before .before .before .before .before .before .before .tag .given .1) at (c .before .before .before .before .before .before .before .before .before .before .before .body-line .ensures))) (c .before .before .before .before .before .before .before .both .ensures) _ _ _ (rw (c .before .refusal .given .1) at (c .before .before .before .before .before .add-field .ensures .0))
 
--- Line::Group(count, delimiter, required) => {
+-- BodyLine::Group(count, delimiter, required) => {
 add-body-enum-known-count : (t : ℕ) → add-body-lts.Need-enum-known-count (add-body-claims t) (add-body-at t) add-body.Post add-body-Inv-loop add-body-μ-loop
 add-body-enum-known-count t c = search needs
 
@@ -143,7 +136,7 @@ add-body-add-first t c = omega (arith, body-inside (c .before .before .before .b
 
 -- match add_group(words, group, depth_left, path, collect, trace, so_far) {
 add-body-add-group-requires : (t : ℕ) → add-body-lts.Need-add-group-requires (add-body-claims t) (add-body-at t) add-body.Post add-body-Inv-loop add-body-μ-loop
-add-body-add-group-requires t c κs = (omega (arith, c .before .before .before .before .before .before .before .before .pre .0), (record { passed = c .before .before .before .before .before .before .before .before .pre .1 .0 .passed; deep = c .before .before .before .before .before .before .before .before .pre .1 .0 .deep; names = c .before .before .before .before .before .before .before .before .pre .1 .0 .names; fits = c .before .before .before .before .before .loop .inv .grown .fits; size = omega (arith, c .before .before .before .before .before .loop .inv .size, c .before .before .before .before .before .before .before .before .pre .1 .0 .size) }, group-there (c .before .before .before .before .before .before .before .before .args .words .now) (λ place. (c .before .before .before .before .before .before .before .shared-slice-known .given place) .fits) (c .before .before .before .before .before .before .before .before .pre .1 .0 .passed) (c .before .before .before .before .before .before .before .before .args .depth-left) (openNames (c .before .before .before .before .before .before .before .before .args .path)) (c .before .before .before .before .before .before .before .before .args .collect) (c .before .before .before .before .before .before .before .before .args .place) (c .before .before .before .before .before .before .before .before .args .builder) (c .before .before .before .before .before .before .before .before .args .trace .now) (c .before .before .before .before .before .loop .at) (c .before .before .before .before .before .loop .so-far) _ (c .before .before .before .before .before .loop .inv) _ _ _ (sym (line-at (c .before .before .before .before .before .before .before .before .args .words .now) (c .before .before .before .before .before .loop .at) (body-inside (c .before .before .before .before .before .before .before .before .args .words .now) (λ place. (c .before .before .before .before .before .before .before .shared-slice-known .given place) .fits) (c .before .before .before .before .before .before .before .before .pre .1 .0 .passed) (c .before .before .before .before .before .before .before .before .args .depth-left) (openNames (c .before .before .before .before .before .before .before .before .args .path)) (c .before .before .before .before .before .before .before .before .args .collect) (c .before .before .before .before .before .before .before .before .args .place) (c .before .before .before .before .before .before .before .before .args .builder) (c .before .before .before .before .before .before .before .before .args .trace .now) (c .before .before .before .before .before .loop .at) (c .before .before .before .before .before .loop .so-far) _ (c .before .before .before .before .before .loop .inv))) ∙ sym (c .before .before .before .before .line-numbered .ensures) ∙ c .before .before .count .given .1)))
+add-body-add-group-requires t c κs = (omega (arith, c .before .before .before .before .before .before .before .before .pre .0), (record { passed = c .before .before .before .before .before .before .before .before .pre .1 .0 .passed; deep = c .before .before .before .before .before .before .before .before .pre .1 .0 .deep; names = c .before .before .before .before .before .before .before .before .pre .1 .0 .names; fits = c .before .before .before .before .before .loop .inv .grown .fits; size = omega (arith, c .before .before .before .before .before .loop .inv .size, c .before .before .before .before .before .before .before .before .pre .1 .0 .size) }, group-there (c .before .before .before .before .before .before .before .before .args .words .now) (λ place. (c .before .before .before .before .before .before .before .shared-slice-known .given place) .fits) (c .before .before .before .before .before .before .before .before .pre .1 .0 .passed) (c .before .before .before .before .before .before .before .before .args .depth-left) (openNames (c .before .before .before .before .before .before .before .before .args .path)) (c .before .before .before .before .before .before .before .before .args .collect) (c .before .before .before .before .before .before .before .before .args .place) (c .before .before .before .before .before .before .before .before .args .builder) (c .before .before .before .before .before .before .before .before .args .trace .now) (c .before .before .before .before .before .loop .at) (c .before .before .before .before .before .loop .so-far) _ (c .before .before .before .before .before .loop .inv) _ _ _ (sym (line-at (c .before .before .before .before .before .before .before .before .args .words .now) (c .before .before .before .before .before .loop .at) (body-inside (c .before .before .before .before .before .before .before .before .args .words .now) (λ place. (c .before .before .before .before .before .before .before .shared-slice-known .given place) .fits) (c .before .before .before .before .before .before .before .before .pre .1 .0 .passed) (c .before .before .before .before .before .before .before .before .args .depth-left) (openNames (c .before .before .before .before .before .before .before .before .args .path)) (c .before .before .before .before .before .before .before .before .args .collect) (c .before .before .before .before .before .before .before .before .args .place) (c .before .before .before .before .before .before .before .before .args .builder) (c .before .before .before .before .before .before .before .before .args .trace .now) (c .before .before .before .before .before .loop .at) (c .before .before .before .before .before .loop .so-far) _ (c .before .before .before .before .before .loop .inv))) ∙ (rw (c .before .before .count .given .1) at (c .before .before .before .before .body-line .ensures)))))
 
 -- Filled::UpTo(behind, next) => {
 add-body-enum-known-behind : (t : ℕ) → add-body-lts.Need-enum-known-behind (add-body-claims t) (add-body-at t) add-body.Post add-body-Inv-loop add-body-μ-loop
@@ -154,7 +147,7 @@ add-body-loop-less-2 : (t : ℕ) → add-body-lts.Need-loop-less-2 (add-body-cla
 add-body-loop-less-2 t c = let moved = (rw (c .before .behind .given .1) at (c .before .before .before .before .before .add-group .ensures)) .ends in omega (arith, moved .0, moved .1 .0)
 
 add-body-loop-again-2 : (t : ℕ) → add-body-lts.Need-loop-again-2 (add-body-claims t) (add-body-at t) add-body.Post add-body-Inv-loop add-body-μ-loop
-add-body-loop-again-2 t c = body-group (c .before .before .before .before .before .before .before .before .before .before .before .before .before .before .args .words .now) (λ place. (c .before .before .before .before .before .before .before .before .before .before .before .before .before .shared-slice-known .given place) .fits) (c .before .before .before .before .before .before .before .before .before .before .before .before .before .before .pre .1 .0 .passed) (c .before .before .before .before .before .before .before .before .before .before .before .before .before .before .args .depth-left) (openNames (c .before .before .before .before .before .before .before .before .before .before .before .before .before .before .args .path)) (c .before .before .before .before .before .before .before .before .before .before .before .before .before .before .args .collect) (c .before .before .before .before .before .before .before .before .before .before .before .before .before .before .args .place) (c .before .before .before .before .before .before .before .before .before .before .before .before .before .before .args .builder) (c .before .before .before .before .before .before .before .before .before .before .before .before .before .before .args .trace .now) (c .before .before .before .before .before .before .before .before .before .before .before .loop .at) (c .before .before .before .before .before .before .before .before .before .before .before .loop .so-far) _ (c .before .before .before .before .before .before .before .before .before .before .before .loop .inv) _ _ _ (sym (line-at (c .before .before .before .before .before .before .before .before .before .before .before .before .before .before .args .words .now) (c .before .before .before .before .before .before .before .before .before .before .before .loop .at) (body-inside (c .before .before .before .before .before .before .before .before .before .before .before .before .before .before .args .words .now) (λ place. (c .before .before .before .before .before .before .before .before .before .before .before .before .before .shared-slice-known .given place) .fits) (c .before .before .before .before .before .before .before .before .before .before .before .before .before .before .pre .1 .0 .passed) (c .before .before .before .before .before .before .before .before .before .before .before .before .before .before .args .depth-left) (openNames (c .before .before .before .before .before .before .before .before .before .before .before .before .before .before .args .path)) (c .before .before .before .before .before .before .before .before .before .before .before .before .before .before .args .collect) (c .before .before .before .before .before .before .before .before .before .before .before .before .before .before .args .place) (c .before .before .before .before .before .before .before .before .before .before .before .before .before .before .args .builder) (c .before .before .before .before .before .before .before .before .before .before .before .before .before .before .args .trace .now) (c .before .before .before .before .before .before .before .before .before .before .before .loop .at) (c .before .before .before .before .before .before .before .before .before .before .before .loop .so-far) _ (c .before .before .before .before .before .before .before .before .before .before .before .loop .inv))) ∙ sym (c .before .before .before .before .before .before .before .before .before .before .line-numbered .ensures) ∙ c .before .before .before .before .before .before .before .before .count .given .1) _ _ _ (rw (c .before .behind .given .1) at (c .before .before .before .before .before .add-group .ensures)) (c .before .before .before .before .before .add-group .kept .1 .1 .1 .1 .1 .0)
+add-body-loop-again-2 t c = body-group (c .before .before .before .before .before .before .before .before .before .before .before .before .before .before .args .words .now) (λ place. (c .before .before .before .before .before .before .before .before .before .before .before .before .before .shared-slice-known .given place) .fits) (c .before .before .before .before .before .before .before .before .before .before .before .before .before .before .pre .1 .0 .passed) (c .before .before .before .before .before .before .before .before .before .before .before .before .before .before .args .depth-left) (openNames (c .before .before .before .before .before .before .before .before .before .before .before .before .before .before .args .path)) (c .before .before .before .before .before .before .before .before .before .before .before .before .before .before .args .collect) (c .before .before .before .before .before .before .before .before .before .before .before .before .before .before .args .place) (c .before .before .before .before .before .before .before .before .before .before .before .before .before .before .args .builder) (c .before .before .before .before .before .before .before .before .before .before .before .before .before .before .args .trace .now) (c .before .before .before .before .before .before .before .before .before .before .before .loop .at) (c .before .before .before .before .before .before .before .before .before .before .before .loop .so-far) _ (c .before .before .before .before .before .before .before .before .before .before .before .loop .inv) _ _ _ (sym (line-at (c .before .before .before .before .before .before .before .before .before .before .before .before .before .before .args .words .now) (c .before .before .before .before .before .before .before .before .before .before .before .loop .at) (body-inside (c .before .before .before .before .before .before .before .before .before .before .before .before .before .before .args .words .now) (λ place. (c .before .before .before .before .before .before .before .before .before .before .before .before .before .shared-slice-known .given place) .fits) (c .before .before .before .before .before .before .before .before .before .before .before .before .before .before .pre .1 .0 .passed) (c .before .before .before .before .before .before .before .before .before .before .before .before .before .before .args .depth-left) (openNames (c .before .before .before .before .before .before .before .before .before .before .before .before .before .before .args .path)) (c .before .before .before .before .before .before .before .before .before .before .before .before .before .before .args .collect) (c .before .before .before .before .before .before .before .before .before .before .before .before .before .before .args .place) (c .before .before .before .before .before .before .before .before .before .before .before .before .before .before .args .builder) (c .before .before .before .before .before .before .before .before .before .before .before .before .before .before .args .trace .now) (c .before .before .before .before .before .before .before .before .before .before .before .loop .at) (c .before .before .before .before .before .before .before .before .before .before .before .loop .so-far) _ (c .before .before .before .before .before .before .before .before .before .before .before .loop .inv))) ∙ (rw (c .before .before .before .before .before .before .before .before .count .given .1) at (c .before .before .before .before .before .before .before .before .before .before .body-line .ensures))) _ _ _ (rw (c .before .behind .given .1) at (c .before .before .before .before .before .add-group .ensures)) (c .before .before .before .before .before .add-group .kept .1 .1 .1 .1 .1 .0)
 
 -- Filled::Stopped(refusal) => {
 add-body-enum-known-refusal-2 : (t : ℕ) → add-body-lts.Need-enum-known-refusal-2 (add-body-claims t) (add-body-at t) add-body.Post add-body-Inv-loop add-body-μ-loop
@@ -165,9 +158,9 @@ add-body-same-length-2 : (t : ℕ) → add-body-lts.Need-same-length-2 (add-body
 add-body-same-length-2 t c = c .before .before .before .before .before .add-group .kept .1 .1 .1 .1 .1 .0 ∙ c .before .before .before .before .before .before .before .before .before .before .before .loop .inv .size
 
 add-body-returns-2 : (t : ℕ) → add-body-lts.Need-returns-2 (add-body-claims t) (add-body-at t) add-body.Post add-body-Inv-loop add-body-μ-loop
-add-body-returns-2 t c = body-group-over (c .before .before .before .before .before .before .before .before .before .before .before .before .before .before .args .words .now) (λ place. (c .before .before .before .before .before .before .before .before .before .before .before .before .before .shared-slice-known .given place) .fits) (c .before .before .before .before .before .before .before .before .before .before .before .before .before .before .pre .1 .0 .passed) (c .before .before .before .before .before .before .before .before .before .before .before .before .before .before .args .depth-left) (openNames (c .before .before .before .before .before .before .before .before .before .before .before .before .before .before .args .path)) (c .before .before .before .before .before .before .before .before .before .before .before .before .before .before .args .collect) (c .before .before .before .before .before .before .before .before .before .before .before .before .before .before .args .place) (c .before .before .before .before .before .before .before .before .before .before .before .before .before .before .args .builder) (c .before .before .before .before .before .before .before .before .before .before .before .before .before .before .args .trace .now) (c .before .before .before .before .before .before .before .before .before .before .before .loop .at) (c .before .before .before .before .before .before .before .before .before .before .before .loop .so-far) _ (c .before .before .before .before .before .before .before .before .before .before .before .loop .inv) _ _ _ (sym (line-at (c .before .before .before .before .before .before .before .before .before .before .before .before .before .before .args .words .now) (c .before .before .before .before .before .before .before .before .before .before .before .loop .at) (body-inside (c .before .before .before .before .before .before .before .before .before .before .before .before .before .before .args .words .now) (λ place. (c .before .before .before .before .before .before .before .before .before .before .before .before .before .shared-slice-known .given place) .fits) (c .before .before .before .before .before .before .before .before .before .before .before .before .before .before .pre .1 .0 .passed) (c .before .before .before .before .before .before .before .before .before .before .before .before .before .before .args .depth-left) (openNames (c .before .before .before .before .before .before .before .before .before .before .before .before .before .before .args .path)) (c .before .before .before .before .before .before .before .before .before .before .before .before .before .before .args .collect) (c .before .before .before .before .before .before .before .before .before .before .before .before .before .before .args .place) (c .before .before .before .before .before .before .before .before .before .before .before .before .before .before .args .builder) (c .before .before .before .before .before .before .before .before .before .before .before .before .before .before .args .trace .now) (c .before .before .before .before .before .before .before .before .before .before .before .loop .at) (c .before .before .before .before .before .before .before .before .before .before .before .loop .so-far) _ (c .before .before .before .before .before .before .before .before .before .before .before .loop .inv))) ∙ sym (c .before .before .before .before .before .before .before .before .before .before .line-numbered .ensures) ∙ c .before .before .before .before .before .before .before .before .count .given .1) _ _ _ (rw (c .before .refusal2 .given .1) at (c .before .before .before .before .before .add-group .ensures))
+add-body-returns-2 t c = body-group-over (c .before .before .before .before .before .before .before .before .before .before .before .before .before .before .args .words .now) (λ place. (c .before .before .before .before .before .before .before .before .before .before .before .before .before .shared-slice-known .given place) .fits) (c .before .before .before .before .before .before .before .before .before .before .before .before .before .before .pre .1 .0 .passed) (c .before .before .before .before .before .before .before .before .before .before .before .before .before .before .args .depth-left) (openNames (c .before .before .before .before .before .before .before .before .before .before .before .before .before .before .args .path)) (c .before .before .before .before .before .before .before .before .before .before .before .before .before .before .args .collect) (c .before .before .before .before .before .before .before .before .before .before .before .before .before .before .args .place) (c .before .before .before .before .before .before .before .before .before .before .before .before .before .before .args .builder) (c .before .before .before .before .before .before .before .before .before .before .before .before .before .before .args .trace .now) (c .before .before .before .before .before .before .before .before .before .before .before .loop .at) (c .before .before .before .before .before .before .before .before .before .before .before .loop .so-far) _ (c .before .before .before .before .before .before .before .before .before .before .before .loop .inv) _ _ _ (sym (line-at (c .before .before .before .before .before .before .before .before .before .before .before .before .before .before .args .words .now) (c .before .before .before .before .before .before .before .before .before .before .before .loop .at) (body-inside (c .before .before .before .before .before .before .before .before .before .before .before .before .before .before .args .words .now) (λ place. (c .before .before .before .before .before .before .before .before .before .before .before .before .before .shared-slice-known .given place) .fits) (c .before .before .before .before .before .before .before .before .before .before .before .before .before .before .pre .1 .0 .passed) (c .before .before .before .before .before .before .before .before .before .before .before .before .before .before .args .depth-left) (openNames (c .before .before .before .before .before .before .before .before .before .before .before .before .before .before .args .path)) (c .before .before .before .before .before .before .before .before .before .before .before .before .before .before .args .collect) (c .before .before .before .before .before .before .before .before .before .before .before .before .before .before .args .place) (c .before .before .before .before .before .before .before .before .before .before .before .before .before .before .args .builder) (c .before .before .before .before .before .before .before .before .before .before .before .before .before .before .args .trace .now) (c .before .before .before .before .before .before .before .before .before .before .before .loop .at) (c .before .before .before .before .before .before .before .before .before .before .before .loop .so-far) _ (c .before .before .before .before .before .before .before .before .before .before .before .loop .inv))) ∙ (rw (c .before .before .before .before .before .before .before .before .count .given .1) at (c .before .before .before .before .before .before .before .before .before .before .body-line .ensures))) _ _ _ (rw (c .before .refusal2 .given .1) at (c .before .before .before .before .before .add-group .ensures))
 
--- Line::Use(name, required) => {
+-- BodyLine::Use(name, required) => {
 add-body-enum-known-name : (t : ℕ) → add-body-lts.Need-enum-known-name (add-body-claims t) (add-body-at t) add-body.Post add-body-Inv-loop add-body-μ-loop
 add-body-enum-known-name t c = search needs
 
@@ -188,7 +181,7 @@ add-body-loop-less-3 : (t : ℕ) → add-body-lts.Need-loop-less-3 (add-body-cla
 add-body-loop-less-3 t c = omega (arith, body-inside (c .before .before .before .before .before .before .before .before .before .before .before .before .before .before .args .words .now) (λ place. (c .before .before .before .before .before .before .before .before .before .before .before .before .before .shared-slice-known .given place) .fits) (c .before .before .before .before .before .before .before .before .before .before .before .before .before .before .pre .1 .0 .passed) (c .before .before .before .before .before .before .before .before .before .before .before .before .before .before .args .depth-left) (openNames (c .before .before .before .before .before .before .before .before .before .before .before .before .before .before .args .path)) (c .before .before .before .before .before .before .before .before .before .before .before .before .before .before .args .collect) (c .before .before .before .before .before .before .before .before .before .before .before .before .before .before .args .place) (c .before .before .before .before .before .before .before .before .before .before .before .before .before .before .args .builder) (c .before .before .before .before .before .before .before .before .before .before .before .before .before .before .args .trace .now) (c .before .before .before .before .before .before .before .before .before .before .before .loop .at) (c .before .before .before .before .before .before .before .before .before .before .before .loop .so-far) _ (c .before .before .before .before .before .before .before .before .before .before .before .loop .inv))
 
 add-body-loop-again-3 : (t : ℕ) → add-body-lts.Need-loop-again-3 (add-body-claims t) (add-body-at t) add-body.Post add-body-Inv-loop add-body-μ-loop
-add-body-loop-again-3 t c = body-use (c .before .before .before .before .before .before .before .before .before .before .before .before .before .before .args .words .now) (λ place. (c .before .before .before .before .before .before .before .before .before .before .before .before .before .shared-slice-known .given place) .fits) (c .before .before .before .before .before .before .before .before .before .before .before .before .before .before .pre .1 .0 .passed) (c .before .before .before .before .before .before .before .before .before .before .before .before .before .before .args .depth-left) (openNames (c .before .before .before .before .before .before .before .before .before .before .before .before .before .before .args .path)) (c .before .before .before .before .before .before .before .before .before .before .before .before .before .before .args .collect) (c .before .before .before .before .before .before .before .before .before .before .before .before .before .before .args .place) (c .before .before .before .before .before .before .before .before .before .before .before .before .before .before .args .builder) (c .before .before .before .before .before .before .before .before .before .before .before .before .before .before .args .trace .now) (c .before .before .before .before .before .before .before .before .before .before .before .loop .at) (c .before .before .before .before .before .before .before .before .before .before .before .loop .so-far) _ (c .before .before .before .before .before .before .before .before .before .before .before .loop .inv) _ _ (sym (line-at (c .before .before .before .before .before .before .before .before .before .before .before .before .before .before .args .words .now) (c .before .before .before .before .before .before .before .before .before .before .before .loop .at) (body-inside (c .before .before .before .before .before .before .before .before .before .before .before .before .before .before .args .words .now) (λ place. (c .before .before .before .before .before .before .before .before .before .before .before .before .before .shared-slice-known .given place) .fits) (c .before .before .before .before .before .before .before .before .before .before .before .before .before .before .pre .1 .0 .passed) (c .before .before .before .before .before .before .before .before .before .before .before .before .before .before .args .depth-left) (openNames (c .before .before .before .before .before .before .before .before .before .before .before .before .before .before .args .path)) (c .before .before .before .before .before .before .before .before .before .before .before .before .before .before .args .collect) (c .before .before .before .before .before .before .before .before .before .before .before .before .before .before .args .place) (c .before .before .before .before .before .before .before .before .before .before .before .before .before .before .args .builder) (c .before .before .before .before .before .before .before .before .before .before .before .before .before .before .args .trace .now) (c .before .before .before .before .before .before .before .before .before .before .before .loop .at) (c .before .before .before .before .before .before .before .before .before .before .before .loop .so-far) _ (c .before .before .before .before .before .before .before .before .before .before .before .loop .inv))) ∙ sym (c .before .before .before .before .before .before .before .before .before .before .line-numbered .ensures) ∙ c .before .before .before .before .before .before .before .before .name .given .1) _ _ (rw (c .before .next2 .given .1) at (c .before .before .before .before .before .add-component .ensures)) (c .before .before .before .before .before .add-component .kept .1 .1 .1 .1 .1 .1 .0)
+add-body-loop-again-3 t c = body-use (c .before .before .before .before .before .before .before .before .before .before .before .before .before .before .args .words .now) (λ place. (c .before .before .before .before .before .before .before .before .before .before .before .before .before .shared-slice-known .given place) .fits) (c .before .before .before .before .before .before .before .before .before .before .before .before .before .before .pre .1 .0 .passed) (c .before .before .before .before .before .before .before .before .before .before .before .before .before .before .args .depth-left) (openNames (c .before .before .before .before .before .before .before .before .before .before .before .before .before .before .args .path)) (c .before .before .before .before .before .before .before .before .before .before .before .before .before .before .args .collect) (c .before .before .before .before .before .before .before .before .before .before .before .before .before .before .args .place) (c .before .before .before .before .before .before .before .before .before .before .before .before .before .before .args .builder) (c .before .before .before .before .before .before .before .before .before .before .before .before .before .before .args .trace .now) (c .before .before .before .before .before .before .before .before .before .before .before .loop .at) (c .before .before .before .before .before .before .before .before .before .before .before .loop .so-far) _ (c .before .before .before .before .before .before .before .before .before .before .before .loop .inv) _ _ (sym (line-at (c .before .before .before .before .before .before .before .before .before .before .before .before .before .before .args .words .now) (c .before .before .before .before .before .before .before .before .before .before .before .loop .at) (body-inside (c .before .before .before .before .before .before .before .before .before .before .before .before .before .before .args .words .now) (λ place. (c .before .before .before .before .before .before .before .before .before .before .before .before .before .shared-slice-known .given place) .fits) (c .before .before .before .before .before .before .before .before .before .before .before .before .before .before .pre .1 .0 .passed) (c .before .before .before .before .before .before .before .before .before .before .before .before .before .before .args .depth-left) (openNames (c .before .before .before .before .before .before .before .before .before .before .before .before .before .before .args .path)) (c .before .before .before .before .before .before .before .before .before .before .before .before .before .before .args .collect) (c .before .before .before .before .before .before .before .before .before .before .before .before .before .before .args .place) (c .before .before .before .before .before .before .before .before .before .before .before .before .before .before .args .builder) (c .before .before .before .before .before .before .before .before .before .before .before .before .before .before .args .trace .now) (c .before .before .before .before .before .before .before .before .before .before .before .loop .at) (c .before .before .before .before .before .before .before .before .before .before .before .loop .so-far) _ (c .before .before .before .before .before .before .before .before .before .before .before .loop .inv))) ∙ (rw (c .before .before .before .before .before .before .before .before .name .given .1) at (c .before .before .before .before .before .before .before .before .before .before .body-line .ensures))) _ _ (rw (c .before .next2 .given .1) at (c .before .before .before .before .before .add-component .ensures)) (c .before .before .before .before .before .add-component .kept .1 .1 .1 .1 .1 .1 .0)
 
 -- Added::Refused(refusal) => {
 add-body-enum-known-refusal-3 : (t : ℕ) → add-body-lts.Need-enum-known-refusal-3 (add-body-claims t) (add-body-at t) add-body.Post add-body-Inv-loop add-body-μ-loop
@@ -199,38 +192,21 @@ add-body-same-length-3 : (t : ℕ) → add-body-lts.Need-same-length-3 (add-body
 add-body-same-length-3 t c = c .before .before .before .before .before .add-component .kept .1 .1 .1 .1 .1 .1 .0 ∙ c .before .before .before .before .before .before .before .before .before .before .before .loop .inv .size
 
 add-body-returns-3 : (t : ℕ) → add-body-lts.Need-returns-3 (add-body-claims t) (add-body-at t) add-body.Post add-body-Inv-loop add-body-μ-loop
-add-body-returns-3 t c = body-use-over (c .before .before .before .before .before .before .before .before .before .before .before .before .before .before .args .words .now) (λ place. (c .before .before .before .before .before .before .before .before .before .before .before .before .before .shared-slice-known .given place) .fits) (c .before .before .before .before .before .before .before .before .before .before .before .before .before .before .pre .1 .0 .passed) (c .before .before .before .before .before .before .before .before .before .before .before .before .before .before .args .depth-left) (openNames (c .before .before .before .before .before .before .before .before .before .before .before .before .before .before .args .path)) (c .before .before .before .before .before .before .before .before .before .before .before .before .before .before .args .collect) (c .before .before .before .before .before .before .before .before .before .before .before .before .before .before .args .place) (c .before .before .before .before .before .before .before .before .before .before .before .before .before .before .args .builder) (c .before .before .before .before .before .before .before .before .before .before .before .before .before .before .args .trace .now) (c .before .before .before .before .before .before .before .before .before .before .before .loop .at) (c .before .before .before .before .before .before .before .before .before .before .before .loop .so-far) _ (c .before .before .before .before .before .before .before .before .before .before .before .loop .inv) _ _ (sym (line-at (c .before .before .before .before .before .before .before .before .before .before .before .before .before .before .args .words .now) (c .before .before .before .before .before .before .before .before .before .before .before .loop .at) (body-inside (c .before .before .before .before .before .before .before .before .before .before .before .before .before .before .args .words .now) (λ place. (c .before .before .before .before .before .before .before .before .before .before .before .before .before .shared-slice-known .given place) .fits) (c .before .before .before .before .before .before .before .before .before .before .before .before .before .before .pre .1 .0 .passed) (c .before .before .before .before .before .before .before .before .before .before .before .before .before .before .args .depth-left) (openNames (c .before .before .before .before .before .before .before .before .before .before .before .before .before .before .args .path)) (c .before .before .before .before .before .before .before .before .before .before .before .before .before .before .args .collect) (c .before .before .before .before .before .before .before .before .before .before .before .before .before .before .args .place) (c .before .before .before .before .before .before .before .before .before .before .before .before .before .before .args .builder) (c .before .before .before .before .before .before .before .before .before .before .before .before .before .before .args .trace .now) (c .before .before .before .before .before .before .before .before .before .before .before .loop .at) (c .before .before .before .before .before .before .before .before .before .before .before .loop .so-far) _ (c .before .before .before .before .before .before .before .before .before .before .before .loop .inv))) ∙ sym (c .before .before .before .before .before .before .before .before .before .before .line-numbered .ensures) ∙ c .before .before .before .before .before .before .before .before .name .given .1) _ _ _ (rw (c .before .refusal3 .given .1) at (c .before .before .before .before .before .add-component .ensures))
+add-body-returns-3 t c = body-use-over (c .before .before .before .before .before .before .before .before .before .before .before .before .before .before .args .words .now) (λ place. (c .before .before .before .before .before .before .before .before .before .before .before .before .before .shared-slice-known .given place) .fits) (c .before .before .before .before .before .before .before .before .before .before .before .before .before .before .pre .1 .0 .passed) (c .before .before .before .before .before .before .before .before .before .before .before .before .before .before .args .depth-left) (openNames (c .before .before .before .before .before .before .before .before .before .before .before .before .before .before .args .path)) (c .before .before .before .before .before .before .before .before .before .before .before .before .before .before .args .collect) (c .before .before .before .before .before .before .before .before .before .before .before .before .before .before .args .place) (c .before .before .before .before .before .before .before .before .before .before .before .before .before .before .args .builder) (c .before .before .before .before .before .before .before .before .before .before .before .before .before .before .args .trace .now) (c .before .before .before .before .before .before .before .before .before .before .before .loop .at) (c .before .before .before .before .before .before .before .before .before .before .before .loop .so-far) _ (c .before .before .before .before .before .before .before .before .before .before .before .loop .inv) _ _ (sym (line-at (c .before .before .before .before .before .before .before .before .before .before .before .before .before .before .args .words .now) (c .before .before .before .before .before .before .before .before .before .before .before .loop .at) (body-inside (c .before .before .before .before .before .before .before .before .before .before .before .before .before .before .args .words .now) (λ place. (c .before .before .before .before .before .before .before .before .before .before .before .before .before .shared-slice-known .given place) .fits) (c .before .before .before .before .before .before .before .before .before .before .before .before .before .before .pre .1 .0 .passed) (c .before .before .before .before .before .before .before .before .before .before .before .before .before .before .args .depth-left) (openNames (c .before .before .before .before .before .before .before .before .before .before .before .before .before .before .args .path)) (c .before .before .before .before .before .before .before .before .before .before .before .before .before .before .args .collect) (c .before .before .before .before .before .before .before .before .before .before .before .before .before .before .args .place) (c .before .before .before .before .before .before .before .before .before .before .before .before .before .before .args .builder) (c .before .before .before .before .before .before .before .before .before .before .before .before .before .before .args .trace .now) (c .before .before .before .before .before .before .before .before .before .before .before .loop .at) (c .before .before .before .before .before .before .before .before .before .before .before .loop .so-far) _ (c .before .before .before .before .before .before .before .before .before .before .before .loop .inv))) ∙ (rw (c .before .before .before .before .before .before .before .before .name .given .1) at (c .before .before .before .before .before .before .before .before .before .before .body-line .ensures))) _ _ _ (rw (c .before .refusal3 .given .1) at (c .before .before .before .before .before .add-component .ensures))
 
 -- let behind = at + 1;
+add-body-enum-told : (t : ℕ) → add-body-lts.Need-enum-told (add-body-claims t) (add-body-at t) add-body.Post add-body-Inv-loop add-body-μ-loop
+add-body-enum-told t c = search needs
+
 add-body-add-behind : (t : ℕ) → add-body-lts.Need-add-behind (add-body-claims t) (add-body-at t) add-body.Post add-body-Inv-loop add-body-μ-loop
-add-body-add-behind t c = omega (arith, body-inside (c .before .before .before .before .before .args .words .now) (λ place. (c .before .before .before .before .shared-slice-known .given place) .fits) (c .before .before .before .before .before .pre .1 .0 .passed) (c .before .before .before .before .before .args .depth-left) (openNames (c .before .before .before .before .before .args .path)) (c .before .before .before .before .before .args .collect) (c .before .before .before .before .before .args .place) (c .before .before .before .before .before .args .builder) (c .before .before .before .before .before .args .trace .now) (c .before .before .loop .at) (c .before .before .loop .so-far) _ (c .before .before .loop .inv), isDictionary-parts (c .before .before .before .before .before .args .words .now) (c .before .before .before .before .before .pre .1 .0 .passed) .fits)
+add-body-add-behind t c = omega (arith, body-inside (c .before .before .before .before .before .before .args .words .now) (λ place. (c .before .before .before .before .before .shared-slice-known .given place) .fits) (c .before .before .before .before .before .before .pre .1 .0 .passed) (c .before .before .before .before .before .before .args .depth-left) (openNames (c .before .before .before .before .before .before .args .path)) (c .before .before .before .before .before .before .args .collect) (c .before .before .before .before .before .before .args .place) (c .before .before .before .before .before .before .args .builder) (c .before .before .before .before .before .before .args .trace .now) (c .before .before .before .loop .at) (c .before .before .before .loop .so-far) _ (c .before .before .before .loop .inv), isDictionary-parts (c .before .before .before .before .before .before .args .words .now) (c .before .before .before .before .before .before .pre .1 .0 .passed) .fits)
 
 -- return Filled::UpTo(behind, so_far);
 add-body-same-length-4 : (t : ℕ) → add-body-lts.Need-same-length-4 (add-body-claims t) (add-body-at t) add-body.Post add-body-Inv-loop add-body-μ-loop
-add-body-same-length-4 t c = c .before .before .loop .inv .size
+add-body-same-length-4 t c = c .before .before .before .loop .inv .size
 
 add-body-returns-4 : (t : ℕ) → add-body-lts.Need-returns-4 (add-body-claims t) (add-body-at t) add-body.Post add-body-Inv-loop add-body-μ-loop
-add-body-returns-4 t c =
-    let keys : List ℕ = 0 ∷ 1 ∷ 2 ∷ 3 ∷ 4 ∷ 5 ∷ 6 ∷ 7 ∷ 11 ∷ 12 ∷ 13 ∷ 14 ∷ [] in
-    let other : (line : Line) → OneOf keys (tagOf the-type line) → IsOther line = λ line.
-    elim line [
-      | Def tag place ↦ λ key. tt
-      | Value admitted ↦ λ key. tt
-      | BeginHeader ↦ λ key. tt
-      | BeginTrailer ↦ λ key. tt
-      | EndHeader ↦ λ key. tt
-      | EndTrailer ↦ λ key. tt
-      | Component name ↦ λ key. tt
-      | Message letters app ↦ λ key. tt
-      | Field tag required ↦ λ key. miss keys 8 tt key
-      | Group count delimiter required ↦ λ key. miss keys 9 tt key
-      | Use name required ↦ λ key. miss keys 10 tt key
-      | End number letters ↦ λ key. tt
-      | Member tag ↦ λ key. tt
-      | RequiredTag tag ↦ λ key. tt
-      | Unknown ↦ λ key. tt
-    ] in
-    body-ends (c .before .before .before .before .before .args .words .now) (λ place. (c .before .before .before .before .shared-slice-known .given place) .fits) (c .before .before .before .before .before .pre .1 .0 .passed) (c .before .before .before .before .before .args .depth-left) (openNames (c .before .before .before .before .before .args .path)) (c .before .before .before .before .before .args .collect) (c .before .before .before .before .before .args .place) (c .before .before .before .before .before .args .builder) (c .before .before .before .before .before .args .trace .now) (c .before .before .loop .at) (c .before .before .loop .so-far) _ (c .before .before .loop .inv) (c .before .line-numbered .result) (sym (line-at (c .before .before .before .before .before .args .words .now) (c .before .before .loop .at) (body-inside (c .before .before .before .before .before .args .words .now) (λ place. (c .before .before .before .before .shared-slice-known .given place) .fits) (c .before .before .before .before .before .pre .1 .0 .passed) (c .before .before .before .before .before .args .depth-left) (openNames (c .before .before .before .before .before .args .path)) (c .before .before .before .before .before .args .collect) (c .before .before .before .before .before .args .place) (c .before .before .before .before .before .args .builder) (c .before .before .before .before .before .args .trace .now) (c .before .before .loop .at) (c .before .before .loop .so-far) _ (c .before .before .loop .inv))) ∙ sym (c .before .line-numbered .ensures)) (other (c .before .line-numbered .result) (c .match .keys4))
+add-body-returns-4 t c = body-ends (c .before .before .before .before .before .before .args .words .now) (λ place. (c .before .before .before .before .before .shared-slice-known .given place) .fits) (c .before .before .before .before .before .before .pre .1 .0 .passed) (c .before .before .before .before .before .before .args .depth-left) (openNames (c .before .before .before .before .before .before .args .path)) (c .before .before .before .before .before .before .args .collect) (c .before .before .before .before .before .before .args .place) (c .before .before .before .before .before .before .args .builder) (c .before .before .before .before .before .before .args .trace .now) (c .before .before .before .loop .at) (c .before .before .before .loop .so-far) _ (c .before .before .before .loop .inv) _ (sym (line-at (c .before .before .before .before .before .before .args .words .now) (c .before .before .before .loop .at) (body-inside (c .before .before .before .before .before .before .args .words .now) (λ place. (c .before .before .before .before .before .shared-slice-known .given place) .fits) (c .before .before .before .before .before .before .pre .1 .0 .passed) (c .before .before .before .before .before .before .args .depth-left) (openNames (c .before .before .before .before .before .before .args .path)) (c .before .before .before .before .before .before .args .collect) (c .before .before .before .before .before .before .args .place) (c .before .before .before .before .before .before .args .builder) (c .before .before .before .before .before .before .args .trace .now) (c .before .before .before .loop .at) (c .before .before .before .loop .so-far) _ (c .before .before .before .loop .inv)))) (rw (c .enum-told .given .1) at (c .before .before .body-line .ensures))
 
 abbrev add-component-claims : ℕ → add-component-lts.Claims
 add-component-claims t = (spend-reads.Asked, spend-reads.Learnt, component-of-reads.Asked, component-of-reads.Learnt, is-open-reads.Asked, is-open-reads.Learnt, opened-reads.Asked, opened-reads.Learnt, both-reads.Asked, both-reads.Learnt, add-body-below t, add-body.Post, outcome-reads.Asked, outcome-reads.Learnt)
@@ -285,7 +261,7 @@ add-component-add-first t c = omega (arith, component-found (c .before .before .
 add-component-sub-below : (t : ℕ) → add-component-lts.Need-sub-below (add-component-claims t) (add-component-at t) add-component.Post
 add-component-sub-below t c = let some = spent-deep _ _ _ _ (rw (c .before .before .before .before .before .before .before .before .before .node .given .1) at (c .before .before .before .before .before .before .before .before .before .before .before .spend .ensures .0)) in omega (arith, some)
 
--- let filled = add_body(words, first, below, inside, needed, trace, node);
+-- let filled = add_body(words, first, below, inside, collects, trace, node);
 add-component-add-body-requires : (t : ℕ) → add-component-lts.Need-add-body-requires (add-component-claims t) (add-component-at t) add-component.Post
 add-component-add-body-requires t c κs =
     let some = spent-deep _ _ _ _ (rw (c .before .before .before .before .before .before .before .before .before .before .node .given .1) at (c .before .before .before .before .before .before .before .before .before .before .before .before .spend .ensures .0)) in (
@@ -418,7 +394,7 @@ pub +add-body+add-component+add-group-spec : {M : Type 1} → statement M
     add-body-Inv-loop
     add-body-μ-loop
     (add-body-loop-holds t)
-    (add-body-line-numbered-requires t)
+    (add-body-body-line-requires t)
     (add-body-enum-known-tag t)
     (add-body-both-requires t)
     (add-body-add-field-requires t)
@@ -447,6 +423,7 @@ pub +add-body+add-component+add-group-spec : {M : Type 1} → statement M
     (add-body-enum-known-refusal-3 t)
     (add-body-same-length-3 t)
     (add-body-returns-3 t)
+    (add-body-enum-told t)
     (add-body-add-behind t)
     (add-body-same-length-4 t)
     (add-body-returns-4 t))
