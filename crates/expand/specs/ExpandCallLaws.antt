@@ -23,6 +23,7 @@ use Rattle.layouts.specs.GatheredLayoutLaws.{gathered-needed, gathered-written,
 use Rattle.expansion.specs.declared.builder.Builder as Code
 use Rattle.expansion.specs.declared.builder.Added.{Added}
 use Rattle.expansion.specs.declared.builder.Added.the-variants as added
+use Rattle.expansion.specs.declared.builder.Stop.the-variants.{Error, NoRoom}
 use Rattle.expand.specs.declared.arrange.Gathering.{Gathering}
 use Rattle.expand.specs.declared.expand_call.Expanded.{Expanded}
 use Rattle.expand.specs.declared.expand_call.Expanded.the-variants.{Done, Refused}
@@ -156,10 +157,15 @@ module _ (dictionary type : List ℕ) (words : List ℕ) where
 
   module _ (passes : isDictionary dictionary ≡ true) (outcome : Added) (trace : List ℕ) (traced : Traced dictionary type outcome trace) where
     pub expand-refused : (refusal : Refusal)
-        → outcome ≡ added.Refused refusal
+        → outcome ≡ added.Stopped (Error refusal)
         → (Refused refusal ≡ expandedOf dictionary type (length words)) × (words ≡ expandedIn dictionary type words)
     unfolding Traced expandedOf expandedIn
     expand-refused refusal is = let given : expansionIn dictionary type ≡ definition.Refused refusal = rw is at traced in rw (passes, given) (refl, refl)
+
+    -- a trace that has a word for each step that the limits allow has room
+    pub expand-room : outcome ≡ added.Stopped NoRoom → 14336 ≤ length trace → ⊥
+    unfolding Traced
+    expand-room is size = let short : length trace < 14336 = rw is at traced in omega arith
 
     module _ (builder : Code.Builder) (is : outcome ≡ added.Done builder) where
       abbrev pub told : List ℕ
@@ -183,13 +189,13 @@ module _ (dictionary type : List ℕ) (words : List ℕ) where
       pub trace-short : builder .len ≤ 14336
       trace-short = omega (arith, fits .nodes, fits .members, fits .required, fits .len)
 
-      pub told-length : 14336 ≤ length trace → length told ≡ builder .len
-      told-length size =
+      pub told-length : builder .len ≤ length trace → length told ≡ builder .len
+      told-length inside =
           let all : builder .len - 0 ≡ builder .len = omega arith in
-          rw all (length-take-le (builder .len) trace (omega (arith, trace-short, size)))
+          rw all (length-take-le (builder .len) trace inside)
 
       pub told-short : 14336 ≤ length trace → length told ≤ 14336
-      told-short size = omega (arith, told-length size, trace-short)
+      told-short size = omega (arith, told-length (omega (arith, trace-short, size)), trace-short)
 
       pub few-levels : levelCount told ≤ 4097
       few-levels =

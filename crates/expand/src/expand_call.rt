@@ -2,11 +2,14 @@
 use crate::arrange::gather;
 use dictionary::dictionary_check::is_dictionary;
 use expansion::builder::Added;
+use expansion::builder::Stop;
 use layouts::put_layout::put_layout;
 use texts::refusal::Refusal;
 ghost use mathlib.Core.Path.{_≡_};
+ghost use mathlib.Core.Bool.{true};
 ghost use Prim.Native.Nat.{_≤_};
 ghost use lib.ListN.{length};
+ghost use Rattle.dictionary.specs.DictionaryCheck.{isDictionary};
 ghost use Rattle.expand.specs.ArrangeGather.{levelCount, GatherRoom};
 ghost use Rattle.expand.specs.ExpandCall.{toldAnswer, toldWith, expandedOf, expandedIn};
 
@@ -96,6 +99,25 @@ fn arrange_long(trace: &[u64], nodes: usize, layout: &mut [u32]) -> Expanded
     )
 }
 
+// Expands a message type whose trace may have as many words as the limits allow. The trace has room for them.
+fn expand_long(dictionary: &[u32], message_type: &[u8], layout: &mut [u32]) -> Expanded
+    requires { ⌜ isDictionary (now dictionary) ≡ true ⌝ }
+    ensures outcome { λ outcome. ⌜ outcome ≡ expandedOf (now (dictionary .entry)) (now («message_type» .entry)) (length (now (layout .entry))) ⌝ }
+    ensures memory { λ _. ⌜ now (layout .exit) ≡ expandedIn (now (dictionary .entry)) (now («message_type» .entry)) (now (layout .entry)) ⌝ }
+{
+    let mut trace = [0u64; 14336];
+    match expansion::build::expand(dictionary, message_type, &mut trace) {
+        Added::Stopped(stop) => match stop {
+            Stop::Error(refusal) => Expanded::Refused(refusal),
+            Stop::NoRoom => Expanded::Refused(Refusal::MembersOver),
+        },
+        Added::Done(builder) => {
+            let len = builder.len;
+            arrange_long(&trace[0..len], builder.nodes, layout)
+        }
+    }
+}
+
 // Expands a message type of the dictionary in lent words, and writes the words of its layout. The Rust's `ScopeBuilder::expand`, with one
 // dictionary as transport and application: "Schema expansion shared by the validator and the group reader." Refuses dictionary words that do not
 // pass their check with 2, place 0; then 6, then 7 to 10 as met, then 13.
@@ -106,16 +128,19 @@ pub fn expand(dictionary: &[u32], message_type: &[u8], layout: &mut [u32]) -> Ex
     if !is_dictionary(dictionary) {
         return Expanded::Refused(Refusal::UnknownForm(0));
     }
-    let mut trace = [0u64; 14336];
+    let mut trace = [0u64; 1024];
     match expansion::build::expand(dictionary, message_type, &mut trace) {
-        Added::Refused(refusal) => Expanded::Refused(refusal),
+        Added::Stopped(stop) => {
+            if let Stop::Error(refusal) = stop {
+                return Expanded::Refused(refusal);
+            }
+        }
         Added::Done(builder) => {
             let len = builder.len;
-            let nodes = builder.nodes;
             if len <= 1024 {
-                return arrange_short(&trace[0..len], nodes, layout);
+                return arrange_short(&trace[0..len], builder.nodes, layout);
             }
-            arrange_long(&trace[0..len], nodes, layout)
         }
     }
+    expand_long(dictionary, message_type, layout)
 }

@@ -3,19 +3,22 @@
 --
 --   builtOf words message       the level that is built of the message whose line is at this place, with the header and the trailer
 --   topFrame level              the top level, alone in work
---   Built words message added trace   the trace tells that level, and what was spent and added; or the refusal is the first error
---   Traced words type added trace     the trace tells the level whose finished form is the layout of the type, and the nodes spent; or the refusal is its refusal
+--   Built words message added trace   the trace tells that level, and what was spent and added; or why it stopped
+--   Traced words type added trace     the trace tells the level whose finished form is the layout of the type, and the nodes spent; or the refusal is its refusal; or the trace has no room, and
+--                               not a word for each step that the limits allow
 use mathlib.Core.Path.{_≡_}
-use Prim.Native.Nat.{ℕ, _+_}
+use Prim.Native.Nat.{ℕ, _+_, _<_}
 use mathlib.Core.Bool.{false}
 use mathlib.Core.List.{List, []}
+use lib.ListN.{length}
 use Rattle.layouts.specs.Limits.{gateLimits}
 use Rattle.expansion.specs.declared.builder.Added.{Added}
-use Rattle.expansion.specs.declared.builder.Added.the-variants.{Done, Refused}
+use Rattle.expansion.specs.declared.builder.Added.the-variants.{Done, Stopped}
+use Rattle.expansion.specs.declared.builder.Stop.the-variants.{Error, NoRoom}
 use Rattle.expansion.specs.DictionaryLookups.{wordLines, dictionaryIn, bodyAt}
 use Rattle.expansion.specs.Expansion.{OpenLevel, Work, finish, build, Expansion, Expanded, expandOf}
 use Rattle.expansion.specs.Expansion as Definition
-use Rattle.expansion.specs.Trace.{Frame, InWork, First, Fits, builderOf}
+use Rattle.expansion.specs.Trace.{Frame, InWork, Stops, Fits, builderOf}
 
 abbrev pub builtOf : List ℕ → ℕ → Work
 builtOf words message = build gateLimits (dictionaryIn words) (dictionaryIn words) (bodyAt (wordLines words) (message + 1))
@@ -27,7 +30,7 @@ unfoldable pub Built : List ℕ → ℕ → Added → List ℕ → Type 0
 Built words message (Done builder) trace =
     InWork builder trace (topFrame (builtOf words message .level)) []
     × ((builtOf words message .builder ≡ builderOf builder) × Fits builder)
-Built words message (Refused refusal) trace = First refusal (builtOf words message .builder)
+Built words message (Stopped stop) trace = Stops stop trace (builtOf words message .builder)
 
 -- the layout of the type and its nodes, in the dictionary that the words tell
 abbrev pub expansionIn : List ℕ → List ℕ → Expansion
@@ -37,4 +40,5 @@ unfoldable pub Traced : List ℕ → List ℕ → Added → List ℕ → Type 0
 Traced words type (Done builder) trace =
     (level : OpenLevel)
     × (InWork builder trace (topFrame level) [] × ((expansionIn words type ≡ Expanded (finish level) (builder .nodes)) × Fits builder))
-Traced words type (Refused refusal) trace = expansionIn words type ≡ Definition.Refused refusal
+Traced words type (Stopped (Error refusal)) trace = expansionIn words type ≡ Definition.Refused refusal
+Traced words type (Stopped NoRoom) trace = length trace < 14336

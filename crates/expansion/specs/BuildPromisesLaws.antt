@@ -25,7 +25,9 @@ use Rattle.dictionary.specs.DictionaryCheck.{standsAt, messagesAt, isDictionary
 use Rattle.dictionary.specs.Definitions as Words
 use Rattle.expansion.specs.declared.builder.Builder as Code
 use Rattle.expansion.specs.declared.builder.Added.{Added}
-use Rattle.expansion.specs.declared.builder.Added.the-variants.{Done, Refused}
+use Rattle.expansion.specs.declared.builder.Added.the-variants.{Done, Stopped}
+use Rattle.expansion.specs.declared.builder.Stop.{Stop}
+use Rattle.expansion.specs.declared.builder.Stop.the-variants.{Error, NoRoom}
 use Rattle.expansion.specs.Dictionary.{Body, usesOf, messageOf}
 use Rattle.expansion.specs.Dictionary as Tree
 use Rattle.expansion.specs.AcceptedPlaces.{Parted, isDefinition, place-behind}
@@ -33,7 +35,7 @@ use Rattle.expansion.specs.DictionaryLookups.{wordLines, dictionaryIn, b
 use Rattle.expansion.specs.Expansion.{Work, Builder, OpenLevel, emptyLevel, nothingSpent, eachUse, addEnvelope, addMessage, build, outcomeOf, expandOf, Expanded, finish}
 use Rattle.expansion.specs.Expansion as Definition
 use Rattle.expansion.specs.Trace.{Frame, First, InWork, run, atStart, builderOf, workOf, Fits, Grown, Grows, Adds}
-use Rattle.expansion.specs.TraceLaws.{adds-then, adds-stops, grows-then, done-grown, refused-grows}
+use Rattle.expansion.specs.TraceLaws.{adds-then, adds-stops, grows-then, done-grown, stopped-grows}
 use Rattle.expansion.specs.FillLaws.{first-fill, adds-same}
 use Rattle.expansion.specs.ExpansionPromises.{fillAt, Uses}
 use Rattle.expansion.specs.BuildPromises.{builtOf, topFrame, Built, expansionIn, Traced}
@@ -160,29 +162,29 @@ module _ (words : List ℕ) (small : Words32 words) (passed : isDictionary words
   built-by before after (Done builder) adds grows =
       let start = adds (topFrame emptyLevel) [] refl in
       (rw (← all-is) (start .0), (rw (← all-is) (start .1), grows .fits))
-  built-by before after (Refused refusal) adds grows = rw (← all-is) (adds (topFrame emptyLevel) [] refl)
+  built-by before after (Stopped stop) adds grows = rw (← all-is) (adds (topFrame emptyLevel) [] refl)
 
   module _ (before first : List ℕ) where
-    pub built-header-over : (refusal : Refusal) (after : List ℕ)
-        → Uses (fillAt words 33 [] true (header + 1)) nothingAdded before (Refused refusal) first
-        → Built words message (Refused refusal) after
-    built-header-over refusal after over =
-        built-by before after (Refused refusal)
-        (adds-stops (topFill words header) (λ work. topFill words message (topFill words trailer work)) nothingAdded before first refusal after (over .adds)
-        (λ work met. first-top words message refusal (topFill words trailer work) (first-top words trailer refusal work met)))
-        (refused-grows nothingAdded refusal)
+    pub built-header-over : (stop : Stop)
+        → Uses (fillAt words 33 [] true (header + 1)) nothingAdded before (Stopped stop) first
+        → Built words message (Stopped stop) first
+    built-header-over stop over =
+        built-by before first (Stopped stop)
+        (adds-stops (topFill words header) (λ work. topFill words message (topFill words trailer work)) nothingAdded before first stop (over .adds)
+        (λ refusal work met. first-top words message refusal (topFill words trailer work) (first-top words trailer refusal work met)))
+        (stopped-grows nothingAdded stop)
 
     module _ (head : Code.Builder) (has-header : Uses (fillAt words 33 [] true (header + 1)) nothingAdded before (Done head) first) where
-      pub built-trailer-over : (refusal : Refusal) (second after : List ℕ)
-          → Uses (fillAt words 33 [] true (trailer + 1)) head first (Refused refusal) second
-          → Built words message (Refused refusal) after
-      built-trailer-over refusal second after over =
-          built-by before after (Refused refusal)
-          (adds-then (topFill words header) (λ work. topFill words message (topFill words trailer work)) nothingAdded before first head (Refused refusal) after
+      pub built-trailer-over : (stop : Stop) (second : List ℕ)
+          → Uses (fillAt words 33 [] true (trailer + 1)) head first (Stopped stop) second
+          → Built words message (Stopped stop) second
+      built-trailer-over stop second over =
+          built-by before second (Stopped stop)
+          (adds-then (topFill words header) (λ work. topFill words message (topFill words trailer work)) nothingAdded before first head (Stopped stop) second
           (has-header .adds)
-          (adds-stops (topFill words trailer) (topFill words message) head first second refusal after (over .adds)
-          (λ work met. first-top words message refusal work met)))
-          (refused-grows nothingAdded refusal)
+          (adds-stops (topFill words trailer) (topFill words message) head first second stop (over .adds)
+          (λ refusal work met. first-top words message refusal work met)))
+          (stopped-grows nothingAdded stop)
 
       pub built-message : (envelope : Code.Builder) (second after : List ℕ) (added : Added)
           → Uses (fillAt words 33 [] true (trailer + 1)) head first (Done envelope) second
@@ -219,7 +221,7 @@ module _ (words : List ℕ) (small : Words32 words) (passed : isDictionary words
   unfolding Words.messageOf
   message-begins number there = message-begins-by (messageTypeOf value) number there .0
 
-  pub traced-undefined : (trace : List ℕ) → Words.messageOf words value ≡ Nothing → Traced words value (Refused TypeNotDefined) trace
+  pub traced-undefined : (trace : List ℕ) → Words.messageOf words value ≡ Nothing → Traced words value (Stopped (Error TypeNotDefined)) trace
   unfolding Words.messageOf Traced expandOf
   traced-undefined trace missing = message-none-by (messageTypeOf value) missing
 
@@ -239,6 +241,7 @@ module _ (words : List ℕ) (small : Words32 words) (passed : isDictionary words
       ),
     ),
   )
-  traced-built number (Refused refusal) trace there built =
+  traced-built number (Stopped NoRoom) trace there built = built
+  traced-built number (Stopped (Error refusal)) trace there built =
       message-begins-by (messageTypeOf value) number there .1
       ∙ ap (λ (errors : List Refusal). Definition.answered errors (builtOf words number)) (built .1)

@@ -5,7 +5,7 @@
 --   groupAt words group       the group of the tree that a group's line begins
 --   fillAt words depth path collect place work   what is left of the body that is open at the place, added to the level in work
 --   outcomeOf filled          what was added, without the place
---   Asks words depth path builder trace     dictionary words that passed, a path that has room for the depths left, and a trace with room for all words
+--   Asks words depth path builder           dictionary words that passed, and a path that has room for the depths left
 --   Fills change words place builder before filled after   the change is told by the trace, and the place that is given is behind the body at `place`
 --   Uses change builder before added after  the same for a use, which gives no place
 use mathlib.Core.Path.{_≡_}
@@ -17,10 +17,10 @@ use Rattle.layouts.specs.Limits.{gateLimits}
 use Rattle.dictionary.specs.DictionaryCheck.{isDictionary}
 use Rattle.expansion.specs.declared.builder.Builder.{Builder}
 use Rattle.expansion.specs.declared.builder.Added.{Added}
-use Rattle.expansion.specs.declared.builder.Added.the-variants.{Done, Refused}
+use Rattle.expansion.specs.declared.builder.Added.the-variants.{Done, Stopped}
 use Rattle.expansion.specs.declared.expansion.Path.{Path}
 use Rattle.expansion.specs.declared.expansion.Filled.{Filled}
-use Rattle.expansion.specs.declared.expansion.Filled.the-variants.{UpTo, Stopped}
+use Rattle.expansion.specs.declared.expansion.Filled.the-variants as filled
 use Rattle.expansion.specs.declared.expansion.GroupLine.{GroupLine}
 use Rattle.expansion.specs.Dictionary.{GroupDef, group-def}
 use Rattle.expansion.specs.DictionaryPlaces.{openAt}
@@ -43,22 +43,21 @@ fillAt words depth path collect place =
     (bodyAt (wordLines words) place)
 
 abbrev pub outcomeOf : Filled → Added
-outcomeOf (UpTo place next) = Done next
-outcomeOf (Stopped refusal) = Refused refusal
+outcomeOf (filled.UpTo place next) = Done next
+outcomeOf (filled.Stopped stop) = Stopped stop
 
-pub record Asks (words : List ℕ) (depth : ℕ) (path : Path) (builder : Builder) (trace : List ℕ) : Type 0 where
+pub record Asks (words : List ℕ) (depth : ℕ) (path : Path) (builder : Builder) : Type 0 where
   pub passed : isDictionary words ≡ true
   pub deep : depth ≤ path .first
   pub names : path .first ≤ 33
   pub fits : Fits builder
-  pub size : 14336 ≤ length trace
 
 -- the place is behind the end of the body that was open at `place`
 abbrev pub Ends : List ℕ → ℕ → Filled → Type 0
-Ends words place (UpTo behind next) =
+Ends words place (filled.UpTo behind next) =
     (place < behind)
     × ((behind ≤ getD words 0 0) × (openAt (wordLines words) behind ≡ aroundAt (wordLines words) place))
-Ends words place (Stopped refusal) = Unit
+Ends words place (filled.Stopped stop) = Unit
 
 pub record Fills (change : Work → Work) (words : List ℕ) (place : ℕ) (builder : Builder) (before : List ℕ) (filled : Filled) (after : List ℕ) : Type 0 where
   pub adds : Adds change builder before (outcomeOf filled) after

@@ -20,15 +20,17 @@ use Rattle.dictionary.specs.RecordsLaws.{Words32}
 use Rattle.dictionary.specs.DictionaryCheck.{isDictionary}
 use Rattle.expansion.specs.declared.builder.Builder as Code
 use Rattle.expansion.specs.declared.builder.Added.{Added}
-use Rattle.expansion.specs.declared.builder.Added.the-variants.{Done, Refused}
+use Rattle.expansion.specs.declared.builder.Added.the-variants.{Done, Stopped}
+use Rattle.expansion.specs.declared.builder.Stop.{Stop}
+use Rattle.expansion.specs.declared.builder.Stop.the-variants.{Error, NoRoom}
 use Rattle.expansion.specs.declared.expansion.Filled.{Filled}
-use Rattle.expansion.specs.declared.expansion.Filled.the-variants.{UpTo, Stopped}
+use Rattle.expansion.specs.declared.expansion.Filled.the-variants as filled
 use Rattle.expansion.specs.Dictionary.{FieldRef, ComponentRef, Body, GroupDef, Dictionary, Found, NotFound, group-def, emptyBody, withField, withGroup, withUse, innermost, aroundIt, componentOf, fieldsOf, delimiterOf, countTagOf}
 use Rattle.expansion.specs.DictionaryPlaces.{openAt, InOrder, OnlyUses, IsOther, inside-body, at-field, at-group, at-use, at-end}
 use Rattle.expansion.specs.DictionaryLookups.{wordLines, dictionaryIn, bodyAt, aroundAt, BodyAt, body-there, lines-counted, line-at, lines-in-order}
 use Rattle.expansion.specs.Expansion.{OpenLevel, Work, Granted, Denied, Spent, onGranted, spend, noted, addMember, addField, openEntry, closeGroup, fillBody, addGroup, addComponent}
 use Rattle.expansion.specs.Trace.{Frame, First, InWork, withLevel, builderOf, workOf, nodeMore, wordMore, Adds, SpendsNode, Fits, Grown, Grows, Enters, Leaves, entered, left}
-use Rattle.expansion.specs.TraceLaws.{same-work, adds-then, adds-stops, grown-then, grows-then, grown-grows, done-grown, refused-grows}
+use Rattle.expansion.specs.TraceLaws.{stops-later, same-work, adds-then, adds-stops, grown-then, grows-then, grown-grows, done-grown, stopped-grows}
 use Rattle.expansion.specs.FillLaws.{fill-field, fill-group, fill-use, fill-end, first-fill, adds-same}
 use Rattle.expansion.specs.ExpansionPromises.{fillAt, outcomeOf, Asks, Ends, Fills, Uses}
 
@@ -99,7 +101,7 @@ module _ (dictionary : Dictionary) (path : List ℕ) (collect : Bool) (count del
     pub group-added : (entry filled last : Code.Builder) (middle inside after : List ℕ)
         → Enters count (required && collect) delimiter node before (Done entry) middle
         → Adds fillsEntry entry middle (Done filled) inside
-        → Leaves delimiter filled inside last after
+        → Leaves delimiter filled inside (Done last) after
         → Adds addsGroup builder before (Done last) after
     unfolding Adds Enters Leaves
     group-added entry filled last middle inside after enters fills leaves = λ frame outer stands.
@@ -110,24 +112,32 @@ module _ (dictionary : Dictionary) (path : List ℕ) (collect : Bool) (count del
         let two = fills entry-frame (withLevel (around .level) frame ∷ outer) (one .0) in
         let equal = same-work entry (entered count delimiter begun) (one .1) in
         let full = fillsEntry (workOf entry (entered count delimiter begun .level)) in
-        let three = leaves (withLevel (full .level) entry-frame) (withLevel (around .level) frame) outer (two .0) in
+        let three = leaves .0 (withLevel (full .level) entry-frame) (withLevel (around .level) frame) outer (two .0) in
         rw (group-is (frame .level), equal) (three .0, two .1 ∙ sym (three .1))
 
-    pub group-entry-over : (refusal : Refusal) (middle after : List ℕ)
-        → Enters count (required && collect) delimiter node before (Refused refusal) middle
-        → Adds addsGroup builder before (Refused refusal) after
+    pub group-entry-over : (stop : Stop) (middle : List ℕ)
+        → Enters count (required && collect) delimiter node before (Stopped stop) middle
+        → Adds addsGroup builder before (Stopped stop) middle
     unfolding Adds Enters
-    group-entry-over refusal middle after enters = λ frame outer stands.
+    group-entry-over stop middle enters = λ frame outer stands.
         let first = enters frame outer (spent-stands builder node count depth before frame outer spent stands) in
+        let begun = entered count delimiter (workOf node (frame .level)) in
         rw (group-is (frame .level))
-        (first-fill gateLimits refusal dictionary less path true true inner (entered count delimiter (workOf node (frame .level))) first)
+        (stops-later stop middle fillsEntry begun (λ refusal met. first-fill gateLimits refusal dictionary less path true true inner begun met) first)
 
-    pub group-body-over : (entry : Code.Builder) (refusal : Refusal) (middle inside after : List ℕ)
+    pub group-left-over : (filled : Code.Builder) (stop : Stop) (inside after : List ℕ)
+        → Leaves delimiter filled inside (Stopped stop) after
+        → Adds addsGroup builder before (Stopped stop) after
+    unfolding Adds Leaves
+    group-left-over filled (Error refusal) inside after leaves = absurd leaves
+    group-left-over filled NoRoom inside after leaves = λ frame outer stands. leaves
+
+    pub group-body-over : (entry : Code.Builder) (stop : Stop) (middle inside : List ℕ)
         → Enters count (required && collect) delimiter node before (Done entry) middle
-        → Adds fillsEntry entry middle (Refused refusal) inside
-        → Adds addsGroup builder before (Refused refusal) after
+        → Adds fillsEntry entry middle (Stopped stop) inside
+        → Adds addsGroup builder before (Stopped stop) inside
     unfolding Adds Enters
-    group-body-over entry refusal middle inside after enters fills = λ frame outer stands.
+    group-body-over entry stop middle inside enters fills = λ frame outer stands.
         let begun = workOf node (frame .level) in
         let one = enters frame outer (spent-stands builder node count depth before frame outer spent stands) in
         let equal = same-work entry (entered count delimiter begun) (one .1) in
@@ -135,15 +145,16 @@ module _ (dictionary : Dictionary) (path : List ℕ) (collect : Bool) (count del
         let first = fills entry-frame (withLevel (addMember gateLimits count begun .level) frame ∷ outer) (one .0) in
         rw (group-is (frame .level), equal) first
 
-module _ (dictionary : Dictionary) (path : List ℕ) (collect : Bool) (depth : ℕ) (builder : Code.Builder) (refusal : Refusal) (before after : List ℕ) where
-  pub group-denied : (group : GroupDef) → SpendsNode builder (countTagOf group) depth (Refused refusal)
-      → Adds (addGroup gateLimits dictionary depth path collect group) builder before (Refused refusal) after
-  group-denied group spent = denied depth spent
+module _ (dictionary : Dictionary) (path : List ℕ) (collect : Bool) (depth : ℕ) (builder : Code.Builder) (before after : List ℕ) where
+  pub group-denied : (group : GroupDef) (stop : Stop) → SpendsNode builder (countTagOf group) depth (Stopped stop)
+      → Adds (addGroup gateLimits dictionary depth path collect group) builder before (Stopped stop) after
+  group-denied group stop spent = denied depth stop spent
     where
-      denied : (depth : ℕ) → SpendsNode builder (countTagOf group) depth (Refused refusal)
-          → Adds (addGroup gateLimits dictionary depth path collect group) builder before (Refused refusal) after
-      denied zero spent = unfold addGroup Adds SpendsNode in λ frame outer stands. rw (spent (frame .level)) ([], refl)
-      denied (suc left) spent = unfold addGroup Adds SpendsNode in λ frame outer stands. rw (spent (frame .level)) ([], refl)
+      denied : (depth : ℕ) (stop : Stop) → SpendsNode builder (countTagOf group) depth (Stopped stop)
+          → Adds (addGroup gateLimits dictionary depth path collect group) builder before (Stopped stop) after
+      denied zero (Error refusal) spent = unfold addGroup Adds SpendsNode in λ frame outer stands. rw (spent (frame .level)) ([], refl)
+      denied (suc left) (Error refusal) spent = unfold addGroup Adds SpendsNode in λ frame outer stands. rw (spent (frame .level)) ([], refl)
+      denied depth NoRoom spent = absurd (unfold SpendsNode in spent)
 
 -- ---- add_component
 
@@ -157,7 +168,7 @@ module _ (dictionary : Dictionary) (path : List ℕ) (collect : Bool) (component
   component-granted level = rw same-depth at (spent .1 level)
 
   pub component-undefined : (after : List ℕ) → componentOf dictionary (component .name) ≡ NotFound
-      → Adds addsComponent builder before (Refused (ComponentNotDefined (component .name))) after
+      → Adds addsComponent builder before (Stopped (Error (ComponentNotDefined (component .name)))) after
   unfolding addComponent Adds
   component-undefined after missing = λ frame outer stands. rw (same-depth, component-granted (frame .level), missing) ([], refl)
 
@@ -178,16 +189,17 @@ module _ (dictionary : Dictionary) (path : List ℕ) (collect : Bool) (component
     component-added names needed (Done next) after new longer same adds = λ frame outer stands.
         let one = adds frame outer (spent-stands builder node (component .name) depth before frame outer spent stands) in
         rw (same-depth, component-granted (frame .level), found, new, ← longer, ← same) one
-    component-added names needed (Refused refusal) after new longer same adds = λ frame outer stands.
+    component-added names needed (Stopped stop) after new longer same adds = λ frame outer stands.
         let one = adds frame outer (spent-stands builder node (component .name) depth before frame outer spent stands) in
         rw (same-depth, component-granted (frame .level), found, new, ← longer, ← same) one
 
-module _ (dictionary : Dictionary) (path : List ℕ) (collect : Bool) (builder : Code.Builder) (refusal : Refusal) (before after : List ℕ) where
-  pub component-denied : (depth : ℕ) (component : ComponentRef) → SpendsNode builder (component .name) depth (Refused refusal)
-      → Adds (addComponent gateLimits dictionary depth path collect component) builder before (Refused refusal) after
+module _ (dictionary : Dictionary) (path : List ℕ) (collect : Bool) (builder : Code.Builder) (before after : List ℕ) where
+  pub component-denied : (depth : ℕ) (component : ComponentRef) (stop : Stop) → SpendsNode builder (component .name) depth (Stopped stop)
+      → Adds (addComponent gateLimits dictionary depth path collect component) builder before (Stopped stop) after
   unfolding addComponent Adds SpendsNode
-  component-denied zero component spent = λ frame outer stands. rw (spent (frame .level)) ([], refl)
-  component-denied (suc left) component spent = λ frame outer stands. rw (spent (frame .level)) ([], refl)
+  component-denied zero component (Error refusal) spent = λ frame outer stands. rw (spent (frame .level)) ([], refl)
+  component-denied (suc left) component (Error refusal) spent = λ frame outer stands. rw (spent (frame .level)) ([], refl)
+  component-denied depth component NoRoom spent = absurd spent
 
 -- ---- add_body: the loop over the lines of a body
 
@@ -266,20 +278,20 @@ module _ (words : List ℕ) (small : Words32 words) (passed : isDictionary words
         (adds-then change (fillAt words depth path collect further) so-far written after next added end changed adds));
   }
 
-  stops : (change : Work → Work) (left : Body) (refusal : Refusal) (after end : List ℕ)
+  stops : (change : Work → Work) (left : Body) (stop : Stop) (after : List ℕ)
       → Splits change left
-      → Adds change so-far written (Refused refusal) after
-      → Fills (fillAt words depth path collect place) words place builder before (Stopped refusal) end
-  stops change left refusal after end splits changed =
+      → Adds change so-far written (Stopped stop) after
+      → Fills (fillAt words depth path collect place) words place builder before (filled.Stopped stop) after
+  stops change left stop after splits changed =
       let fill : Work → Work = λ work. fillBody gateLimits groups uses collect left work in
       record {
         adds =
-            walked .rest (Refused refusal) end
-            (adds-same (λ work. fill (change work)) (fillAt words depth path collect at) so-far written (Refused refusal) end
+            walked .rest (Stopped stop) after
+            (adds-same (λ work. fill (change work)) (fillAt words depth path collect at) so-far written (Stopped stop) after
             (λ work. sym (splits work))
-            (adds-stops change fill so-far written after refusal end changed
-            (λ work first. first-fill gateLimits refusal (dictionaryIn words) depth path collect collect left work first)));
-        grows = refused-grows builder refusal;
+            (adds-stops change fill so-far written after stop changed
+            (λ refusal work first. first-fill gateLimits refusal (dictionaryIn words) depth path collect collect left work first)));
+        grows = stopped-grows builder stop;
         ends = tt;
       }
 
@@ -305,10 +317,10 @@ module _ (words : List ℕ) (small : Words32 words) (passed : isDictionary words
         (done-grown so-far next grows)
         kept
 
-    pub body-field-over : (refusal : Refusal) (after end : List ℕ)
-        → Adds (addField gateLimits tag needed) so-far written (Refused refusal) after
-        → Fills (fillAt words depth path collect place) words place builder before (Stopped refusal) end
-    body-field-over refusal after end changed = stops (addField gateLimits tag needed) (fieldParts .0) refusal after end field-splits changed
+    pub body-field-over : (stop : Stop) (after : List ℕ)
+        → Adds (addField gateLimits tag needed) so-far written (Stopped stop) after
+        → Fills (fillAt words depth path collect place) words place builder before (filled.Stopped stop) after
+    body-field-over stop after changed = stops (addField gateLimits tag needed) (fieldParts .0) stop after field-splits changed
 
   -- a line `group=COUNT,DELIMITER,R`
   module _ (count delimiter : ℕ) (required : Bool) (line : getD lines at Unknown ≡ Group count delimiter required) where
@@ -333,7 +345,7 @@ module _ (words : List ℕ) (small : Words32 words) (passed : isDictionary words
         (sym (ap innermost (groupParts .1 .1 .0)))
 
     pub body-group : (behind : ℕ) (next : Code.Builder) (after : List ℕ)
-        → Fills (groups groupThere) words (at + 1) so-far written (UpTo behind next) after
+        → Fills (groups groupThere) words (at + 1) so-far written (filled.UpTo behind next) after
         → length after ≡ length written
         → BodySoFar words depth path collect place builder before behind next after
     body-group behind next after fills kept =
@@ -343,10 +355,10 @@ module _ (words : List ℕ) (small : Words32 words) (passed : isDictionary words
         (done-grown so-far next (fills .grows))
         kept
 
-    pub body-group-over : (refusal : Refusal) (after end : List ℕ)
-        → Fills (groups groupThere) words (at + 1) so-far written (Stopped refusal) after
-        → Fills (fillAt words depth path collect place) words place builder before (Stopped refusal) end
-    body-group-over refusal after end fills = stops (groups groupThere) (groupParts .1 .0) refusal after end group-splits (fills .adds)
+    pub body-group-over : (stop : Stop) (after : List ℕ)
+        → Fills (groups groupThere) words (at + 1) so-far written (filled.Stopped stop) after
+        → Fills (fillAt words depth path collect place) words place builder before (filled.Stopped stop) after
+    body-group-over stop after fills = stops (groups groupThere) (groupParts .1 .0) stop after group-splits (fills .adds)
 
   -- a line `use=N,R`
   module _ (name : ℕ) (required : Bool) (line : getD lines at Unknown ≡ Use name required) where
@@ -370,16 +382,16 @@ module _ (words : List ℕ) (small : Words32 words) (passed : isDictionary words
         (done-grown so-far next (changed .grows))
         kept
 
-    pub body-use-over : (refusal : Refusal) (after end : List ℕ)
-        → Uses (uses useThere) so-far written (Refused refusal) after
-        → Fills (fillAt words depth path collect place) words place builder before (Stopped refusal) end
-    body-use-over refusal after end changed = stops (uses useThere) (useParts .0) refusal after end use-splits (changed .adds)
+    pub body-use-over : (stop : Stop) (after : List ℕ)
+        → Uses (uses useThere) so-far written (Stopped stop) after
+        → Fills (fillAt words depth path collect place) words place builder before (filled.Stopped stop) after
+    body-use-over stop after changed = stops (uses useThere) (useParts .0) stop after use-splits (changed .adds)
 
   -- any other line ends the body
   pub body-ends : (line : Line)
       → getD lines at Unknown ≡ line
       → IsOther line
-      → Fills (fillAt words depth path collect place) words place builder before (UpTo (at + 1) so-far) written
+      → Fills (fillAt words depth path collect place) words place builder before (filled.UpTo (at + 1) so-far) written
   body-ends line same other =
       let parts = at-end lines at line-inside (lines-in-order words small passed) (bodyAt lines at) (aroundAt lines at) (walked .there) line same other in
       record {
@@ -400,8 +412,9 @@ module _ (builder node entry filled : Code.Builder) (name depth : ℕ) (spent : 
   pub group-room : Fits builder → filled .len < filled .members + filled .required + filled .nodes
   group-room fits = omega (arith, fits .len, spent-room builder node name depth spent, enters .slack, fills .slack)
 
-  pub group-grown : (last : Code.Builder) → last ≡ wordMore filled → Fits last → Grown builder last
-  group-grown last same fits = record {
-    fits = fits;
-    slack = rw same (omega (arith, spent-room builder node name depth spent, enters .slack, fills .slack));
+  pub group-grown : (delimiter : ℕ) (inside after : List ℕ) (last : Code.Builder) → Leaves delimiter filled inside (Done last) after → Grown builder last
+  unfolding Leaves
+  group-grown delimiter inside after last leaves = record {
+    fits = leaves .1 .1;
+    slack = rw (leaves .1 .0) (omega (arith, spent-room builder node name depth spent, enters .slack, fills .slack));
   }

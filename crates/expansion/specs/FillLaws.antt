@@ -8,13 +8,13 @@ use Rattle.texts.specs.declared.refusal.Refusal.{Refusal}
 use Rattle.layouts.specs.Limits.{Limits}
 use Rattle.expansion.specs.declared.builder.Builder as Code
 use Rattle.expansion.specs.declared.builder.Added.{Added}
-use Rattle.expansion.specs.declared.builder.Added.the-variants.{Done, Refused}
+use Rattle.expansion.specs.declared.builder.Added.the-variants.{Done, Stopped}
 use Rattle.expansion.specs.Dictionary.{FieldRef, ComponentRef, Body, body-of, GroupDef, Dictionary, fieldsOf, groupDefsOf, usesOf, emptyBody, withField, withGroup, withUse, countTagOf, delimiterOf}
 use Rattle.expansion.specs.DictionaryPlaces.{OnlyUses}
 use Rattle.expansion.specs.Expansion.{Work, Builder, emptyLevel, addMember, addField, eachField, eachGroup, eachUse, fillBody, addGroup, addComponent}
 use Rattle.expansion.specs.ExpansionInduction.{Steps, keeps-fields, keeps-groups, keeps-uses, keeps-group, keeps-component}
 use Rattle.expansion.specs.Trace.{First, withLevel, workOf, Adds}
-use Rattle.expansion.specs.TraceLaws.{first-member, first-required}
+use Rattle.expansion.specs.TraceLaws.{first-member, first-required, stops-same}
 
 -- ---- the first line of a body
 
@@ -102,6 +102,7 @@ adds-same change other builder before (Done next) trace same adds = λ frame out
       one .0 ∙ ap (λ (work : Work). withLevel (work .level) frame ∷ outer) equal,
       ap (λ (work : Work). work .builder) (sym equal) ∙ one .1,
     )
-adds-same change other builder before (Refused refusal) trace same adds = λ frame outer stands.
-    let one = adds frame outer stands in
-    (one .0, ap (λ (work : Work). work .builder .errors) (sym (same (workOf builder (frame .level)))) ∙ one .1)
+adds-same change other builder before (Stopped stop) trace same adds = λ frame outer stands.
+    stops-same stop trace (change (workOf builder (frame .level)) .builder) (other (workOf builder (frame .level)) .builder)
+    (ap (λ (work : Work). work .builder) (same (workOf builder (frame .level))))
+    (adds frame outer stands)

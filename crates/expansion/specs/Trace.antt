@@ -13,7 +13,8 @@
 --   run frames words          .. after the steps of these words
 --   workOf builder level      what is in work where no error was met
 --   First refusal builder     the first error met is this one
---   Adds change builder before added after   what was added to the trace is this change of the level in work, or the refusal is its first error
+--   Stops stop trace builder  the first error met is the one that stops; or the trace has no room, and then it has not a word for each step that the limits allow
+--   Adds change builder before added after   what was added to the trace is this change of the level in work, or why it stopped
 --   SpendsNode builder name depthLeft added   the same for a node, which is nothing in the trace
 --   Entering count required word   the word is that of a group that is entered
 --   Enters count required delimiter builder before added after   the same for entering a group: an entry level, which its delimiter begins, is
@@ -22,17 +23,19 @@
 --   Fits builder              what was added and spent is within the limits, and the trace has a word for each step so far
 --   Grows builder added       the builder that is given fits as well
 use mathlib.Core.Path.{_≡_}
-use Prim.Native.Nat.{ℕ, _+_, _≤_, _/_, _%_}
+use Prim.Native.Nat.{ℕ, _+_, _≤_, _<_, _/_, _%_}
 use mathlib.Core.Bool.{Bool, false}
 use mathlib.Core.List.{List, [], _∷_, _++_}
-use lib.ListN.{take}
+use lib.ListN.{length, take}
 use Rattle.ascii.specs.Notation.{_≡ᵇ_, if_then_else_}
 use Rattle.texts.specs.declared.refusal.Refusal.{Refusal}
 use Rattle.layouts.specs.Limits.{gateLimits}
 use Rattle.layouts.specs.Layout.{group-of}
 use Rattle.expansion.specs.declared.builder.Builder as Code
 use Rattle.expansion.specs.declared.builder.Added.{Added}
-use Rattle.expansion.specs.declared.builder.Added.the-variants.{Done, Refused}
+use Rattle.expansion.specs.declared.builder.Added.the-variants.{Done, Stopped}
+use Rattle.expansion.specs.declared.builder.Stop.{Stop}
+use Rattle.expansion.specs.declared.builder.Stop.the-variants.{Error, NoRoom}
 use Rattle.expansion.specs.Expansion.{Builder, OpenLevel, Work, Granted, Denied, emptyLevel, noted, finishEntry, spend, addMember, openEntry}
 
 pub record Frame : Type 0 where
@@ -96,6 +99,10 @@ workOf builder level = record { builder = builderOf builder; level = level }
 abbrev pub First : Refusal → Builder → Type 0
 First refusal builder = (others : List Refusal) × (builder .errors ≡ refusal ∷ others)
 
+abbrev pub Stops : Stop → List ℕ → Builder → Type 0
+Stops (Error refusal) trace builder = First refusal builder
+Stops NoRoom trace builder = length trace < 14336
+
 -- the levels in work that the first words of a trace tell
 abbrev pub InWork : Code.Builder → List ℕ → Frame → List Frame → Type 0
 InWork builder trace frame outer = run atStart (take (builder .len) trace) ≡ frame ∷ outer
@@ -106,8 +113,8 @@ Adds change builder before (Done next) trace =
     → InWork builder before frame outer
     → InWork next trace (withLevel (change (workOf builder (frame .level)) .level) frame) outer
     × (change (workOf builder (frame .level)) .builder ≡ builderOf next)
-Adds change builder before (Refused refusal) trace =
-    (frame : Frame) (outer : List Frame) → InWork builder before frame outer → First refusal (change (workOf builder (frame .level)) .builder)
+Adds change builder before (Stopped stop) trace =
+    (frame : Frame) (outer : List Frame) → InWork builder before frame outer → Stops stop trace (change (workOf builder (frame .level)) .builder)
 
 -- a node more, and a word of the trace more
 abbrev pub nodeMore : Code.Builder → Code.Builder
@@ -120,8 +127,9 @@ unfoldable pub SpendsNode : Code.Builder → ℕ → ℕ → Added → Type 0
 SpendsNode builder name depthLeft (Done next) =
     (next ≡ nodeMore builder)
     × ((level : OpenLevel) → spend gateLimits name depthLeft (workOf builder level) ≡ Granted (workOf next level))
-SpendsNode builder name depthLeft (Refused refusal) =
+SpendsNode builder name depthLeft (Stopped (Error refusal)) =
     (level : OpenLevel) → spend gateLimits name depthLeft (workOf builder level) ≡ Denied (noted refusal (workOf builder level))
+SpendsNode builder name depthLeft (Stopped NoRoom) = ⊥
 
 pub record Fits (builder : Code.Builder) : Type 0 where
   pub nodes : builder .nodes ≤ 4096
@@ -136,7 +144,7 @@ pub record Grown (builder next : Code.Builder) : Type 0 where
 
 unfoldable pub Grows : Code.Builder → Added → Type 0
 Grows builder (Done next) = Grown builder next
-Grows builder (Refused refusal) = Unit
+Grows builder (Stopped stop) = Unit
 
 pub record Entering (count : ℕ) (required : Bool) (word : ℕ) : Type 0 where
   pub step : word % 4 ≡ 2
@@ -155,13 +163,17 @@ Enters count required delimiter builder before (Done next) trace =
     (record { countTag = count; needed = required; level = entered count delimiter (workOf builder (frame .level)) .level })
     (withLevel (addMember gateLimits count (workOf builder (frame .level)) .level) frame ∷ outer)
     × (entered count delimiter (workOf builder (frame .level)) .builder ≡ builderOf next)
-Enters count required delimiter builder before (Refused refusal) trace =
+Enters count required delimiter builder before (Stopped stop) trace =
     (frame : Frame) (outer : List Frame)
     → InWork builder before frame outer
-    → First refusal (entered count delimiter (workOf builder (frame .level)) .builder)
+    → Stops stop trace (entered count delimiter (workOf builder (frame .level)) .builder)
 
-unfoldable pub Leaves : ℕ → Code.Builder → List ℕ → Code.Builder → List ℕ → Type 0
-Leaves delimiter builder before next trace =
-    (entry around : Frame) (outer : List Frame)
+-- leaving a group is a word more and no error
+unfoldable pub Leaves : ℕ → Code.Builder → List ℕ → Added → List ℕ → Type 0
+Leaves delimiter builder before (Done next) trace =
+    ((entry around : Frame) (outer : List Frame)
     → InWork builder before entry (around ∷ outer)
-    → (run atStart (take (next .len) trace) ≡ left delimiter entry (around ∷ outer)) × (builderOf next ≡ builderOf builder)
+    → (run atStart (take (next .len) trace) ≡ left delimiter entry (around ∷ outer)) × (builderOf next ≡ builderOf builder))
+    × ((next ≡ wordMore builder) × Fits next)
+Leaves delimiter builder before (Stopped (Error refusal)) trace = ⊥
+Leaves delimiter builder before (Stopped NoRoom) trace = length trace < 14336

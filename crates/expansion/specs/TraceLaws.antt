@@ -13,10 +13,12 @@ use Rattle.texts.specs.declared.refusal.Refusal.the-variants.{TooDeep, OutOfNod
 use Rattle.layouts.specs.Limits.{Limits, gateLimits}
 use Rattle.expansion.specs.declared.builder.Builder as Code
 use Rattle.expansion.specs.declared.builder.Added.{Added}
-use Rattle.expansion.specs.declared.builder.Added.the-variants.{Done, Refused}
+use Rattle.expansion.specs.declared.builder.Added.the-variants.{Done, Stopped}
+use Rattle.expansion.specs.declared.builder.Stop.{Stop}
+use Rattle.expansion.specs.declared.builder.Stop.the-variants.{Error, NoRoom}
 use Rattle.expansion.specs.Expansion.{Builder, Work, noted, ranOut, pushMember, pushRequired, addMember, addRequired, addField, spend, openEntry, emptyLevel}
 use Rattle.expansion.specs.ExpansionLaws.{keeps-addMember, keeps-addRequired}
-use Rattle.expansion.specs.Trace.{Frame, withLevel, withMember, withRequired, after, run, atStart, builderOf, workOf, First, Adds, nodeMore, wordMore, SpendsNode, Fits, Grown, Grows, Entering, Enters, Leaves, left}
+use Rattle.expansion.specs.Trace.{Frame, withLevel, withMember, withRequired, after, run, atStart, builderOf, workOf, First, Stops, Adds, nodeMore, wordMore, SpendsNode, Fits, Grown, Grows, Entering, Enters, Leaves, left}
 
 -- ---- run, after
 
@@ -64,6 +66,18 @@ pub first-required : (limits : Limits) (refusal : Refusal) (tag : ℕ) (work : W
 first-required limits refusal tag work first =
     keeps-addRequired limits (λ later. First refusal (later .builder)) tag work (λ within. first) (first-noted refusal MembersOver (pushRequired tag work) first)
 
+-- ---- Stops
+
+pub stops-same : (stop : Stop) (trace : List ℕ) (one other : Builder) → one ≡ other → Stops stop trace one → Stops stop trace other
+stops-same stop trace one other same stops = rw (← same) stops
+
+pub stops-later : (stop : Stop) (trace : List ℕ) (later : Work → Work) (work : Work)
+    → ((refusal : Refusal) → First refusal (work .builder) → First refusal (later work .builder))
+    → Stops stop trace (work .builder)
+    → Stops stop trace (later work .builder)
+stops-later (Error refusal) trace later work keeps stops = keeps refusal stops
+stops-later NoRoom trace later work keeps stops = stops
+
 -- ---- Adds: one change and then another
 
 -- where a change met no error, it is known from its level
@@ -83,43 +97,50 @@ module _ (earlier later : Work → Work) (builder : Code.Builder) (before middle
         two .0 ∙ ap (λ (work : Work). withLevel (later work .level) frame ∷ outer) (sym (same-work next (earlier begun) (one .1))),
         ap (λ (work : Work). later work .builder) (same-work next (earlier begun) (one .1)) ∙ two .1,
       )
-  adds-then next (Refused refusal) trace first second = λ frame outer stands.
+  adds-then next (Stopped stop) trace first second = λ frame outer stands.
       let begun = workOf builder (frame .level) in
       let one = first frame outer stands in
       let two = second (withLevel (earlier begun .level) frame) outer (one .0) in
-      (two .0, ap (λ (work : Work). later work .builder .errors) (same-work next (earlier begun) (one .1)) ∙ two .1)
+      stops-same stop trace (later (workOf next (earlier begun .level)) .builder) (later (earlier begun) .builder)
+      (ap (λ (work : Work). later work .builder) (sym (same-work next (earlier begun) (one .1))))
+      two
 
-  pub adds-stops : (refusal : Refusal) (trace : List ℕ)
-      → Adds earlier builder before (Refused refusal) middle
-      → ((work : Work) → First refusal (work .builder) → First refusal (later work .builder))
-      → Adds (λ work. later (earlier work)) builder before (Refused refusal) trace
+  pub adds-stops : (stop : Stop)
+      → Adds earlier builder before (Stopped stop) middle
+      → ((refusal : Refusal) (work : Work) → First refusal (work .builder) → First refusal (later work .builder))
+      → Adds (λ work. later (earlier work)) builder before (Stopped stop) middle
   unfolding Adds
-  adds-stops refusal trace first keeps frame outer stands = keeps (earlier (workOf builder (frame .level))) (first frame outer stands)
+  adds-stops stop first keeps = λ frame outer stands.
+      let begun = earlier (workOf builder (frame .level)) in
+      stops-later stop middle later begun (λ refusal met. keeps refusal begun met) (first frame outer stands)
 
 pub grown-then : (builder next last : Code.Builder) → Grown builder next → Grown next last → Grown builder last
 grown-then builder next last first second = record { fits = second .fits; slack = omega (arith, first .slack, second .slack) }
 
 -- ---- add_member, add_required
 
-module _ (builder : Code.Builder) (trace : List ℕ) (tag : ℕ) (narrow : tag < 4294967296) (size : 14336 ≤ length trace) (fits : Fits builder) where
+module _ (builder : Code.Builder) (trace : List ℕ) (tag : ℕ) (narrow : tag < 4294967296) (fits : Fits builder) where
   abbrev pub memberMore : Code.Builder
   memberMore = record { nodes = builder .nodes; members = builder .members + 1; required = builder .required; len = builder .len + 1 }
 
   abbrev pub requiredMore : Code.Builder
   requiredMore = record { nodes = builder .nodes; members = builder .members; required = builder .required + 1; len = builder .len + 1 }
 
-  pub adds-member : builder .members < 8192 → Adds (addMember gateLimits tag) builder trace (Done memberMore) (set trace (builder .len) (tag * 4))
+  pub adds-member : builder .members < 8192 → builder .len < length trace → Adds (addMember gateLimits tag) builder trace (Done memberMore) (set trace (builder .len) (tag * 4))
   unfolding addMember Adds
-  adds-member room frame outer stands =
-      let within : builder .len < length trace = omega (arith, fits .nodes, fits .required, fits .len) in
+  adds-member room within frame outer stands =
       rw (lt-ltb (builder .members) 8192 room) (
         one-more (builder .len) trace (tag * 4) frame outer within stands ∙ after-member tag frame outer narrow,
         rw add-one refl,
       )
 
-  pub adds-member-over : 8192 ≤ builder .members → Adds (addMember gateLimits tag) builder trace (Refused MembersOver) trace
+  pub adds-member-over : 8192 ≤ builder .members → Adds (addMember gateLimits tag) builder trace (Stopped (Error MembersOver)) trace
   unfolding addMember Adds
   adds-member-over over frame outer stands = rw (le-ltb (builder .members) 8192 over) ([], refl)
+
+  pub adds-member-full : builder .members < 8192 → length trace ≤ builder .len → Adds (addMember gateLimits tag) builder trace (Stopped NoRoom) trace
+  unfolding Adds
+  adds-member-full room full frame outer stands = omega (arith, fits .nodes, fits .required, fits .len)
 
   pub member-grows : builder .members < 8192 → Grown builder memberMore
   member-grows room = record {
@@ -127,18 +148,21 @@ module _ (builder : Code.Builder) (trace : List ℕ) (tag : ℕ) (narrow : tag <
     slack = omega arith;
   }
 
-  pub adds-required : builder .required < 2048 → Adds (addRequired gateLimits tag) builder trace (Done requiredMore) (set trace (builder .len) (tag * 4 + 1))
+  pub adds-required : builder .required < 2048 → builder .len < length trace → Adds (addRequired gateLimits tag) builder trace (Done requiredMore) (set trace (builder .len) (tag * 4 + 1))
   unfolding addRequired Adds
-  adds-required room frame outer stands =
-      let within : builder .len < length trace = omega (arith, fits .nodes, fits .members, fits .len) in
+  adds-required room within frame outer stands =
       rw (lt-ltb (builder .required) 2048 room) (
         one-more (builder .len) trace (tag * 4 + 1) frame outer within stands ∙ after-required tag frame outer narrow,
         rw add-one refl,
       )
 
-  pub adds-required-over : 2048 ≤ builder .required → Adds (addRequired gateLimits tag) builder trace (Refused MembersOver) trace
+  pub adds-required-over : 2048 ≤ builder .required → Adds (addRequired gateLimits tag) builder trace (Stopped (Error MembersOver)) trace
   unfolding addRequired Adds
   adds-required-over over frame outer stands = rw (le-ltb (builder .required) 2048 over) ([], refl)
+
+  pub adds-required-full : builder .required < 2048 → length trace ≤ builder .len → Adds (addRequired gateLimits tag) builder trace (Stopped NoRoom) trace
+  unfolding Adds
+  adds-required-full room full frame outer stands = omega (arith, fits .nodes, fits .members, fits .len)
 
   pub required-grows : builder .required < 2048 → Grown builder requiredMore
   required-grows room = record {
@@ -156,25 +180,25 @@ module _ (builder next : Code.Builder) (before middle : List ℕ) (tag : ℕ) wh
   unfolding addField Adds
   field-required added trace first second = adds-then (addMember gateLimits tag) (addRequired gateLimits tag) builder before middle next added trace first second
 
-pub field-over : (builder : Code.Builder) (before middle : List ℕ) (tag : ℕ) (refusal : Refusal) (trace : List ℕ)
-    → Adds (addMember gateLimits tag) builder before (Refused refusal) middle
-    → Adds (addField gateLimits tag true) builder before (Refused refusal) trace
+pub field-over : (builder : Code.Builder) (before middle : List ℕ) (tag : ℕ) (stop : Stop)
+    → Adds (addMember gateLimits tag) builder before (Stopped stop) middle
+    → Adds (addField gateLimits tag true) builder before (Stopped stop) middle
 unfolding addField Adds
-field-over builder before middle tag refusal trace first =
-    adds-stops (addMember gateLimits tag) (addRequired gateLimits tag) builder before middle refusal trace first
-    (λ work met. first-required gateLimits refusal tag work met)
+field-over builder before middle tag stop first =
+    adds-stops (addMember gateLimits tag) (addRequired gateLimits tag) builder before middle stop first
+    (λ refusal work met. first-required gateLimits refusal tag work met)
 
 pub field-optional : (builder : Code.Builder) (before : List ℕ) (tag : ℕ) (added : Added) (trace : List ℕ)
     → Adds (addMember gateLimits tag) builder before added trace
     → Adds (addField gateLimits tag false) builder before added trace
 unfolding addField Adds
 field-optional builder before tag (Done next) trace first = first
-field-optional builder before tag (Refused refusal) trace first = first
+field-optional builder before tag (Stopped stop) trace first = first
 
 pub grows-then : (builder next : Code.Builder) (added : Added) → Grown builder next → Grows next added → Grows builder added
 unfolding Grows
 grows-then builder next (Done last) first second = grown-then builder next last first second
-grows-then builder next (Refused refusal) first second = tt
+grows-then builder next (Stopped stop) first second = tt
 
 pub grown-grows : (builder next : Code.Builder) → Grown builder next → Grows builder (Done next)
 unfolding Grows
@@ -184,14 +208,14 @@ pub done-grown : (builder next : Code.Builder) → Grows builder (Done next) →
 unfolding Grows
 done-grown builder next grows = grows
 
-pub refused-grows : (builder : Code.Builder) (refusal : Refusal) → Grows builder (Refused refusal)
+pub stopped-grows : (builder : Code.Builder) (stop : Stop) → Grows builder (Stopped stop)
 unfolding Grows
-refused-grows builder refusal = tt
+stopped-grows builder stop = tt
 
 -- ---- spend
 
 module _ (builder : Code.Builder) (name : ℕ) where
-  pub spends-deep : (depthLeft : ℕ) → depthLeft ≡ 0 → SpendsNode builder name depthLeft (Refused (TooDeep name))
+  pub spends-deep : (depthLeft : ℕ) → depthLeft ≡ 0 → SpendsNode builder name depthLeft (Stopped (Error (TooDeep name)))
   unfolding spend SpendsNode
   spends-deep zero none level = refl
   spends-deep (suc depth) none level = absurd (omega arith)
@@ -202,7 +226,7 @@ module _ (builder : Code.Builder) (name : ℕ) where
   spends-node zero some room = absurd (some refl)
   spends-node (suc depth) some room = (refl, λ level. rw (lt-ltb (builder .nodes) 4096 room, add-one))
 
-  pub spends-over : (depthLeft : ℕ) → (depthLeft ≡ 0 → ⊥) → 4096 ≤ builder .nodes → SpendsNode builder name depthLeft (Refused (OutOfNodes name))
+  pub spends-over : (depthLeft : ℕ) → (depthLeft ≡ 0 → ⊥) → 4096 ≤ builder .nodes → SpendsNode builder name depthLeft (Stopped (Error (OutOfNodes name)))
   unfolding spend ranOut SpendsNode
   spends-over zero some over level = absurd (some refl)
   spends-over (suc depth) some over level = rw (le-ltb (builder .nodes) 4096 over)
@@ -241,18 +265,19 @@ after-leaving delimiter entry outer narrow =
     let same : delimiter % 4294967296 ≡ delimiter = omega (arith, narrow) in
     rw (rest, whole, same)
 
-module _ (builder : Code.Builder) (trace : List ℕ) (count : ℕ) (required : Bool) (delimiter word : ℕ) (narrow : delimiter < 4294967296) (size : 14336 ≤ length trace) (fits : Fits builder) where
+module _ (builder : Code.Builder) (trace : List ℕ) (count : ℕ) (required : Bool) (delimiter word : ℕ) (narrow : delimiter < 4294967296) (fits : Fits builder) where
   abbrev pub groupMore : Code.Builder
   groupMore = record { nodes = builder .nodes; members = builder .members + 2; required = builder .required; len = builder .len + 2 }
 
   pub enters : Entering count required word
       → builder .members + 1 < 8192
+      → builder .len + 1 < length trace
       → Enters count required delimiter builder trace (Done groupMore) (set (set trace (builder .len) word) (builder .len + 1) (delimiter * 4))
   unfolding Enters addMember
-  enters entering room = λ frame outer stands.
-      let within : builder .len < length trace = omega (arith, fits .nodes, fits .required, fits .len) in
+  enters entering room space = λ frame outer stands.
+      let within : builder .len < length trace = omega (arith, space) in
       let also : builder .len + 1 < length (set trace (builder .len) word) =
-      omega (arith, fits .nodes, fits .required, fits .len, length-set trace (builder .len) word) in
+      omega (arith, space, length-set trace (builder .len) word) in
       let one = one-more (builder .len) trace word frame outer within stands ∙ after-entering count required word frame outer entering in
       let two =
       one-more (builder .len + 1) (set trace (builder .len) word) (delimiter * 4)
@@ -266,12 +291,16 @@ module _ (builder : Code.Builder) (trace : List ℕ) (count : ℕ) (required : B
       let second : suc (builder .members) < 8192 = omega arith in
       rw (len, more, lt-ltb (builder .members) 8192 (omega arith), lt-ltb (suc (builder .members)) 8192 second) (two, refl)
 
-  pub enters-over : 8192 ≤ builder .members + 1 → Enters count required delimiter builder trace (Refused MembersOver) trace
+  pub enters-over : 8192 ≤ builder .members + 1 → Enters count required delimiter builder trace (Stopped (Error MembersOver)) trace
   unfolding Enters addMember
   enters-over over = λ frame outer stands.
       keeps-addMember gateLimits (λ around. First MembersOver (openEntry gateLimits delimiter around .builder)) count (workOf builder (frame .level))
       (λ within. let full : 8192 ≤ suc (builder .members) = omega arith in rw (le-ltb (suc (builder .members)) 8192 full) ([], refl))
       (first-member gateLimits MembersOver delimiter (record { builder = noted MembersOver (pushMember count (workOf builder (frame .level))) .builder; level = emptyLevel }) ([], refl))
+
+  pub enters-full : builder .members + 1 < 8192 → length trace ≤ builder .len + 1 → Enters count required delimiter builder trace (Stopped NoRoom) trace
+  unfolding Enters
+  enters-full room full = λ frame outer stands. omega (arith, fits .nodes, fits .required, fits .len)
 
   pub enter-grows : builder .members + 1 < 8192 → Grown builder groupMore
   enter-grows room = record {
@@ -281,14 +310,17 @@ module _ (builder : Code.Builder) (trace : List ℕ) (count : ℕ) (required : B
 
 -- ---- leave_group
 
-module _ (builder : Code.Builder) (trace : List ℕ) (delimiter : ℕ) (narrow : delimiter < 4294967296) (size : 14336 ≤ length trace) (fits : Fits builder) (room : builder .len < builder .members + builder .required + builder .nodes) where
-  pub leaves : Leaves delimiter builder trace (wordMore builder) (set trace (builder .len) (delimiter * 4 + 3))
+module _ (builder : Code.Builder) (trace : List ℕ) (delimiter : ℕ) (narrow : delimiter < 4294967296) (fits : Fits builder) (room : builder .len < builder .members + builder .required + builder .nodes) where
+  pub leaves : builder .len < length trace → Leaves delimiter builder trace (Done (wordMore builder)) (set trace (builder .len) (delimiter * 4 + 3))
   unfolding Leaves
-  leaves = λ entry around outer stands.
-      let within : builder .len < length trace = omega (arith, fits .nodes, fits .members, fits .required) in (
-        one-more (builder .len) trace (delimiter * 4 + 3) entry (around ∷ outer) within stands ∙ after-leaving delimiter entry (around ∷ outer) narrow,
-        refl,
-      )
+  leaves within = (
+    λ entry around outer stands. (
+      one-more (builder .len) trace (delimiter * 4 + 3) entry (around ∷ outer) within stands ∙ after-leaving delimiter entry (around ∷ outer) narrow,
+      refl,
+    ),
+    (refl, record { nodes = fits .nodes; members = fits .members; required = fits .required; len = omega arith }),
+  )
 
-  pub leave-fits : Fits (wordMore builder)
-  leave-fits = record { nodes = fits .nodes; members = fits .members; required = fits .required; len = omega arith }
+  pub leaves-full : length trace ≤ builder .len → Leaves delimiter builder trace (Stopped NoRoom) trace
+  unfolding Leaves
+  leaves-full full = omega (arith, fits .nodes, fits .members, fits .required)

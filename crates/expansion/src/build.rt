@@ -1,6 +1,7 @@
 // The message level of an expansion: the Rust's `build` (scope.rs). Header and trailer, then the message's body, each added at the top with no component open.
 use crate::builder::Added;
 use crate::builder::Builder;
+use crate::builder::Stop;
 use crate::expansion::Path;
 use crate::expansion::add_body;
 use crate::expansion::outcome;
@@ -11,8 +12,7 @@ use texts::refusal::Refusal;
 ghost use mathlib.Core.Path.{_≡_};
 ghost use mathlib.Core.Bool.{true, _||_};
 ghost use mathlib.Core.List.{[]};
-ghost use Prim.Native.Nat.{_+_, _≤_};
-ghost use lib.ListN.{length};
+ghost use Prim.Native.Nat.{_+_};
 ghost use Rattle.ascii.specs.Notation.{_≡ᵇ_};
 ghost use Rattle.dictionary.specs.DictionaryWords.{placeOf};
 ghost use Rattle.dictionary.specs.DictionaryCheck.{isDictionary};
@@ -87,7 +87,7 @@ fn trailer_of(words: &[u32], header: usize) -> usize
 
 // Adds the body behind a line to the message level.
 fn add_top(words: &[u32], line: usize, trace: &mut [u64], builder: Builder) -> Added
-    requires { ⌜ (isDictionary (now words) ≡ true) × (Begins (now words) line × (Fits builder × (14336 ≤ length (now trace)))) ⌝ }
+    requires { ⌜ (isDictionary (now words) ≡ true) × (Begins (now words) line × Fits builder) ⌝ }
     ensures { λ added. ⌜ Uses (fillAt (now (words .entry)) 33 [] true (line + 1)) builder (now (trace .entry)) added (now (trace .exit)) ⌝ }
 {
     let path = nothing_open();
@@ -98,7 +98,7 @@ fn add_top(words: &[u32], line: usize, trace: &mut [u64], builder: Builder) -> A
 
 // Builds the message level: header and trailer, then the fields, groups and uses of the message whose line is at this place.
 pub fn build(words: &[u32], message: usize, trace: &mut [u64]) -> Added
-    requires { ⌜ (isDictionary (now words) ≡ true) × (Begins (now words) message × (14336 ≤ length (now trace))) ⌝ }
+    requires { ⌜ (isDictionary (now words) ≡ true) × Begins (now words) message ⌝ }
     ensures { λ added. ⌜ Built (now (words .entry)) message added (now (trace .exit)) ⌝ }
 {
     let header = header_of(words);
@@ -110,9 +110,9 @@ pub fn build(words: &[u32], message: usize, trace: &mut [u64]) -> Added
         len: 0,
     };
     match add_top(words, header, trace, nothing) {
-        Added::Refused(refusal) => Added::Refused(refusal),
+        Added::Stopped(stop) => Added::Stopped(stop),
         Added::Done(head) => match add_top(words, trailer, trace, head) {
-            Added::Refused(refusal) => Added::Refused(refusal),
+            Added::Stopped(stop) => Added::Stopped(stop),
             Added::Done(envelope) => add_top(words, message, trace, envelope),
         },
     }
@@ -120,11 +120,11 @@ pub fn build(words: &[u32], message: usize, trace: &mut [u64]) -> Added
 
 // Writes the trace of the expansion of the message type.
 pub fn expand(words: &[u32], value: &[u8], trace: &mut [u64]) -> Added
-    requires { ⌜ (isDictionary (now words) ≡ true) × (14336 ≤ length (now trace)) ⌝ }
+    requires { ⌜ isDictionary (now words) ≡ true ⌝ }
     ensures { λ added. ⌜ Traced (now (words .entry)) (now (value .entry)) added (now (trace .exit)) ⌝ }
 {
     match message_of(words, value) {
-        Found::Nothing => Added::Refused(Refusal::TypeNotDefined),
+        Found::Nothing => Added::Stopped(Stop::Error(Refusal::TypeNotDefined)),
         Found::At(number) => build(words, number, trace),
     }
 }

@@ -2,11 +2,10 @@
 // read from there when the levels are put in order. So a refusal leaves nothing behind, and a level needs no memory of its own.
 use texts::refusal::Refusal;
 ghost use mathlib.Core.Path.{_≡_};
-ghost use Prim.Native.Nat.{_+_, _≤_, _<_};
-ghost use lib.ListN.{length};
+ghost use Prim.Native.Nat.{_+_, _<_};
 ghost use Rattle.layouts.specs.Limits.{gateLimits};
 ghost use Rattle.expansion.specs.Expansion.{addMember, addRequired, addField};
-ghost use Rattle.expansion.specs.Trace.{Fits, Adds, wordMore, SpendsNode, Grows, Entering, Enters, Leaves};
+ghost use Rattle.expansion.specs.Trace.{Fits, Adds, SpendsNode, Grows, Entering, Enters, Leaves};
 
 // Document 01: "one of 4,096 nodes", "members of all levels may number 8,192 and the entries of all required lists 2,048".
 pub const NODES: usize = 4096;
@@ -14,9 +13,6 @@ pub const NODES: usize = 4096;
 pub const MEMBERS: usize = 8192;
 
 pub const REQUIRED: usize = 2048;
-
-// A word for each member, for each required entry and for each node.
-pub const TRACE: usize = 14336;
 
 // What was spent and added so far, and how many words of the trace it takes.
 pub struct Builder {
@@ -26,10 +22,16 @@ pub struct Builder {
     pub len: usize,
 }
 
-// The Rust's builder goes on past an error; the gate stops at the first.
+// Why nothing more is added. The Rust's builder goes on past an error; the gate stops at the first.
+pub enum Stop {
+    Error(Refusal),
+    // the trace is full: fewer words were lent than the 14,336 for each member, required entry and node
+    NoRoom,
+}
+
 pub enum Added {
     Done(Builder),
-    Refused(Refusal),
+    Stopped(Stop),
 }
 
 // Charges one node against the budget and checks the depth ceiling.
@@ -39,7 +41,7 @@ pub fn spend(builder: Builder, name: u32, depth_left: usize) -> Added
     ensures grows { λ added. ⌜ Grows builder added ⌝ }
 {
     if depth_left == 0 {
-        return Added::Refused(Refusal::TooDeep(name));
+        return Added::Stopped(Stop::Error(Refusal::TooDeep(name)));
     }
     if builder.nodes < NODES {
         return Added::Done(Builder {
@@ -49,17 +51,20 @@ pub fn spend(builder: Builder, name: u32, depth_left: usize) -> Added
             len: builder.len,
         });
     }
-    Added::Refused(Refusal::OutOfNodes(name))
+    Added::Stopped(Stop::Error(Refusal::OutOfNodes(name)))
 }
 
 // Adds a tag to the members of the level in work.
 pub fn add_member(trace: &mut [u64], builder: Builder, tag: u32) -> Added
-    requires { ⌜ Fits builder × (14336 ≤ length (now trace)) ⌝ }
+    requires { ⌜ Fits builder ⌝ }
     ensures change { λ added. ⌜ Adds (addMember gateLimits tag) builder (now (trace .entry)) added (now (trace .exit)) ⌝ }
     ensures grows { λ added. ⌜ Grows builder added ⌝ }
 {
     if builder.members < MEMBERS {
         let len = builder.len;
+        if trace.len() <= len {
+            return Added::Stopped(Stop::NoRoom);
+        }
         trace[len] = tag as u64 * 4;
         return Added::Done(Builder {
             nodes: builder.nodes,
@@ -68,17 +73,20 @@ pub fn add_member(trace: &mut [u64], builder: Builder, tag: u32) -> Added
             len: len + 1,
         });
     }
-    Added::Refused(Refusal::MembersOver)
+    Added::Stopped(Stop::Error(Refusal::MembersOver))
 }
 
 // Adds a tag to the required list of the level in work.
 pub fn add_required(trace: &mut [u64], builder: Builder, tag: u32) -> Added
-    requires { ⌜ Fits builder × (14336 ≤ length (now trace)) ⌝ }
+    requires { ⌜ Fits builder ⌝ }
     ensures change { λ added. ⌜ Adds (addRequired gateLimits tag) builder (now (trace .entry)) added (now (trace .exit)) ⌝ }
     ensures grows { λ added. ⌜ Grows builder added ⌝ }
 {
     if builder.required < REQUIRED {
         let len = builder.len;
+        if trace.len() <= len {
+            return Added::Stopped(Stop::NoRoom);
+        }
         trace[len] = tag as u64 * 4 + 1;
         return Added::Done(Builder {
             nodes: builder.nodes,
@@ -87,12 +95,12 @@ pub fn add_required(trace: &mut [u64], builder: Builder, tag: u32) -> Added
             len: len + 1,
         });
     }
-    Added::Refused(Refusal::MembersOver)
+    Added::Stopped(Stop::Error(Refusal::MembersOver))
 }
 
 // The Rust's `Level::add_field`.
 pub fn add_field(trace: &mut [u64], builder: Builder, tag: u32, required: bool) -> Added
-    requires { ⌜ Fits builder × (14336 ≤ length (now trace)) ⌝ }
+    requires { ⌜ Fits builder ⌝ }
     ensures change { λ added. ⌜ Adds (addField gateLimits tag required) builder (now (trace .entry)) added (now (trace .exit)) ⌝ }
     ensures grows { λ added. ⌜ Grows builder added ⌝ }
 {
@@ -100,7 +108,7 @@ pub fn add_field(trace: &mut [u64], builder: Builder, tag: u32, required: bool) 
     if required {
         return match member {
             Added::Done(next) => add_required(trace, next, tag),
-            Added::Refused(refusal) => Added::Refused(refusal),
+            Added::Stopped(stop) => Added::Stopped(stop),
         };
     }
     member
@@ -124,13 +132,16 @@ pub fn enter_group(
     required: bool,
     delimiter: u32,
 ) -> Added
-    requires { ⌜ Fits builder × (14336 ≤ length (now trace)) ⌝ }
+    requires { ⌜ Fits builder ⌝ }
     ensures change { λ added. ⌜ Enters count required delimiter builder (now (trace .entry)) added (now (trace .exit)) ⌝ }
     ensures grows { λ added. ⌜ Grows builder added ⌝ }
 {
     let word = entering(count, required);
     if builder.members + 1 < MEMBERS {
         let len = builder.len;
+        if trace.len() <= len + 1 {
+            return Added::Stopped(Stop::NoRoom);
+        }
         trace[len] = word;
         trace[len + 1] = delimiter as u64 * 4;
         return Added::Done(Builder {
@@ -140,22 +151,23 @@ pub fn enter_group(
             len: len + 2,
         });
     }
-    Added::Refused(Refusal::MembersOver)
+    Added::Stopped(Stop::Error(Refusal::MembersOver))
 }
 
 // Leaves a group: its entry level is filled, and stands in the level around.
-pub fn leave_group(trace: &mut [u64], builder: Builder, delimiter: u32) -> Builder
-    requires { ⌜ Fits builder × (builder .len < builder .members + builder .required + builder .nodes) × (14336 ≤ length (now trace)) ⌝ }
-    ensures change { λ next. ⌜ Leaves delimiter builder (now (trace .entry)) next (now (trace .exit)) ⌝ }
-    ensures counts { λ next. ⌜ next ≡ wordMore builder ⌝ }
-    ensures fits { λ next. ⌜ Fits next ⌝ }
+pub fn leave_group(trace: &mut [u64], builder: Builder, delimiter: u32) -> Added
+    requires { ⌜ Fits builder × (builder .len < builder .members + builder .required + builder .nodes) ⌝ }
+    ensures change { λ added. ⌜ Leaves delimiter builder (now (trace .entry)) added (now (trace .exit)) ⌝ }
 {
     let len = builder.len;
+    if trace.len() <= len {
+        return Added::Stopped(Stop::NoRoom);
+    }
     trace[len] = delimiter as u64 * 4 + 3;
-    Builder {
+    Added::Done(Builder {
         nodes: builder.nodes,
         members: builder.members,
         required: builder.required,
         len: len + 1,
-    }
+    })
 }

@@ -7,6 +7,7 @@ use crate::body_line::BodyLine;
 use crate::body_line::body_line;
 use crate::builder::Added;
 use crate::builder::Builder;
+use crate::builder::Stop;
 use crate::builder::add_field;
 use crate::builder::enter_group;
 use crate::builder::leave_group;
@@ -39,10 +40,10 @@ pub struct GroupLine {
     pub first: usize,
 }
 
-// The place behind the end of a body that was added, and what is spent and added then; or the first error met.
+// The place behind the end of a body that was added, and what is spent and added then; or why no more was added.
 pub enum Filled {
     UpTo(usize, Builder),
-    Stopped(Refusal),
+    Stopped(Stop),
 }
 
 pub fn outcome(filled: Filled) -> Added
@@ -50,7 +51,7 @@ pub fn outcome(filled: Filled) -> Added
 {
     match filled {
         Filled::UpTo(_, builder) => Added::Done(builder),
-        Filled::Stopped(refusal) => Added::Refused(refusal),
+        Filled::Stopped(stop) => Added::Stopped(stop),
     }
 }
 
@@ -92,7 +93,7 @@ pub fn add_body(
     trace: &mut [u64],
     builder: Builder,
 ) -> Filled
-    requires { ⌜ Asks (now words) «depth_left» path builder (now trace) × BodyAt (wordLines (now words)) place ⌝ }
+    requires { ⌜ Asks (now words) «depth_left» path builder × BodyAt (wordLines (now words)) place ⌝ }
     ensures { λ filled. ⌜ Fills (fillAt (now (words .entry)) «depth_left» (openNames path) collect place) (now (words .entry)) place
         builder (now (trace .entry)) filled (now (trace .exit)) ⌝ }
 {
@@ -107,8 +108,8 @@ pub fn add_body(
                         so_far = next;
                         at += 1;
                     }
-                    Added::Refused(refusal) => {
-                        return Filled::Stopped(refusal);
+                    Added::Stopped(stop) => {
+                        return Filled::Stopped(stop);
                     }
                 }
             }
@@ -125,8 +126,8 @@ pub fn add_body(
                         at = behind;
                         so_far = next;
                     }
-                    Filled::Stopped(refusal) => {
-                        return Filled::Stopped(refusal);
+                    Filled::Stopped(stop) => {
+                        return Filled::Stopped(stop);
                     }
                 }
             }
@@ -145,8 +146,8 @@ pub fn add_body(
                         so_far = next;
                         at += 1;
                     }
-                    Added::Refused(refusal) => {
-                        return Filled::Stopped(refusal);
+                    Added::Stopped(stop) => {
+                        return Filled::Stopped(stop);
                     }
                 }
             }
@@ -168,23 +169,25 @@ fn add_group(
     trace: &mut [u64],
     builder: Builder,
 ) -> Filled
-    requires { ⌜ Asks (now words) «depth_left» path builder (now trace) × BodyAt (wordLines (now words)) (group .first) ⌝ }
+    requires { ⌜ Asks (now words) «depth_left» path builder × BodyAt (wordLines (now words)) (group .first) ⌝ }
     ensures { λ filled. ⌜ Fills (addGroup gateLimits (dictionaryIn (now (words .entry))) «depth_left» (openNames path) collect (groupAt (now (words .entry)) group))
         (now (words .entry)) (group .first) builder (now (trace .entry)) filled (now (trace .exit)) ⌝ }
 {
     match spend(builder, group.count, depth_left) {
-        Added::Refused(refusal) => Filled::Stopped(refusal),
+        Added::Stopped(stop) => Filled::Stopped(stop),
         Added::Done(node) => {
             let required = both(group.required, collect);
             match enter_group(trace, node, group.count, required, group.delimiter) {
-                Added::Refused(refusal) => Filled::Stopped(refusal),
+                Added::Stopped(stop) => Filled::Stopped(stop),
                 Added::Done(entry) => {
                     let below = depth_left - 1;
                     match add_body(words, group.first, below, path, true, trace, entry) {
-                        Filled::Stopped(refusal) => Filled::Stopped(refusal),
+                        Filled::Stopped(stop) => Filled::Stopped(stop),
                         Filled::UpTo(behind, filled) => {
-                            let last = leave_group(trace, filled, group.delimiter);
-                            Filled::UpTo(behind, last)
+                            match leave_group(trace, filled, group.delimiter) {
+                                Added::Stopped(stop) => Filled::Stopped(stop),
+                                Added::Done(last) => Filled::UpTo(behind, last),
+                            }
                         }
                     }
                 }
@@ -204,15 +207,15 @@ fn add_component(
     trace: &mut [u64],
     builder: Builder,
 ) -> Added
-    requires { ⌜ Asks (now words) «depth_left» path builder (now trace) ⌝ }
+    requires { ⌜ Asks (now words) «depth_left» path builder ⌝ }
     ensures { λ added. ⌜ Uses (addComponent gateLimits (dictionaryIn (now (words .entry))) «depth_left» (openNames path) collect
         (record { name = name; required = required })) builder (now (trace .entry)) added (now (trace .exit)) ⌝ }
 {
     match spend(builder, name, depth_left) {
-        Added::Refused(refusal) => Added::Refused(refusal),
+        Added::Stopped(stop) => Added::Stopped(stop),
         Added::Done(node) => {
             let Found::At(number) = component_of(words, name) else {
-                return Added::Refused(Refusal::ComponentNotDefined(name));
+                return Added::Stopped(Stop::Error(Refusal::ComponentNotDefined(name)));
             };
             if is_open(path, name) {
                 return Added::Done(node);

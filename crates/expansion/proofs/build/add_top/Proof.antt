@@ -21,8 +21,7 @@ add-body-requires c κs = (
     passed = c .before .before .before .before .pre .0;
     deep = omega (arith, c .before .nothing-open .ensures .1);
     names = omega (arith, c .before .nothing-open .ensures .1);
-    fits = c .before .before .before .before .pre .1 .1 .0;
-    size = c .before .before .before .before .pre .1 .1 .1;
+    fits = c .before .before .before .before .pre .1 .1;
   },
   c .before .before .before .before .pre .1 .0 .there,
 )

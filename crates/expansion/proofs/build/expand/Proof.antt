@@ -10,7 +10,7 @@ use Rattle.expansion.proofs.build.expand.Tie as tie
 message-of-requires : tie.Need-message-of-requires
 message-of-requires c κs = search needs
 
--- Found::Nothing => Added::Refused(Refusal::TypeNotDefined),
+-- Found::Nothing => Added::Stopped(Stop::Error(Refusal::TypeNotDefined)),
 enum-told : tie.Need-enum-told
 enum-told c = search needs
 
@@ -19,17 +19,17 @@ enum-known-number : tie.Need-enum-known-number
 enum-known-number c = search needs
 
 build-requires : tie.Need-build-requires
-build-requires c κs = (c .before .before .before .before .before .before .before .before .pre .0, (message-begins (c .before .before .before .before .before .before .before .before .args .words .now) (λ place. (c .before .before .before .before .before .before .before .shared-slice-known .given place) .fits) (c .before .before .before .before .before .before .before .before .pre .0) (c .before .before .before .before .before .before .before .before .args .value .now) _ (sym (c .before .before .before .before .message-of .ensures .0) ∙ c .before .before .number .given .1), c .before .before .before .before .before .before .before .before .pre .1))
+build-requires c κs = (c .before .before .before .before .before .before .before .before .pre, message-begins (c .before .before .before .before .before .before .before .before .args .words .now) (λ place. (c .before .before .before .before .before .before .before .shared-slice-known .given place) .fits) (c .before .before .before .before .before .before .before .before .pre) (c .before .before .before .before .before .before .before .before .args .value .now) _ (sym (c .before .before .before .before .message-of .ensures .0) ∙ c .before .before .number .given .1))
 
 -- pub fn expand(words: &[u32], value: &[u8], trace: &mut [u64]) -> Added
 returns : tie.Need-returns
-returns c = traced-undefined (c .before .before .before .before .before .before .args .words .now) (λ place. (c .before .before .before .before .before .shared-slice-known .given place) .fits) (c .before .before .before .before .before .before .pre .0) (c .before .before .before .before .before .before .args .value .now) _ (sym (c .before .before .message-of .ensures .0) ∙ c .enum-told .given .1)
+returns c = traced-undefined (c .before .before .before .before .before .before .args .words .now) (λ place. (c .before .before .before .before .before .shared-slice-known .given place) .fits) (c .before .before .before .before .before .before .pre) (c .before .before .before .before .before .before .args .value .now) _ (sym (c .before .before .message-of .ensures .0) ∙ c .enum-told .given .1)
 
 same-length : tie.Need-same-length
 same-length c = search needs
 
 returns-2 : tie.Need-returns-2
-returns-2 c = traced-built (c .before .before .before .before .before .before .before .before .before .before .before .args .words .now) (λ place. (c .before .before .before .before .before .before .before .before .before .before .shared-slice-known .given place) .fits) (c .before .before .before .before .before .before .before .before .before .before .before .pre .0) (c .before .before .before .before .before .before .before .before .before .before .before .args .value .now) _ _ _ (sym (c .before .before .before .before .before .before .before .message-of .ensures .0) ∙ c .before .before .before .before .before .number .given .1) (c .before .before .build .ensures)
+returns-2 c = traced-built (c .before .before .before .before .before .before .before .before .before .before .before .args .words .now) (λ place. (c .before .before .before .before .before .before .before .before .before .before .shared-slice-known .given place) .fits) (c .before .before .before .before .before .before .before .before .before .before .before .pre) (c .before .before .before .before .before .before .before .before .before .before .before .args .value .now) _ _ _ (sym (c .before .before .before .before .before .before .before .message-of .ensures .0) ∙ c .before .before .before .before .before .number .given .1) (c .before .before .build .ensures)
 
 pub expand-spec : {M : Type 1} → statement M
 expand-spec =

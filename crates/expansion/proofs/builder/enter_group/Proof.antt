@@ -2,7 +2,7 @@
 -- `expansion::builder::enter_group` meets its contract, within the limit and over it, by the laws of specs/TraceLaws.antt.
 use native.Mathlib.Omega.{arith}
 use lib.ListN.{length-set}
-use Rattle.expansion.specs.TraceLaws.{enters, enters-over, enter-grows, grown-grows, refused-grows}
+use Rattle.expansion.specs.TraceLaws.{enters, enters-full, enters-over, enter-grows, grown-grows, stopped-grows}
 use borrow.Author.Needs.{needs}
 use Rattle.expansion.proofs.builder.enter_group.Statement.{statement}
 use Rattle.expansion.proofs.builder.enter_group.Tie as tie
@@ -14,6 +14,14 @@ entering-requires c κs = search needs
 -- if builder.members + 1 < MEMBERS {
 add-if1 : tie.Need-add-if1
 add-if1 c = search needs
+
+-- if trace.len() <= len + 1 {
+add-if2 : tie.Need-add-if2
+add-if2 c = search needs
+
+-- return Added::Stopped(Stop::NoRoom);
+returns : tie.Need-returns
+returns c = (enters-full _ _ _ _ _ (c .before .before .before .entering .result) (c .before .before .before .before .before .fits .delimiter .fits) (c .before .before .before .before .before .pre) (c .before .if1 .taken) (c .if2 .taken), stopped-grows _ _)
 
 -- trace[len] = word;
 mul-trace : tie.Need-mul-trace
@@ -33,29 +41,29 @@ mul-trace-3 : tie.Need-mul-trace-3
 mul-trace-3 c = search needs
 
 slice-write-trace-2 : tie.Need-slice-write-trace-2
-slice-write-trace-2 c = omega (arith, length-set (c .before .before .before .before .args .trace .now) (c .before .before .before .before .args .builder .len) (c .before .before .entering .result), c .before .before .before .before .pre .1, c .before .before .before .before .pre .0 .len, c .before .before .before .before .pre .0 .nodes, c .before .before .before .before .pre .0 .required, c .if1 .taken)
+slice-write-trace-2 c = omega (arith, length-set (c .before .before .before .before .before .args .trace .now) (c .before .before .before .before .before .args .builder .len) (c .before .before .before .entering .result), c .if2 .left)
 
 -- members: builder.members + 2,
-add-t10 : tie.Need-add-t10
-add-t10 c = search needs
+add-t11 : tie.Need-add-t11
+add-t11 c = search needs
 
 -- len: len + 2,
-add-t14 : tie.Need-add-t14
-add-t14 c = search needs
+add-t10 : tie.Need-add-t10
+add-t10 c = search needs
 
 -- return Added::Done(Builder {
 same-length : tie.Need-same-length
 same-length c = search needs
 
-returns : tie.Need-returns
-returns c = (
-  enters _ _ _ _ _ _ (c .before .before .before .before .before .fits .delimiter .fits) (c .before .before .before .before .before .pre .1) (c .before .before .before .before .before .pre .0) (c .before .before .before .entering .ensures) (c .before .if1 .taken),
-  grown-grows _ _ (enter-grows _ (c .before .before .before .before .before .args .trace .now) (c .before .before .before .before .before .args .count) (c .before .before .before .before .before .args .required) (c .before .before .before .before .before .args .delimiter) (c .before .before .before .entering .result) (c .before .before .before .before .before .fits .delimiter .fits) (c .before .before .before .before .before .pre .1) (c .before .before .before .before .before .pre .0) (c .before .if1 .taken)),
+returns-2 : tie.Need-returns-2
+returns-2 c = (
+  enters _ _ _ _ _ (c .before .before .before .before .entering .result) (c .before .before .before .before .before .before .fits .delimiter .fits) (c .before .before .before .before .before .before .pre) (c .before .before .before .before .entering .ensures) (c .before .before .if1 .taken) (omega (arith, c .before .if2 .left)),
+  grown-grows _ _ (enter-grows _ (c .before .before .before .before .before .before .args .trace .now) (c .before .before .before .before .before .before .args .count) (c .before .before .before .before .before .before .args .required) (c .before .before .before .before .before .before .args .delimiter) (c .before .before .before .before .entering .result) (c .before .before .before .before .before .before .fits .delimiter .fits) (c .before .before .before .before .before .before .pre) (c .before .before .if1 .taken)),
 )
 
 -- pub fn enter_group(
-returns-2 : tie.Need-returns-2
-returns-2 c = (enters-over _ _ _ _ _ (c .before .before .entering .result) (c .before .before .before .before .fits .delimiter .fits) (c .before .before .before .before .pre .1) (c .before .before .before .before .pre .0) (omega (arith, c .if1 .left)), refused-grows _ _)
+returns-3 : tie.Need-returns-3
+returns-3 c = (enters-over _ _ _ _ _ (c .before .before .entering .result) (c .before .before .before .before .fits .delimiter .fits) (c .before .before .before .before .pre) (omega (arith, c .if1 .left)), stopped-grows _ _)
 
 pub enter-group-spec : {M : Type 1} → statement M
 enter-group-spec =
@@ -63,14 +71,16 @@ enter-group-spec =
     (tie.spec
     entering-requires
     add-if1
+    add-if2
+    returns
     mul-trace
     slice-write-trace
     mul-trace-2
     add-trace
     mul-trace-3
     slice-write-trace-2
+    add-t11
     add-t10
-    add-t14
     same-length
-    returns
-    returns-2)
+    returns-2
+    returns-3)

@@ -7,9 +7,9 @@ use native.Mathlib.Omega.{arith}
 use lib.ListN.{getD}
 use Rattle.dictionary.specs.DefinitionsLaws.{isDictionary-parts}
 use Rattle.expansion.specs.DictionaryLookups.{wordLines, dictionaryIn, bodyAt, line-at, component-found, component-missing}
-use Rattle.expansion.specs.TraceLaws.{grows-then, grown-grows, done-grown, refused-grows}
+use Rattle.expansion.specs.TraceLaws.{grows-then, grown-grows, done-grown, stopped-grows}
 use Rattle.expansion.specs.ExpansionPromises.{openNames, groupAt}
-use Rattle.expansion.specs.ExpansionPromisesLaws.{BodySoFar, body-begins, body-inside, body-field, body-field-over, group-there, body-group, body-group-over, body-use, body-use-over, body-ends, spent-deep, group-denied, group-entry-over, group-body-over, group-added, group-room, group-grown, component-denied, component-undefined, component-open, component-added}
+use Rattle.expansion.specs.ExpansionPromisesLaws.{BodySoFar, body-begins, body-inside, body-field, body-field-over, group-there, body-group, body-group-over, body-use, body-use-over, body-ends, spent-deep, group-denied, group-entry-over, group-body-over, group-left-over, group-added, group-room, group-grown, component-denied, component-undefined, component-open, component-added}
 use borrow.Author.Needs.{needs}
 use Prim.Native.Nat.{ℕ, _<_}
 use borrow.Fn.Kinds.{In}
@@ -98,7 +98,7 @@ add-body-both-requires t c κs = search needs
 
 -- match add_field(trace, so_far, tag, needed) {
 add-body-add-field-requires : (t : ℕ) → add-body-lts.Need-add-field-requires (add-body-claims t) (add-body-at t) add-body.Post add-body-Inv-loop add-body-μ-loop
-add-body-add-field-requires t c κs = (c .before .before .before .before .before .before .loop .inv .grown .fits, omega (arith, c .before .before .before .before .before .before .loop .inv .size, c .before .before .before .before .before .before .before .before .before .pre .1 .0 .size))
+add-body-add-field-requires t c κs = c .before .before .before .before .before .before .loop .inv .grown .fits
 
 -- Added::Done(next) => {
 add-body-enum-known-next : (t : ℕ) → add-body-lts.Need-enum-known-next (add-body-claims t) (add-body-at t) add-body.Post add-body-Inv-loop add-body-μ-loop
@@ -115,16 +115,16 @@ add-body-loop-less t c = omega (arith, body-inside (c .before .before .before .b
 add-body-loop-again : (t : ℕ) → add-body-lts.Need-loop-again (add-body-claims t) (add-body-at t) add-body.Post add-body-Inv-loop add-body-μ-loop
 add-body-loop-again t c = body-field (c .before .before .before .before .before .before .before .before .before .before .before .before .before .before .before .args .words .now) (λ place. (c .before .before .before .before .before .before .before .before .before .before .before .before .before .before .shared-slice-known .given place) .fits) (c .before .before .before .before .before .before .before .before .before .before .before .before .before .before .before .pre .1 .0 .passed) (c .before .before .before .before .before .before .before .before .before .before .before .before .before .before .before .args .depth-left) (openNames (c .before .before .before .before .before .before .before .before .before .before .before .before .before .before .before .args .path)) (c .before .before .before .before .before .before .before .before .before .before .before .before .before .before .before .args .collect) (c .before .before .before .before .before .before .before .before .before .before .before .before .before .before .before .args .place) (c .before .before .before .before .before .before .before .before .before .before .before .before .before .before .before .args .builder) (c .before .before .before .before .before .before .before .before .before .before .before .before .before .before .before .args .trace .now) (c .before .before .before .before .before .before .before .before .before .before .before .before .loop .at) (c .before .before .before .before .before .before .before .before .before .before .before .before .loop .so-far) _ (c .before .before .before .before .before .before .before .before .before .before .before .before .loop .inv) _ _ _ (sym (line-at (c .before .before .before .before .before .before .before .before .before .before .before .before .before .before .before .args .words .now) (c .before .before .before .before .before .before .before .before .before .before .before .before .loop .at) (body-inside (c .before .before .before .before .before .before .before .before .before .before .before .before .before .before .before .args .words .now) (λ place. (c .before .before .before .before .before .before .before .before .before .before .before .before .before .before .shared-slice-known .given place) .fits) (c .before .before .before .before .before .before .before .before .before .before .before .before .before .before .before .pre .1 .0 .passed) (c .before .before .before .before .before .before .before .before .before .before .before .before .before .before .before .args .depth-left) (openNames (c .before .before .before .before .before .before .before .before .before .before .before .before .before .before .before .args .path)) (c .before .before .before .before .before .before .before .before .before .before .before .before .before .before .before .args .collect) (c .before .before .before .before .before .before .before .before .before .before .before .before .before .before .before .args .place) (c .before .before .before .before .before .before .before .before .before .before .before .before .before .before .before .args .builder) (c .before .before .before .before .before .before .before .before .before .before .before .before .before .before .before .args .trace .now) (c .before .before .before .before .before .before .before .before .before .before .before .before .loop .at) (c .before .before .before .before .before .before .before .before .before .before .before .before .loop .so-far) _ (c .before .before .before .before .before .before .before .before .before .before .before .before .loop .inv))) ∙ (rw (c .before .before .before .before .before .before .before .before .before .tag .given .1) at (c .before .before .before .before .before .before .before .before .before .before .before .body-line .ensures))) (c .before .before .before .before .before .before .before .both .ensures) _ _ (rw (c .before .next .given .1) at (c .before .before .before .before .before .add-field .ensures .0)) (rw (c .before .next .given .1) at (c .before .before .before .before .before .add-field .ensures .1)) (c .before .before .before .before .before .add-field .kept .0)
 
--- Added::Refused(refusal) => {
-add-body-enum-known-refusal : (t : ℕ) → add-body-lts.Need-enum-known-refusal (add-body-claims t) (add-body-at t) add-body.Post add-body-Inv-loop add-body-μ-loop
-add-body-enum-known-refusal t c = search needs
+-- Added::Stopped(stop) => {
+add-body-enum-known-stop : (t : ℕ) → add-body-lts.Need-enum-known-stop (add-body-claims t) (add-body-at t) add-body.Post add-body-Inv-loop add-body-μ-loop
+add-body-enum-known-stop t c = search needs
 
--- return Filled::Stopped(refusal);
+-- return Filled::Stopped(stop);
 add-body-same-length : (t : ℕ) → add-body-lts.Need-same-length (add-body-claims t) (add-body-at t) add-body.Post add-body-Inv-loop add-body-μ-loop
 add-body-same-length t c = c .before .before .before .before .before .add-field .kept .0 ∙ c .before .before .before .before .before .before .before .before .before .before .before .before .loop .inv .size
 
 add-body-returns : (t : ℕ) → add-body-lts.Need-returns (add-body-claims t) (add-body-at t) add-body.Post add-body-Inv-loop add-body-μ-loop
-add-body-returns t c = body-field-over (c .before .before .before .before .before .before .before .before .before .before .before .before .before .before .before .args .words .now) (λ place. (c .before .before .before .before .before .before .before .before .before .before .before .before .before .before .shared-slice-known .given place) .fits) (c .before .before .before .before .before .before .before .before .before .before .before .before .before .before .before .pre .1 .0 .passed) (c .before .before .before .before .before .before .before .before .before .before .before .before .before .before .before .args .depth-left) (openNames (c .before .before .before .before .before .before .before .before .before .before .before .before .before .before .before .args .path)) (c .before .before .before .before .before .before .before .before .before .before .before .before .before .before .before .args .collect) (c .before .before .before .before .before .before .before .before .before .before .before .before .before .before .before .args .place) (c .before .before .before .before .before .before .before .before .before .before .before .before .before .before .before .args .builder) (c .before .before .before .before .before .before .before .before .before .before .before .before .before .before .before .args .trace .now) (c .before .before .before .before .before .before .before .before .before .before .before .before .loop .at) (c .before .before .before .before .before .before .before .before .before .before .before .before .loop .so-far) _ (c .before .before .before .before .before .before .before .before .before .before .before .before .loop .inv) _ _ _ (sym (line-at (c .before .before .before .before .before .before .before .before .before .before .before .before .before .before .before .args .words .now) (c .before .before .before .before .before .before .before .before .before .before .before .before .loop .at) (body-inside (c .before .before .before .before .before .before .before .before .before .before .before .before .before .before .before .args .words .now) (λ place. (c .before .before .before .before .before .before .before .before .before .before .before .before .before .before .shared-slice-known .given place) .fits) (c .before .before .before .before .before .before .before .before .before .before .before .before .before .before .before .pre .1 .0 .passed) (c .before .before .before .before .before .before .before .before .before .before .before .before .before .before .before .args .depth-left) (openNames (c .before .before .before .before .before .before .before .before .before .before .before .before .before .before .before .args .path)) (c .before .before .before .before .before .before .before .before .before .before .before .before .before .before .before .args .collect) (c .before .before .before .before .before .before .before .before .before .before .before .before .before .before .before .args .place) (c .before .before .before .before .before .before .before .before .before .before .before .before .before .before .before .args .builder) (c .before .before .before .before .before .before .before .before .before .before .before .before .before .before .before .args .trace .now) (c .before .before .before .before .before .before .before .before .before .before .before .before .loop .at) (c .before .before .before .before .before .before .before .before .before .before .before .before .loop .so-far) _ (c .before .before .before .before .before .before .before .before .before .before .before .before .loop .inv))) ∙ (rw (c .before .before .before .before .before .before .before .before .before .tag .given .1) at (c .before .before .before .before .before .before .before .before .before .before .before .body-line .ensures))) (c .before .before .before .before .before .before .before .both .ensures) _ _ _ (rw (c .before .refusal .given .1) at (c .before .before .before .before .before .add-field .ensures .0))
+add-body-returns t c = body-field-over (c .before .before .before .before .before .before .before .before .before .before .before .before .before .before .before .args .words .now) (λ place. (c .before .before .before .before .before .before .before .before .before .before .before .before .before .before .shared-slice-known .given place) .fits) (c .before .before .before .before .before .before .before .before .before .before .before .before .before .before .before .pre .1 .0 .passed) (c .before .before .before .before .before .before .before .before .before .before .before .before .before .before .before .args .depth-left) (openNames (c .before .before .before .before .before .before .before .before .before .before .before .before .before .before .before .args .path)) (c .before .before .before .before .before .before .before .before .before .before .before .before .before .before .before .args .collect) (c .before .before .before .before .before .before .before .before .before .before .before .before .before .before .before .args .place) (c .before .before .before .before .before .before .before .before .before .before .before .before .before .before .before .args .builder) (c .before .before .before .before .before .before .before .before .before .before .before .before .before .before .before .args .trace .now) (c .before .before .before .before .before .before .before .before .before .before .before .before .loop .at) (c .before .before .before .before .before .before .before .before .before .before .before .before .loop .so-far) _ (c .before .before .before .before .before .before .before .before .before .before .before .before .loop .inv) _ _ _ (sym (line-at (c .before .before .before .before .before .before .before .before .before .before .before .before .before .before .before .args .words .now) (c .before .before .before .before .before .before .before .before .before .before .before .before .loop .at) (body-inside (c .before .before .before .before .before .before .before .before .before .before .before .before .before .before .before .args .words .now) (λ place. (c .before .before .before .before .before .before .before .before .before .before .before .before .before .before .shared-slice-known .given place) .fits) (c .before .before .before .before .before .before .before .before .before .before .before .before .before .before .before .pre .1 .0 .passed) (c .before .before .before .before .before .before .before .before .before .before .before .before .before .before .before .args .depth-left) (openNames (c .before .before .before .before .before .before .before .before .before .before .before .before .before .before .before .args .path)) (c .before .before .before .before .before .before .before .before .before .before .before .before .before .before .before .args .collect) (c .before .before .before .before .before .before .before .before .before .before .before .before .before .before .before .args .place) (c .before .before .before .before .before .before .before .before .before .before .before .before .before .before .before .args .builder) (c .before .before .before .before .before .before .before .before .before .before .before .before .before .before .before .args .trace .now) (c .before .before .before .before .before .before .before .before .before .before .before .before .loop .at) (c .before .before .before .before .before .before .before .before .before .before .before .before .loop .so-far) _ (c .before .before .before .before .before .before .before .before .before .before .before .before .loop .inv))) ∙ (rw (c .before .before .before .before .before .before .before .before .before .tag .given .1) at (c .before .before .before .before .before .before .before .before .before .before .before .body-line .ensures))) (c .before .before .before .before .before .before .before .both .ensures) _ _ (rw (c .before .stop .given .1) at (c .before .before .before .before .before .add-field .ensures .0))
 
 -- BodyLine::Group(count, delimiter, required) => {
 add-body-enum-known-count : (t : ℕ) → add-body-lts.Need-enum-known-count (add-body-claims t) (add-body-at t) add-body.Post add-body-Inv-loop add-body-μ-loop
@@ -136,7 +136,7 @@ add-body-add-first t c = omega (arith, body-inside (c .before .before .before .b
 
 -- match add_group(words, group, depth_left, path, collect, trace, so_far) {
 add-body-add-group-requires : (t : ℕ) → add-body-lts.Need-add-group-requires (add-body-claims t) (add-body-at t) add-body.Post add-body-Inv-loop add-body-μ-loop
-add-body-add-group-requires t c κs = (omega (arith, c .before .before .before .before .before .before .before .before .pre .0), (record { passed = c .before .before .before .before .before .before .before .before .pre .1 .0 .passed; deep = c .before .before .before .before .before .before .before .before .pre .1 .0 .deep; names = c .before .before .before .before .before .before .before .before .pre .1 .0 .names; fits = c .before .before .before .before .before .loop .inv .grown .fits; size = omega (arith, c .before .before .before .before .before .loop .inv .size, c .before .before .before .before .before .before .before .before .pre .1 .0 .size) }, group-there (c .before .before .before .before .before .before .before .before .args .words .now) (λ place. (c .before .before .before .before .before .before .before .shared-slice-known .given place) .fits) (c .before .before .before .before .before .before .before .before .pre .1 .0 .passed) (c .before .before .before .before .before .before .before .before .args .depth-left) (openNames (c .before .before .before .before .before .before .before .before .args .path)) (c .before .before .before .before .before .before .before .before .args .collect) (c .before .before .before .before .before .before .before .before .args .place) (c .before .before .before .before .before .before .before .before .args .builder) (c .before .before .before .before .before .before .before .before .args .trace .now) (c .before .before .before .before .before .loop .at) (c .before .before .before .before .before .loop .so-far) _ (c .before .before .before .before .before .loop .inv) _ _ _ (sym (line-at (c .before .before .before .before .before .before .before .before .args .words .now) (c .before .before .before .before .before .loop .at) (body-inside (c .before .before .before .before .before .before .before .before .args .words .now) (λ place. (c .before .before .before .before .before .before .before .shared-slice-known .given place) .fits) (c .before .before .before .before .before .before .before .before .pre .1 .0 .passed) (c .before .before .before .before .before .before .before .before .args .depth-left) (openNames (c .before .before .before .before .before .before .before .before .args .path)) (c .before .before .before .before .before .before .before .before .args .collect) (c .before .before .before .before .before .before .before .before .args .place) (c .before .before .before .before .before .before .before .before .args .builder) (c .before .before .before .before .before .before .before .before .args .trace .now) (c .before .before .before .before .before .loop .at) (c .before .before .before .before .before .loop .so-far) _ (c .before .before .before .before .before .loop .inv))) ∙ (rw (c .before .before .count .given .1) at (c .before .before .before .before .body-line .ensures)))))
+add-body-add-group-requires t c κs = (omega (arith, c .before .before .before .before .before .before .before .before .pre .0), (record { passed = c .before .before .before .before .before .before .before .before .pre .1 .0 .passed; deep = c .before .before .before .before .before .before .before .before .pre .1 .0 .deep; names = c .before .before .before .before .before .before .before .before .pre .1 .0 .names; fits = c .before .before .before .before .before .loop .inv .grown .fits }, group-there (c .before .before .before .before .before .before .before .before .args .words .now) (λ place. (c .before .before .before .before .before .before .before .shared-slice-known .given place) .fits) (c .before .before .before .before .before .before .before .before .pre .1 .0 .passed) (c .before .before .before .before .before .before .before .before .args .depth-left) (openNames (c .before .before .before .before .before .before .before .before .args .path)) (c .before .before .before .before .before .before .before .before .args .collect) (c .before .before .before .before .before .before .before .before .args .place) (c .before .before .before .before .before .before .before .before .args .builder) (c .before .before .before .before .before .before .before .before .args .trace .now) (c .before .before .before .before .before .loop .at) (c .before .before .before .before .before .loop .so-far) _ (c .before .before .before .before .before .loop .inv) _ _ _ (sym (line-at (c .before .before .before .before .before .before .before .before .args .words .now) (c .before .before .before .before .before .loop .at) (body-inside (c .before .before .before .before .before .before .before .before .args .words .now) (λ place. (c .before .before .before .before .before .before .before .shared-slice-known .given place) .fits) (c .before .before .before .before .before .before .before .before .pre .1 .0 .passed) (c .before .before .before .before .before .before .before .before .args .depth-left) (openNames (c .before .before .before .before .before .before .before .before .args .path)) (c .before .before .before .before .before .before .before .before .args .collect) (c .before .before .before .before .before .before .before .before .args .place) (c .before .before .before .before .before .before .before .before .args .builder) (c .before .before .before .before .before .before .before .before .args .trace .now) (c .before .before .before .before .before .loop .at) (c .before .before .before .before .before .loop .so-far) _ (c .before .before .before .before .before .loop .inv))) ∙ (rw (c .before .before .count .given .1) at (c .before .before .before .before .body-line .ensures)))))
 
 -- Filled::UpTo(behind, next) => {
 add-body-enum-known-behind : (t : ℕ) → add-body-lts.Need-enum-known-behind (add-body-claims t) (add-body-at t) add-body.Post add-body-Inv-loop add-body-μ-loop
@@ -149,16 +149,16 @@ add-body-loop-less-2 t c = let moved = (rw (c .before .behind .given .1) at (c .
 add-body-loop-again-2 : (t : ℕ) → add-body-lts.Need-loop-again-2 (add-body-claims t) (add-body-at t) add-body.Post add-body-Inv-loop add-body-μ-loop
 add-body-loop-again-2 t c = body-group (c .before .before .before .before .before .before .before .before .before .before .before .before .before .before .args .words .now) (λ place. (c .before .before .before .before .before .before .before .before .before .before .before .before .before .shared-slice-known .given place) .fits) (c .before .before .before .before .before .before .before .before .before .before .before .before .before .before .pre .1 .0 .passed) (c .before .before .before .before .before .before .before .before .before .before .before .before .before .before .args .depth-left) (openNames (c .before .before .before .before .before .before .before .before .before .before .before .before .before .before .args .path)) (c .before .before .before .before .before .before .before .before .before .before .before .before .before .before .args .collect) (c .before .before .before .before .before .before .before .before .before .before .before .before .before .before .args .place) (c .before .before .before .before .before .before .before .before .before .before .before .before .before .before .args .builder) (c .before .before .before .before .before .before .before .before .before .before .before .before .before .before .args .trace .now) (c .before .before .before .before .before .before .before .before .before .before .before .loop .at) (c .before .before .before .before .before .before .before .before .before .before .before .loop .so-far) _ (c .before .before .before .before .before .before .before .before .before .before .before .loop .inv) _ _ _ (sym (line-at (c .before .before .before .before .before .before .before .before .before .before .before .before .before .before .args .words .now) (c .before .before .before .before .before .before .before .before .before .before .before .loop .at) (body-inside (c .before .before .before .before .before .before .before .before .before .before .before .before .before .before .args .words .now) (λ place. (c .before .before .before .before .before .before .before .before .before .before .before .before .before .shared-slice-known .given place) .fits) (c .before .before .before .before .before .before .before .before .before .before .before .before .before .before .pre .1 .0 .passed) (c .before .before .before .before .before .before .before .before .before .before .before .before .before .before .args .depth-left) (openNames (c .before .before .before .before .before .before .before .before .before .before .before .before .before .before .args .path)) (c .before .before .before .before .before .before .before .before .before .before .before .before .before .before .args .collect) (c .before .before .before .before .before .before .before .before .before .before .before .before .before .before .args .place) (c .before .before .before .before .before .before .before .before .before .before .before .before .before .before .args .builder) (c .before .before .before .before .before .before .before .before .before .before .before .before .before .before .args .trace .now) (c .before .before .before .before .before .before .before .before .before .before .before .loop .at) (c .before .before .before .before .before .before .before .before .before .before .before .loop .so-far) _ (c .before .before .before .before .before .before .before .before .before .before .before .loop .inv))) ∙ (rw (c .before .before .before .before .before .before .before .before .count .given .1) at (c .before .before .before .before .before .before .before .before .before .before .body-line .ensures))) _ _ _ (rw (c .before .behind .given .1) at (c .before .before .before .before .before .add-group .ensures)) (c .before .before .before .before .before .add-group .kept .1 .1 .1 .1 .1 .0)
 
--- Filled::Stopped(refusal) => {
-add-body-enum-known-refusal-2 : (t : ℕ) → add-body-lts.Need-enum-known-refusal-2 (add-body-claims t) (add-body-at t) add-body.Post add-body-Inv-loop add-body-μ-loop
-add-body-enum-known-refusal-2 t c = search needs
+-- Filled::Stopped(stop) => {
+add-body-enum-known-stop-2 : (t : ℕ) → add-body-lts.Need-enum-known-stop-2 (add-body-claims t) (add-body-at t) add-body.Post add-body-Inv-loop add-body-μ-loop
+add-body-enum-known-stop-2 t c = search needs
 
--- return Filled::Stopped(refusal);
+-- return Filled::Stopped(stop);
 add-body-same-length-2 : (t : ℕ) → add-body-lts.Need-same-length-2 (add-body-claims t) (add-body-at t) add-body.Post add-body-Inv-loop add-body-μ-loop
 add-body-same-length-2 t c = c .before .before .before .before .before .add-group .kept .1 .1 .1 .1 .1 .0 ∙ c .before .before .before .before .before .before .before .before .before .before .before .loop .inv .size
 
 add-body-returns-2 : (t : ℕ) → add-body-lts.Need-returns-2 (add-body-claims t) (add-body-at t) add-body.Post add-body-Inv-loop add-body-μ-loop
-add-body-returns-2 t c = body-group-over (c .before .before .before .before .before .before .before .before .before .before .before .before .before .before .args .words .now) (λ place. (c .before .before .before .before .before .before .before .before .before .before .before .before .before .shared-slice-known .given place) .fits) (c .before .before .before .before .before .before .before .before .before .before .before .before .before .before .pre .1 .0 .passed) (c .before .before .before .before .before .before .before .before .before .before .before .before .before .before .args .depth-left) (openNames (c .before .before .before .before .before .before .before .before .before .before .before .before .before .before .args .path)) (c .before .before .before .before .before .before .before .before .before .before .before .before .before .before .args .collect) (c .before .before .before .before .before .before .before .before .before .before .before .before .before .before .args .place) (c .before .before .before .before .before .before .before .before .before .before .before .before .before .before .args .builder) (c .before .before .before .before .before .before .before .before .before .before .before .before .before .before .args .trace .now) (c .before .before .before .before .before .before .before .before .before .before .before .loop .at) (c .before .before .before .before .before .before .before .before .before .before .before .loop .so-far) _ (c .before .before .before .before .before .before .before .before .before .before .before .loop .inv) _ _ _ (sym (line-at (c .before .before .before .before .before .before .before .before .before .before .before .before .before .before .args .words .now) (c .before .before .before .before .before .before .before .before .before .before .before .loop .at) (body-inside (c .before .before .before .before .before .before .before .before .before .before .before .before .before .before .args .words .now) (λ place. (c .before .before .before .before .before .before .before .before .before .before .before .before .before .shared-slice-known .given place) .fits) (c .before .before .before .before .before .before .before .before .before .before .before .before .before .before .pre .1 .0 .passed) (c .before .before .before .before .before .before .before .before .before .before .before .before .before .before .args .depth-left) (openNames (c .before .before .before .before .before .before .before .before .before .before .before .before .before .before .args .path)) (c .before .before .before .before .before .before .before .before .before .before .before .before .before .before .args .collect) (c .before .before .before .before .before .before .before .before .before .before .before .before .before .before .args .place) (c .before .before .before .before .before .before .before .before .before .before .before .before .before .before .args .builder) (c .before .before .before .before .before .before .before .before .before .before .before .before .before .before .args .trace .now) (c .before .before .before .before .before .before .before .before .before .before .before .loop .at) (c .before .before .before .before .before .before .before .before .before .before .before .loop .so-far) _ (c .before .before .before .before .before .before .before .before .before .before .before .loop .inv))) ∙ (rw (c .before .before .before .before .before .before .before .before .count .given .1) at (c .before .before .before .before .before .before .before .before .before .before .body-line .ensures))) _ _ _ (rw (c .before .refusal2 .given .1) at (c .before .before .before .before .before .add-group .ensures))
+add-body-returns-2 t c = body-group-over (c .before .before .before .before .before .before .before .before .before .before .before .before .before .before .args .words .now) (λ place. (c .before .before .before .before .before .before .before .before .before .before .before .before .before .shared-slice-known .given place) .fits) (c .before .before .before .before .before .before .before .before .before .before .before .before .before .before .pre .1 .0 .passed) (c .before .before .before .before .before .before .before .before .before .before .before .before .before .before .args .depth-left) (openNames (c .before .before .before .before .before .before .before .before .before .before .before .before .before .before .args .path)) (c .before .before .before .before .before .before .before .before .before .before .before .before .before .before .args .collect) (c .before .before .before .before .before .before .before .before .before .before .before .before .before .before .args .place) (c .before .before .before .before .before .before .before .before .before .before .before .before .before .before .args .builder) (c .before .before .before .before .before .before .before .before .before .before .before .before .before .before .args .trace .now) (c .before .before .before .before .before .before .before .before .before .before .before .loop .at) (c .before .before .before .before .before .before .before .before .before .before .before .loop .so-far) _ (c .before .before .before .before .before .before .before .before .before .before .before .loop .inv) _ _ _ (sym (line-at (c .before .before .before .before .before .before .before .before .before .before .before .before .before .before .args .words .now) (c .before .before .before .before .before .before .before .before .before .before .before .loop .at) (body-inside (c .before .before .before .before .before .before .before .before .before .before .before .before .before .before .args .words .now) (λ place. (c .before .before .before .before .before .before .before .before .before .before .before .before .before .shared-slice-known .given place) .fits) (c .before .before .before .before .before .before .before .before .before .before .before .before .before .before .pre .1 .0 .passed) (c .before .before .before .before .before .before .before .before .before .before .before .before .before .before .args .depth-left) (openNames (c .before .before .before .before .before .before .before .before .before .before .before .before .before .before .args .path)) (c .before .before .before .before .before .before .before .before .before .before .before .before .before .before .args .collect) (c .before .before .before .before .before .before .before .before .before .before .before .before .before .before .args .place) (c .before .before .before .before .before .before .before .before .before .before .before .before .before .before .args .builder) (c .before .before .before .before .before .before .before .before .before .before .before .before .before .before .args .trace .now) (c .before .before .before .before .before .before .before .before .before .before .before .loop .at) (c .before .before .before .before .before .before .before .before .before .before .before .loop .so-far) _ (c .before .before .before .before .before .before .before .before .before .before .before .loop .inv))) ∙ (rw (c .before .before .before .before .before .before .before .before .count .given .1) at (c .before .before .before .before .before .before .before .before .before .before .body-line .ensures))) _ _ (rw (c .before .stop2 .given .1) at (c .before .before .before .before .before .add-group .ensures))
 
 -- BodyLine::Use(name, required) => {
 add-body-enum-known-name : (t : ℕ) → add-body-lts.Need-enum-known-name (add-body-claims t) (add-body-at t) add-body.Post add-body-Inv-loop add-body-μ-loop
@@ -166,7 +166,7 @@ add-body-enum-known-name t c = search needs
 
 -- match add_component(
 add-body-add-component-requires : (t : ℕ) → add-body-lts.Need-add-component-requires (add-body-claims t) (add-body-at t) add-body.Post add-body-Inv-loop add-body-μ-loop
-add-body-add-component-requires t c κs = (omega (arith, c .before .before .before .before .before .before .before .before .pre .0), record { passed = c .before .before .before .before .before .before .before .before .pre .1 .0 .passed; deep = c .before .before .before .before .before .before .before .before .pre .1 .0 .deep; names = c .before .before .before .before .before .before .before .before .pre .1 .0 .names; fits = c .before .before .before .before .before .loop .inv .grown .fits; size = omega (arith, c .before .before .before .before .before .loop .inv .size, c .before .before .before .before .before .before .before .before .pre .1 .0 .size) })
+add-body-add-component-requires t c κs = (omega (arith, c .before .before .before .before .before .before .before .before .pre .0), record { passed = c .before .before .before .before .before .before .before .before .pre .1 .0 .passed; deep = c .before .before .before .before .before .before .before .before .pre .1 .0 .deep; names = c .before .before .before .before .before .before .before .before .pre .1 .0 .names; fits = c .before .before .before .before .before .loop .inv .grown .fits })
 
 -- Added::Done(next) => {
 add-body-enum-known-next-2 : (t : ℕ) → add-body-lts.Need-enum-known-next-2 (add-body-claims t) (add-body-at t) add-body.Post add-body-Inv-loop add-body-μ-loop
@@ -183,16 +183,16 @@ add-body-loop-less-3 t c = omega (arith, body-inside (c .before .before .before 
 add-body-loop-again-3 : (t : ℕ) → add-body-lts.Need-loop-again-3 (add-body-claims t) (add-body-at t) add-body.Post add-body-Inv-loop add-body-μ-loop
 add-body-loop-again-3 t c = body-use (c .before .before .before .before .before .before .before .before .before .before .before .before .before .before .args .words .now) (λ place. (c .before .before .before .before .before .before .before .before .before .before .before .before .before .shared-slice-known .given place) .fits) (c .before .before .before .before .before .before .before .before .before .before .before .before .before .before .pre .1 .0 .passed) (c .before .before .before .before .before .before .before .before .before .before .before .before .before .before .args .depth-left) (openNames (c .before .before .before .before .before .before .before .before .before .before .before .before .before .before .args .path)) (c .before .before .before .before .before .before .before .before .before .before .before .before .before .before .args .collect) (c .before .before .before .before .before .before .before .before .before .before .before .before .before .before .args .place) (c .before .before .before .before .before .before .before .before .before .before .before .before .before .before .args .builder) (c .before .before .before .before .before .before .before .before .before .before .before .before .before .before .args .trace .now) (c .before .before .before .before .before .before .before .before .before .before .before .loop .at) (c .before .before .before .before .before .before .before .before .before .before .before .loop .so-far) _ (c .before .before .before .before .before .before .before .before .before .before .before .loop .inv) _ _ (sym (line-at (c .before .before .before .before .before .before .before .before .before .before .before .before .before .before .args .words .now) (c .before .before .before .before .before .before .before .before .before .before .before .loop .at) (body-inside (c .before .before .before .before .before .before .before .before .before .before .before .before .before .before .args .words .now) (λ place. (c .before .before .before .before .before .before .before .before .before .before .before .before .before .shared-slice-known .given place) .fits) (c .before .before .before .before .before .before .before .before .before .before .before .before .before .before .pre .1 .0 .passed) (c .before .before .before .before .before .before .before .before .before .before .before .before .before .before .args .depth-left) (openNames (c .before .before .before .before .before .before .before .before .before .before .before .before .before .before .args .path)) (c .before .before .before .before .before .before .before .before .before .before .before .before .before .before .args .collect) (c .before .before .before .before .before .before .before .before .before .before .before .before .before .before .args .place) (c .before .before .before .before .before .before .before .before .before .before .before .before .before .before .args .builder) (c .before .before .before .before .before .before .before .before .before .before .before .before .before .before .args .trace .now) (c .before .before .before .before .before .before .before .before .before .before .before .loop .at) (c .before .before .before .before .before .before .before .before .before .before .before .loop .so-far) _ (c .before .before .before .before .before .before .before .before .before .before .before .loop .inv))) ∙ (rw (c .before .before .before .before .before .before .before .before .name .given .1) at (c .before .before .before .before .before .before .before .before .before .before .body-line .ensures))) _ _ (rw (c .before .next2 .given .1) at (c .before .before .before .before .before .add-component .ensures)) (c .before .before .before .before .before .add-component .kept .1 .1 .1 .1 .1 .1 .0)
 
--- Added::Refused(refusal) => {
-add-body-enum-known-refusal-3 : (t : ℕ) → add-body-lts.Need-enum-known-refusal-3 (add-body-claims t) (add-body-at t) add-body.Post add-body-Inv-loop add-body-μ-loop
-add-body-enum-known-refusal-3 t c = search needs
+-- Added::Stopped(stop) => {
+add-body-enum-known-stop-3 : (t : ℕ) → add-body-lts.Need-enum-known-stop-3 (add-body-claims t) (add-body-at t) add-body.Post add-body-Inv-loop add-body-μ-loop
+add-body-enum-known-stop-3 t c = search needs
 
--- return Filled::Stopped(refusal);
+-- return Filled::Stopped(stop);
 add-body-same-length-3 : (t : ℕ) → add-body-lts.Need-same-length-3 (add-body-claims t) (add-body-at t) add-body.Post add-body-Inv-loop add-body-μ-loop
 add-body-same-length-3 t c = c .before .before .before .before .before .add-component .kept .1 .1 .1 .1 .1 .1 .0 ∙ c .before .before .before .before .before .before .before .before .before .before .before .loop .inv .size
 
 add-body-returns-3 : (t : ℕ) → add-body-lts.Need-returns-3 (add-body-claims t) (add-body-at t) add-body.Post add-body-Inv-loop add-body-μ-loop
-add-body-returns-3 t c = body-use-over (c .before .before .before .before .before .before .before .before .before .before .before .before .before .before .args .words .now) (λ place. (c .before .before .before .before .before .before .before .before .before .before .before .before .before .shared-slice-known .given place) .fits) (c .before .before .before .before .before .before .before .before .before .before .before .before .before .before .pre .1 .0 .passed) (c .before .before .before .before .before .before .before .before .before .before .before .before .before .before .args .depth-left) (openNames (c .before .before .before .before .before .before .before .before .before .before .before .before .before .before .args .path)) (c .before .before .before .before .before .before .before .before .before .before .before .before .before .before .args .collect) (c .before .before .before .before .before .before .before .before .before .before .before .before .before .before .args .place) (c .before .before .before .before .before .before .before .before .before .before .before .before .before .before .args .builder) (c .before .before .before .before .before .before .before .before .before .before .before .before .before .before .args .trace .now) (c .before .before .before .before .before .before .before .before .before .before .before .loop .at) (c .before .before .before .before .before .before .before .before .before .before .before .loop .so-far) _ (c .before .before .before .before .before .before .before .before .before .before .before .loop .inv) _ _ (sym (line-at (c .before .before .before .before .before .before .before .before .before .before .before .before .before .before .args .words .now) (c .before .before .before .before .before .before .before .before .before .before .before .loop .at) (body-inside (c .before .before .before .before .before .before .before .before .before .before .before .before .before .before .args .words .now) (λ place. (c .before .before .before .before .before .before .before .before .before .before .before .before .before .shared-slice-known .given place) .fits) (c .before .before .before .before .before .before .before .before .before .before .before .before .before .before .pre .1 .0 .passed) (c .before .before .before .before .before .before .before .before .before .before .before .before .before .before .args .depth-left) (openNames (c .before .before .before .before .before .before .before .before .before .before .before .before .before .before .args .path)) (c .before .before .before .before .before .before .before .before .before .before .before .before .before .before .args .collect) (c .before .before .before .before .before .before .before .before .before .before .before .before .before .before .args .place) (c .before .before .before .before .before .before .before .before .before .before .before .before .before .before .args .builder) (c .before .before .before .before .before .before .before .before .before .before .before .before .before .before .args .trace .now) (c .before .before .before .before .before .before .before .before .before .before .before .loop .at) (c .before .before .before .before .before .before .before .before .before .before .before .loop .so-far) _ (c .before .before .before .before .before .before .before .before .before .before .before .loop .inv))) ∙ (rw (c .before .before .before .before .before .before .before .before .name .given .1) at (c .before .before .before .before .before .before .before .before .before .before .body-line .ensures))) _ _ _ (rw (c .before .refusal3 .given .1) at (c .before .before .before .before .before .add-component .ensures))
+add-body-returns-3 t c = body-use-over (c .before .before .before .before .before .before .before .before .before .before .before .before .before .before .args .words .now) (λ place. (c .before .before .before .before .before .before .before .before .before .before .before .before .before .shared-slice-known .given place) .fits) (c .before .before .before .before .before .before .before .before .before .before .before .before .before .before .pre .1 .0 .passed) (c .before .before .before .before .before .before .before .before .before .before .before .before .before .before .args .depth-left) (openNames (c .before .before .before .before .before .before .before .before .before .before .before .before .before .before .args .path)) (c .before .before .before .before .before .before .before .before .before .before .before .before .before .before .args .collect) (c .before .before .before .before .before .before .before .before .before .before .before .before .before .before .args .place) (c .before .before .before .before .before .before .before .before .before .before .before .before .before .before .args .builder) (c .before .before .before .before .before .before .before .before .before .before .before .before .before .before .args .trace .now) (c .before .before .before .before .before .before .before .before .before .before .before .loop .at) (c .before .before .before .before .before .before .before .before .before .before .before .loop .so-far) _ (c .before .before .before .before .before .before .before .before .before .before .before .loop .inv) _ _ (sym (line-at (c .before .before .before .before .before .before .before .before .before .before .before .before .before .before .args .words .now) (c .before .before .before .before .before .before .before .before .before .before .before .loop .at) (body-inside (c .before .before .before .before .before .before .before .before .before .before .before .before .before .before .args .words .now) (λ place. (c .before .before .before .before .before .before .before .before .before .before .before .before .before .shared-slice-known .given place) .fits) (c .before .before .before .before .before .before .before .before .before .before .before .before .before .before .pre .1 .0 .passed) (c .before .before .before .before .before .before .before .before .before .before .before .before .before .before .args .depth-left) (openNames (c .before .before .before .before .before .before .before .before .before .before .before .before .before .before .args .path)) (c .before .before .before .before .before .before .before .before .before .before .before .before .before .before .args .collect) (c .before .before .before .before .before .before .before .before .before .before .before .before .before .before .args .place) (c .before .before .before .before .before .before .before .before .before .before .before .before .before .before .args .builder) (c .before .before .before .before .before .before .before .before .before .before .before .before .before .before .args .trace .now) (c .before .before .before .before .before .before .before .before .before .before .before .loop .at) (c .before .before .before .before .before .before .before .before .before .before .before .loop .so-far) _ (c .before .before .before .before .before .before .before .before .before .before .before .loop .inv))) ∙ (rw (c .before .before .before .before .before .before .before .before .name .given .1) at (c .before .before .before .before .before .before .before .before .before .before .body-line .ensures))) _ _ (rw (c .before .stop3 .given .1) at (c .before .before .before .before .before .add-component .ensures))
 
 -- let behind = at + 1;
 add-body-enum-told : (t : ℕ) → add-body-lts.Need-enum-told (add-body-claims t) (add-body-at t) add-body.Post add-body-Inv-loop add-body-μ-loop
@@ -215,9 +215,9 @@ add-component-claims t = (spend-reads.Asked, spend-reads.Learnt, component-of-re
 add-component-spend-requires : (t : ℕ) → add-component-lts.Need-spend-requires (add-component-claims t) (add-component-at t) add-component.Post
 add-component-spend-requires t c κs = c .before .before .pre .1 .fits
 
--- Added::Refused(refusal) => Added::Refused(refusal),
-add-component-enum-known-refusal : (t : ℕ) → add-component-lts.Need-enum-known-refusal (add-component-claims t) (add-component-at t) add-component.Post
-add-component-enum-known-refusal t c = search needs
+-- Added::Stopped(stop) => Added::Stopped(stop),
+add-component-enum-known-stop : (t : ℕ) → add-component-lts.Need-enum-known-stop (add-component-claims t) (add-component-at t) add-component.Post
+add-component-enum-known-stop t c = search needs
 
 -- Added::Done(node) => {
 add-component-enum-known-node : (t : ℕ) → add-component-lts.Need-enum-known-node (add-component-claims t) (add-component-at t) add-component.Post
@@ -230,12 +230,12 @@ add-component-component-of-requires t c κs = c .before .before .before .before 
 add-component-enum-known-number : (t : ℕ) → add-component-lts.Need-enum-known-number (add-component-claims t) (add-component-at t) add-component.Post
 add-component-enum-known-number t c = search needs
 
--- return Added::Refused(Refusal::ComponentNotDefined(name));
+-- return Added::Stopped(Stop::Error(Refusal::ComponentNotDefined(name)));
 add-component-enum-told : (t : ℕ) → add-component-lts.Need-enum-told (add-component-claims t) (add-component-at t) add-component.Post
 add-component-enum-told t c = search needs
 
 add-component-returns : (t : ℕ) → add-component-lts.Need-returns (add-component-claims t) (add-component-at t) add-component.Post
-add-component-returns t c = record { adds = component-undefined (dictionaryIn (c .before .before .before .before .before .before .before .before .before .args .words .now)) (openNames (c .before .before .before .before .before .before .before .before .before .args .path)) (c .before .before .before .before .before .before .before .before .before .args .collect) (record { name = c .before .before .before .before .before .before .before .before .before .args .name; required = c .before .before .before .before .before .before .before .before .before .args .required }) (c .before .before .before .before .before .before .before .before .before .args .depth-left) (c .before .before .before .before .before .before .before .before .before .args .depth-left - 1) (let some = spent-deep _ _ _ _ (rw (c .before .before .before .before .node .given .1) at (c .before .before .before .before .before .before .spend .ensures .0)) in omega (arith, some)) (c .before .before .before .before .before .before .before .before .before .args .builder) _ (c .before .before .before .before .before .before .before .before .before .args .trace .now) (rw (c .before .before .before .before .node .given .1) at (c .before .before .before .before .before .before .spend .ensures .0)) _ (component-missing (c .before .before .before .before .before .before .before .before .before .args .words .now) (λ place. (c .before .before .before .before .before .before .before .before .shared-slice-known .given place) .fits) (c .before .before .before .before .before .before .before .before .before .pre .1 .passed) (c .before .before .before .before .before .before .before .before .before .args .name) (sym (c .before .before .component-of .ensures .0) ∙ c .enum-told .given .1)); grows = refused-grows _ _ }
+add-component-returns t c = record { adds = component-undefined (dictionaryIn (c .before .before .before .before .before .before .before .before .before .args .words .now)) (openNames (c .before .before .before .before .before .before .before .before .before .args .path)) (c .before .before .before .before .before .before .before .before .before .args .collect) (record { name = c .before .before .before .before .before .before .before .before .before .args .name; required = c .before .before .before .before .before .before .before .before .before .args .required }) (c .before .before .before .before .before .before .before .before .before .args .depth-left) (c .before .before .before .before .before .before .before .before .before .args .depth-left - 1) (let some = spent-deep _ _ _ _ (rw (c .before .before .before .before .node .given .1) at (c .before .before .before .before .before .before .spend .ensures .0)) in omega (arith, some)) (c .before .before .before .before .before .before .before .before .before .args .builder) _ (c .before .before .before .before .before .before .before .before .before .args .trace .now) (rw (c .before .before .before .before .node .given .1) at (c .before .before .before .before .before .before .spend .ensures .0)) _ (component-missing (c .before .before .before .before .before .before .before .before .before .args .words .now) (λ place. (c .before .before .before .before .before .before .before .before .shared-slice-known .given place) .fits) (c .before .before .before .before .before .before .before .before .before .pre .1 .passed) (c .before .before .before .before .before .before .before .before .before .args .name) (sym (c .before .before .component-of .ensures .0) ∙ c .enum-told .given .1)); grows = stopped-grows _ _ }
 
 -- if is_open(path, name) {
 add-component-is-open-requires : (t : ℕ) → add-component-lts.Need-is-open-requires (add-component-claims t) (add-component-at t) add-component.Post
@@ -272,7 +272,6 @@ add-component-add-body-requires t c κs =
           deep = omega (arith, c .before .before .opened .ensures .1, c .before .before .before .before .before .before .before .before .before .before .before .before .before .before .before .pre .1 .deep);
           names = omega (arith, c .before .before .opened .ensures .1, c .before .before .before .before .before .before .before .before .before .before .before .before .before .before .before .pre .1 .names);
           fits = (done-grown _ _ (rw (c .before .before .before .before .before .before .before .before .before .before .node .given .1) at (c .before .before .before .before .before .before .before .before .before .before .before .before .spend .ensures .1))) .fits;
-          size = c .before .before .before .before .before .before .before .before .before .before .before .before .before .before .before .pre .1 .size;
         },
         component-found (c .before .before .before .before .before .before .before .before .before .before .before .before .before .before .before .args .words .now) (λ place. (c .before .before .before .before .before .before .before .before .before .before .before .before .before .before .shared-slice-known .given place) .fits) (c .before .before .before .before .before .before .before .before .before .before .before .before .before .before .before .pre .1 .passed) (c .before .before .before .before .before .before .before .before .before .before .before .before .before .before .before .args .name) _ (sym (c .before .before .before .before .before .before .before .before .component-of .ensures .0) ∙ c .before .before .before .before .before .before .number .given .1) .0 .there,
       ),
@@ -284,7 +283,7 @@ add-component-outcome-requires t c κs = search needs
 
 -- fn add_component(
 add-component-returns-3 : (t : ℕ) → add-component-lts.Need-returns-3 (add-component-claims t) (add-component-at t) add-component.Post
-add-component-returns-3 t c = record { adds = component-denied _ _ _ _ _ _ _ _ (record { name = c .before .before .before .before .before .before .args .name; required = c .before .before .before .before .before .before .args .required }) (rw (c .before .refusal .given .1) at (c .before .before .before .spend .ensures .0)); grows = refused-grows _ _ }
+add-component-returns-3 t c = record { adds = component-denied _ _ _ _ _ _ _ (record { name = c .before .before .before .before .before .before .args .name; required = c .before .before .before .before .before .before .args .required }) _ (rw (c .before .stop .given .1) at (c .before .before .before .spend .ensures .0)); grows = stopped-grows _ _ }
 
 add-component-same-length : (t : ℕ) → add-component-lts.Need-same-length (add-component-claims t) (add-component-at t) add-component.Post
 add-component-same-length t c = c .before .before .before .add-body .kept .1 .1 .1 .1 .1 .0
@@ -302,9 +301,9 @@ add-group-claims t = (spend-reads.Asked, spend-reads.Learnt, both-reads.Asked, b
 add-group-spend-requires : (t : ℕ) → add-group-lts.Need-spend-requires (add-group-claims t) (add-group-at t) add-group.Post
 add-group-spend-requires t c κs = c .before .before .pre .1 .0 .fits
 
--- Added::Refused(refusal) => Filled::Stopped(refusal),
-add-group-enum-known-refusal : (t : ℕ) → add-group-lts.Need-enum-known-refusal (add-group-claims t) (add-group-at t) add-group.Post
-add-group-enum-known-refusal t c = search needs
+-- Added::Stopped(stop) => Filled::Stopped(stop),
+add-group-enum-known-stop : (t : ℕ) → add-group-lts.Need-enum-known-stop (add-group-claims t) (add-group-at t) add-group.Post
+add-group-enum-known-stop t c = search needs
 
 -- Added::Done(node) => {
 add-group-enum-known-node : (t : ℕ) → add-group-lts.Need-enum-known-node (add-group-claims t) (add-group-at t) add-group.Post
@@ -316,11 +315,11 @@ add-group-both-requires t c κs = search needs
 
 -- match enter_group(trace, node, group.count, required, group.delimiter) {
 add-group-enter-group-requires : (t : ℕ) → add-group-lts.Need-enter-group-requires (add-group-claims t) (add-group-at t) add-group.Post
-add-group-enter-group-requires t c κs = ((done-grown _ _ (rw (c .before .before .before .node .given .1) at (c .before .before .before .before .before .spend .ensures .1))) .fits, c .before .before .before .before .before .before .before .before .pre .1 .0 .size)
+add-group-enter-group-requires t c κs = (done-grown _ _ (rw (c .before .before .before .node .given .1) at (c .before .before .before .before .before .spend .ensures .1))) .fits
 
--- Added::Refused(refusal) => Filled::Stopped(refusal),
-add-group-enum-known-refusal-2 : (t : ℕ) → add-group-lts.Need-enum-known-refusal-2 (add-group-claims t) (add-group-at t) add-group.Post
-add-group-enum-known-refusal-2 t c = search needs
+-- Added::Stopped(stop) => Filled::Stopped(stop),
+add-group-enum-known-stop-2 : (t : ℕ) → add-group-lts.Need-enum-known-stop-2 (add-group-claims t) (add-group-at t) add-group.Post
+add-group-enum-known-stop-2 t c = search needs
 
 -- Added::Done(entry) => {
 add-group-enum-known-entry : (t : ℕ) → add-group-lts.Need-enum-known-entry (add-group-claims t) (add-group-at t) add-group.Post
@@ -341,50 +340,65 @@ add-group-add-body-requires t c κs =
           deep = omega (arith, c .before .before .before .before .before .before .before .before .before .before .before .before .before .before .before .pre .1 .0 .deep);
           names = c .before .before .before .before .before .before .before .before .before .before .before .before .before .before .before .pre .1 .0 .names;
           fits = (done-grown _ _ (rw (c .before .before .entry .given .1) at (c .before .before .before .before .before .before .enter-group .ensures .1))) .fits;
-          size = omega (arith, c .before .before .before .before .before .before .enter-group .kept .0, c .before .before .before .before .before .before .before .before .before .before .before .before .before .before .before .pre .1 .0 .size);
         },
         c .before .before .before .before .before .before .before .before .before .before .before .before .before .before .before .pre .1 .1,
       ),
     )
 
--- Filled::Stopped(refusal) => Filled::Stopped(refusal),
-add-group-enum-known-refusal-3 : (t : ℕ) → add-group-lts.Need-enum-known-refusal-3 (add-group-claims t) (add-group-at t) add-group.Post
-add-group-enum-known-refusal-3 t c = search needs
+-- Filled::Stopped(stop) => Filled::Stopped(stop),
+add-group-enum-known-stop-3 : (t : ℕ) → add-group-lts.Need-enum-known-stop-3 (add-group-claims t) (add-group-at t) add-group.Post
+add-group-enum-known-stop-3 t c = search needs
 
 -- Filled::UpTo(behind, filled) => {
 add-group-enum-known-behind : (t : ℕ) → add-group-lts.Need-enum-known-behind (add-group-claims t) (add-group-at t) add-group.Post
 add-group-enum-known-behind t c = search needs
 
--- let last = leave_group(trace, filled, group.delimiter);
+-- match leave_group(trace, filled, group.delimiter) {
 add-group-leave-group-requires : (t : ℕ) → add-group-lts.Need-leave-group-requires (add-group-claims t) (add-group-at t) add-group.Post
 add-group-leave-group-requires t c κs =
-    ((done-grown _ _ ((rw (c .before .before .behind .given .1) at (c .before .before .before .before .before .before .add-body .ensures)) .grows)) .fits, group-room _ _ _ _ _ _ (rw (c .before .before .before .before .before .before .before .before .before .before .before .before .before .before .before .before .before .node .given .1) at (c .before .before .before .before .before .before .before .before .before .before .before .before .before .before .before .before .before .before .before .spend .ensures .0)) (done-grown _ _ (rw (c .before .before .before .before .before .before .before .before .before .entry .given .1) at (c .before .before .before .before .before .before .before .before .before .before .before .before .before .enter-group .ensures .1))) (done-grown _ _ ((rw (c .before .before .behind .given .1) at (c .before .before .before .before .before .before .add-body .ensures)) .grows)) (c .before .before .before .before .before .before .before .before .before .before .before .before .before .before .before .before .before .before .before .before .before .before .pre .1 .0 .fits), omega (arith, c .before .before .before .before .before .before .add-body .kept .1 .1 .1 .1 .1 .0, c .before .before .before .before .before .before .before .before .before .before .before .before .before .enter-group .kept .0, c .before .before .before .before .before .before .before .before .before .before .before .before .before .before .before .before .before .before .before .before .before .before .pre .1 .0 .size))
+    ((done-grown _ _ ((rw (c .before .before .behind .given .1) at (c .before .before .before .before .before .before .add-body .ensures)) .grows)) .fits, group-room _ _ _ _ _ _ (rw (c .before .before .before .before .before .before .before .before .before .before .before .before .before .before .before .before .before .node .given .1) at (c .before .before .before .before .before .before .before .before .before .before .before .before .before .before .before .before .before .before .before .spend .ensures .0)) (done-grown _ _ (rw (c .before .before .before .before .before .before .before .before .before .entry .given .1) at (c .before .before .before .before .before .before .before .before .before .before .before .before .before .enter-group .ensures .1))) (done-grown _ _ ((rw (c .before .before .behind .given .1) at (c .before .before .before .before .before .before .add-body .ensures)) .grows)) (c .before .before .before .before .before .before .before .before .before .before .before .before .before .before .before .before .before .before .before .before .before .before .pre .1 .0 .fits))
+
+-- Added::Stopped(stop) => Filled::Stopped(stop),
+add-group-enum-known-stop-4 : (t : ℕ) → add-group-lts.Need-enum-known-stop-4 (add-group-claims t) (add-group-at t) add-group.Post
+add-group-enum-known-stop-4 t c = search needs
+
+-- Added::Done(last) => Filled::UpTo(behind, last),
+add-group-enum-known-last : (t : ℕ) → add-group-lts.Need-enum-known-last (add-group-claims t) (add-group-at t) add-group.Post
+add-group-enum-known-last t c = search needs
 
 -- fn add_group(
 add-group-returns : (t : ℕ) → add-group-lts.Need-returns (add-group-claims t) (add-group-at t) add-group.Post
-add-group-returns t c = record { adds = group-denied _ _ _ _ _ _ _ _ (groupAt (c .before .before .before .before .before .before .args .words .now) (c .before .before .before .before .before .before .args .group)) (rw (c .before .refusal .given .1) at (c .before .before .before .spend .ensures .0)); grows = refused-grows _ _; ends = tt }
+add-group-returns t c = record { adds = group-denied _ _ _ _ _ _ _ (groupAt (c .before .before .before .before .before .before .args .words .now) (c .before .before .before .before .before .before .args .group)) _ (rw (c .before .stop .given .1) at (c .before .before .before .spend .ensures .0)); grows = stopped-grows _ _; ends = tt }
 
 add-group-same-length : (t : ℕ) → add-group-lts.Need-same-length (add-group-claims t) (add-group-at t) add-group.Post
 add-group-same-length t c = c .before .before .before .before .before .enter-group .kept .0
 
 add-group-returns-2 : (t : ℕ) → add-group-lts.Need-returns-2 (add-group-claims t) (add-group-at t) add-group.Post
-add-group-returns-2 t c = record { adds = group-entry-over (dictionaryIn (c .before .before .before .before .before .before .before .before .before .before .before .before .before .before .args .words .now)) (openNames (c .before .before .before .before .before .before .before .before .before .before .before .before .before .before .args .path)) (c .before .before .before .before .before .before .before .before .before .before .before .before .before .before .args .collect) (c .before .before .before .before .before .before .before .before .before .before .before .before .before .before .args .group .count) (c .before .before .before .before .before .before .before .before .before .before .before .before .before .before .args .group .delimiter) (c .before .before .before .before .before .before .before .before .before .before .before .before .before .before .args .group .required) (bodyAt (wordLines (c .before .before .before .before .before .before .before .before .before .before .before .before .before .before .args .words .now)) (c .before .before .before .before .before .before .before .before .before .before .before .before .before .before .args .group .first)) (c .before .before .before .before .before .before .before .before .before .before .before .before .before .before .args .depth-left) (c .before .before .before .before .before .before .before .before .before .before .before .before .before .before .args .depth-left - 1) (let some = spent-deep _ _ _ _ (rw (c .before .before .before .before .before .before .before .before .before .node .given .1) at (c .before .before .before .before .before .before .before .before .before .before .before .spend .ensures .0)) in omega (arith, some)) (c .before .before .before .before .before .before .before .before .before .before .before .before .before .before .args .builder) (c .before .before .before .before .before .before .before .before .before .before .before .before .before .before .args .trace .now) _ (rw (c .before .before .before .before .before .before .before .before .before .node .given .1) at (c .before .before .before .before .before .before .before .before .before .before .before .spend .ensures .0)) _ _ _ (rw (c .before .before .before .before .before .before .before .both .ensures, c .before .refusal2 .given .1) at (c .before .before .before .before .before .enter-group .ensures .0)); grows = refused-grows _ _; ends = tt }
+add-group-returns-2 t c = record { adds = group-entry-over (dictionaryIn (c .before .before .before .before .before .before .before .before .before .before .before .before .before .before .args .words .now)) (openNames (c .before .before .before .before .before .before .before .before .before .before .before .before .before .before .args .path)) (c .before .before .before .before .before .before .before .before .before .before .before .before .before .before .args .collect) (c .before .before .before .before .before .before .before .before .before .before .before .before .before .before .args .group .count) (c .before .before .before .before .before .before .before .before .before .before .before .before .before .before .args .group .delimiter) (c .before .before .before .before .before .before .before .before .before .before .before .before .before .before .args .group .required) (bodyAt (wordLines (c .before .before .before .before .before .before .before .before .before .before .before .before .before .before .args .words .now)) (c .before .before .before .before .before .before .before .before .before .before .before .before .before .before .args .group .first)) (c .before .before .before .before .before .before .before .before .before .before .before .before .before .before .args .depth-left) (c .before .before .before .before .before .before .before .before .before .before .before .before .before .before .args .depth-left - 1) (let some = spent-deep _ _ _ _ (rw (c .before .before .before .before .before .before .before .before .before .node .given .1) at (c .before .before .before .before .before .before .before .before .before .before .before .spend .ensures .0)) in omega (arith, some)) (c .before .before .before .before .before .before .before .before .before .before .before .before .before .before .args .builder) (c .before .before .before .before .before .before .before .before .before .before .before .before .before .before .args .trace .now) _ (rw (c .before .before .before .before .before .before .before .before .before .node .given .1) at (c .before .before .before .before .before .before .before .before .before .before .before .spend .ensures .0)) _ _ (rw (c .before .before .before .before .before .before .before .both .ensures, c .before .stop2 .given .1) at (c .before .before .before .before .before .enter-group .ensures .0)); grows = stopped-grows _ _; ends = tt }
 
 add-group-same-length-2 : (t : ℕ) → add-group-lts.Need-same-length-2 (add-group-claims t) (add-group-at t) add-group.Post
 add-group-same-length-2 t c = c .before .before .before .before .before .add-body .kept .1 .1 .1 .1 .1 .0 ∙ c .before .before .before .before .before .before .before .before .before .before .before .before .enter-group .kept .0
 
 add-group-returns-3 : (t : ℕ) → add-group-lts.Need-returns-3 (add-group-claims t) (add-group-at t) add-group.Post
-add-group-returns-3 t c = record { adds = group-body-over (dictionaryIn (c .before .before .before .before .before .before .before .before .before .before .before .before .before .before .before .before .before .before .before .before .before .args .words .now)) (openNames (c .before .before .before .before .before .before .before .before .before .before .before .before .before .before .before .before .before .before .before .before .before .args .path)) (c .before .before .before .before .before .before .before .before .before .before .before .before .before .before .before .before .before .before .before .before .before .args .collect) (c .before .before .before .before .before .before .before .before .before .before .before .before .before .before .before .before .before .before .before .before .before .args .group .count) (c .before .before .before .before .before .before .before .before .before .before .before .before .before .before .before .before .before .before .before .before .before .args .group .delimiter) (c .before .before .before .before .before .before .before .before .before .before .before .before .before .before .before .before .before .before .before .before .before .args .group .required) (bodyAt (wordLines (c .before .before .before .before .before .before .before .before .before .before .before .before .before .before .before .before .before .before .before .before .before .args .words .now)) (c .before .before .before .before .before .before .before .before .before .before .before .before .before .before .before .before .before .before .before .before .before .args .group .first)) (c .before .before .before .before .before .before .before .before .before .before .before .before .before .before .before .before .before .before .before .before .before .args .depth-left) (c .before .before .before .before .before .before .before .before .before .before .before .before .before .before .before .before .before .before .before .before .before .args .depth-left - 1) (let some = spent-deep _ _ _ _ (rw (c .before .before .before .before .before .before .before .before .before .before .before .before .before .before .before .before .node .given .1) at (c .before .before .before .before .before .before .before .before .before .before .before .before .before .before .before .before .before .before .spend .ensures .0)) in omega (arith, some)) (c .before .before .before .before .before .before .before .before .before .before .before .before .before .before .before .before .before .before .before .before .before .args .builder) (c .before .before .before .before .before .before .before .before .before .before .before .before .before .before .before .before .before .before .before .before .before .args .trace .now) _ (rw (c .before .before .before .before .before .before .before .before .before .before .before .before .before .before .before .before .node .given .1) at (c .before .before .before .before .before .before .before .before .before .before .before .before .before .before .before .before .before .before .spend .ensures .0)) _ _ _ _ _ (rw (c .before .before .before .before .before .before .before .before .before .before .before .before .before .before .both .ensures, c .before .before .before .before .before .before .before .before .entry .given .1) at (c .before .before .before .before .before .before .before .before .before .before .before .before .enter-group .ensures .0)) ((rw (c .before .refusal3 .given .1) at (c .before .before .before .before .before .add-body .ensures)) .adds); grows = refused-grows _ _; ends = tt }
+add-group-returns-3 t c = record { adds = group-body-over (dictionaryIn (c .before .before .before .before .before .before .before .before .before .before .before .before .before .before .before .before .before .before .before .before .before .args .words .now)) (openNames (c .before .before .before .before .before .before .before .before .before .before .before .before .before .before .before .before .before .before .before .before .before .args .path)) (c .before .before .before .before .before .before .before .before .before .before .before .before .before .before .before .before .before .before .before .before .before .args .collect) (c .before .before .before .before .before .before .before .before .before .before .before .before .before .before .before .before .before .before .before .before .before .args .group .count) (c .before .before .before .before .before .before .before .before .before .before .before .before .before .before .before .before .before .before .before .before .before .args .group .delimiter) (c .before .before .before .before .before .before .before .before .before .before .before .before .before .before .before .before .before .before .before .before .before .args .group .required) (bodyAt (wordLines (c .before .before .before .before .before .before .before .before .before .before .before .before .before .before .before .before .before .before .before .before .before .args .words .now)) (c .before .before .before .before .before .before .before .before .before .before .before .before .before .before .before .before .before .before .before .before .before .args .group .first)) (c .before .before .before .before .before .before .before .before .before .before .before .before .before .before .before .before .before .before .before .before .before .args .depth-left) (c .before .before .before .before .before .before .before .before .before .before .before .before .before .before .before .before .before .before .before .before .before .args .depth-left - 1) (let some = spent-deep _ _ _ _ (rw (c .before .before .before .before .before .before .before .before .before .before .before .before .before .before .before .before .node .given .1) at (c .before .before .before .before .before .before .before .before .before .before .before .before .before .before .before .before .before .before .spend .ensures .0)) in omega (arith, some)) (c .before .before .before .before .before .before .before .before .before .before .before .before .before .before .before .before .before .before .before .before .before .args .builder) (c .before .before .before .before .before .before .before .before .before .before .before .before .before .before .before .before .before .before .before .before .before .args .trace .now) _ (rw (c .before .before .before .before .before .before .before .before .before .before .before .before .before .before .before .before .node .given .1) at (c .before .before .before .before .before .before .before .before .before .before .before .before .before .before .before .before .before .before .spend .ensures .0)) _ _ _ _ (rw (c .before .before .before .before .before .before .before .before .before .before .before .before .before .before .both .ensures, c .before .before .before .before .before .before .before .before .entry .given .1) at (c .before .before .before .before .before .before .before .before .before .before .before .before .enter-group .ensures .0)) ((rw (c .before .stop3 .given .1) at (c .before .before .before .before .before .add-body .ensures)) .adds); grows = stopped-grows _ _; ends = tt }
 
 add-group-same-length-3 : (t : ℕ) → add-group-lts.Need-same-length-3 (add-group-claims t) (add-group-at t) add-group.Post
-add-group-same-length-3 t c = c .before .before .leave-group .kept .0 ∙ c .before .before .before .before .before .before .before .before .before .add-body .kept .1 .1 .1 .1 .1 .0 ∙ c .before .before .before .before .before .before .before .before .before .before .before .before .before .before .before .before .enter-group .kept .0
+add-group-same-length-3 t c = c .before .before .before .before .before .leave-group .kept .0 ∙ c .before .before .before .before .before .before .before .before .before .before .before .before .add-body .kept .1 .1 .1 .1 .1 .0 ∙ c .before .before .before .before .before .before .before .before .before .before .before .before .before .before .before .before .before .before .before .enter-group .kept .0
 
 add-group-returns-4 : (t : ℕ) → add-group-lts.Need-returns-4 (add-group-claims t) (add-group-at t) add-group.Post
-add-group-returns-4 t c = record {
-  adds = group-added (dictionaryIn (c .before .before .before .before .before .before .before .before .before .before .before .before .before .before .before .before .before .before .before .before .before .before .before .before .before .args .words .now)) (openNames (c .before .before .before .before .before .before .before .before .before .before .before .before .before .before .before .before .before .before .before .before .before .before .before .before .before .args .path)) (c .before .before .before .before .before .before .before .before .before .before .before .before .before .before .before .before .before .before .before .before .before .before .before .before .before .args .collect) (c .before .before .before .before .before .before .before .before .before .before .before .before .before .before .before .before .before .before .before .before .before .before .before .before .before .args .group .count) (c .before .before .before .before .before .before .before .before .before .before .before .before .before .before .before .before .before .before .before .before .before .before .before .before .before .args .group .delimiter) (c .before .before .before .before .before .before .before .before .before .before .before .before .before .before .before .before .before .before .before .before .before .before .before .before .before .args .group .required) (bodyAt (wordLines (c .before .before .before .before .before .before .before .before .before .before .before .before .before .before .before .before .before .before .before .before .before .before .before .before .before .args .words .now)) (c .before .before .before .before .before .before .before .before .before .before .before .before .before .before .before .before .before .before .before .before .before .before .before .before .before .args .group .first)) (c .before .before .before .before .before .before .before .before .before .before .before .before .before .before .before .before .before .before .before .before .before .before .before .before .before .args .depth-left) (c .before .before .before .before .before .before .before .before .before .before .before .before .before .before .before .before .before .before .before .before .before .before .before .before .before .args .depth-left - 1) (let some = spent-deep _ _ _ _ (rw (c .before .before .before .before .before .before .before .before .before .before .before .before .before .before .before .before .before .before .before .before .node .given .1) at (c .before .before .before .before .before .before .before .before .before .before .before .before .before .before .before .before .before .before .before .before .before .before .spend .ensures .0)) in omega (arith, some)) (c .before .before .before .before .before .before .before .before .before .before .before .before .before .before .before .before .before .before .before .before .before .before .before .before .before .args .builder) (c .before .before .before .before .before .before .before .before .before .before .before .before .before .before .before .before .before .before .before .before .before .before .before .before .before .args .trace .now) _ (rw (c .before .before .before .before .before .before .before .before .before .before .before .before .before .before .before .before .before .before .before .before .node .given .1) at (c .before .before .before .before .before .before .before .before .before .before .before .before .before .before .before .before .before .before .before .before .before .before .spend .ensures .0)) _ _ _ _ _ _ (rw (c .before .before .before .before .before .before .before .before .before .before .before .before .before .before .before .before .before .before .both .ensures, c .before .before .before .before .before .before .before .before .before .before .before .before .entry .given .1) at (c .before .before .before .before .before .before .before .before .before .before .before .before .before .before .before .before .enter-group .ensures .0)) ((rw (c .before .before .before .before .before .behind .given .1) at (c .before .before .before .before .before .before .before .before .before .add-body .ensures)) .adds) (c .before .before .leave-group .ensures .0);
-  grows = grown-grows _ _ (group-grown _ _ _ _ _ _ (rw (c .before .before .before .before .before .before .before .before .before .before .before .before .before .before .before .before .before .before .before .before .node .given .1) at (c .before .before .before .before .before .before .before .before .before .before .before .before .before .before .before .before .before .before .before .before .before .before .spend .ensures .0)) (done-grown _ _ (rw (c .before .before .before .before .before .before .before .before .before .before .before .before .entry .given .1) at (c .before .before .before .before .before .before .before .before .before .before .before .before .before .before .before .before .enter-group .ensures .1))) (done-grown _ _ ((rw (c .before .before .before .before .before .behind .given .1) at (c .before .before .before .before .before .before .before .before .before .add-body .ensures)) .grows)) _ (c .before .before .leave-group .ensures .1 .0) (c .before .before .leave-group .ensures .1 .1));
-  ends = (rw (c .before .before .before .before .before .behind .given .1) at (c .before .before .before .before .before .before .before .before .before .add-body .ensures)) .ends;
-}
+add-group-returns-4 t c = record { adds = group-left-over (dictionaryIn (c .before .before .before .before .before .before .before .before .before .before .before .before .before .before .before .before .before .before .before .before .before .before .before .before .before .before .before .before .args .words .now)) (openNames (c .before .before .before .before .before .before .before .before .before .before .before .before .before .before .before .before .before .before .before .before .before .before .before .before .before .before .before .before .args .path)) (c .before .before .before .before .before .before .before .before .before .before .before .before .before .before .before .before .before .before .before .before .before .before .before .before .before .before .before .before .args .collect) (c .before .before .before .before .before .before .before .before .before .before .before .before .before .before .before .before .before .before .before .before .before .before .before .before .before .before .before .before .args .group .count) (c .before .before .before .before .before .before .before .before .before .before .before .before .before .before .before .before .before .before .before .before .before .before .before .before .before .before .before .before .args .group .delimiter) (c .before .before .before .before .before .before .before .before .before .before .before .before .before .before .before .before .before .before .before .before .before .before .before .before .before .before .before .before .args .group .required) (bodyAt (wordLines (c .before .before .before .before .before .before .before .before .before .before .before .before .before .before .before .before .before .before .before .before .before .before .before .before .before .before .before .before .args .words .now)) (c .before .before .before .before .before .before .before .before .before .before .before .before .before .before .before .before .before .before .before .before .before .before .before .before .before .before .before .before .args .group .first)) (c .before .before .before .before .before .before .before .before .before .before .before .before .before .before .before .before .before .before .before .before .before .before .before .before .before .before .before .before .args .depth-left) (c .before .before .before .before .before .before .before .before .before .before .before .before .before .before .before .before .before .before .before .before .before .before .before .before .before .before .before .before .args .depth-left - 1) (let some = spent-deep _ _ _ _ (rw (c .before .before .before .before .before .before .before .before .before .before .before .before .before .before .before .before .before .before .before .before .before .before .before .node .given .1) at (c .before .before .before .before .before .before .before .before .before .before .before .before .before .before .before .before .before .before .before .before .before .before .before .before .before .spend .ensures .0)) in omega (arith, some)) (c .before .before .before .before .before .before .before .before .before .before .before .before .before .before .before .before .before .before .before .before .before .before .before .before .before .before .before .before .args .builder) (c .before .before .before .before .before .before .before .before .before .before .before .before .before .before .before .before .before .before .before .before .before .before .before .before .before .before .before .before .args .trace .now) _ (rw (c .before .before .before .before .before .before .before .before .before .before .before .before .before .before .before .before .before .before .before .before .before .before .before .node .given .1) at (c .before .before .before .before .before .before .before .before .before .before .before .before .before .before .before .before .before .before .before .before .before .before .before .before .before .spend .ensures .0)) _ _ _ _ (rw (c .before .stop4 .given .1) at (c .before .before .before .before .before .leave-group .ensures)); grows = stopped-grows _ _; ends = tt }
+
+add-group-same-length-4 : (t : ℕ) → add-group-lts.Need-same-length-4 (add-group-claims t) (add-group-at t) add-group.Post
+add-group-same-length-4 t c = c .before .before .before .before .before .leave-group .kept .0 ∙ c .before .before .before .before .before .before .before .before .before .before .before .before .add-body .kept .1 .1 .1 .1 .1 .0 ∙ c .before .before .before .before .before .before .before .before .before .before .before .before .before .before .before .before .before .before .before .enter-group .kept .0
+
+add-group-returns-5 : (t : ℕ) → add-group-lts.Need-returns-5 (add-group-claims t) (add-group-at t) add-group.Post
+add-group-returns-5 t c =
+    let left = rw (c .before .last .given .1) at (c .before .before .before .before .before .leave-group .ensures) in
+    record {
+      adds = group-added (dictionaryIn (c .before .before .before .before .before .before .before .before .before .before .before .before .before .before .before .before .before .before .before .before .before .before .before .before .before .before .before .before .args .words .now)) (openNames (c .before .before .before .before .before .before .before .before .before .before .before .before .before .before .before .before .before .before .before .before .before .before .before .before .before .before .before .before .args .path)) (c .before .before .before .before .before .before .before .before .before .before .before .before .before .before .before .before .before .before .before .before .before .before .before .before .before .before .before .before .args .collect) (c .before .before .before .before .before .before .before .before .before .before .before .before .before .before .before .before .before .before .before .before .before .before .before .before .before .before .before .before .args .group .count) (c .before .before .before .before .before .before .before .before .before .before .before .before .before .before .before .before .before .before .before .before .before .before .before .before .before .before .before .before .args .group .delimiter) (c .before .before .before .before .before .before .before .before .before .before .before .before .before .before .before .before .before .before .before .before .before .before .before .before .before .before .before .before .args .group .required) (bodyAt (wordLines (c .before .before .before .before .before .before .before .before .before .before .before .before .before .before .before .before .before .before .before .before .before .before .before .before .before .before .before .before .args .words .now)) (c .before .before .before .before .before .before .before .before .before .before .before .before .before .before .before .before .before .before .before .before .before .before .before .before .before .before .before .before .args .group .first)) (c .before .before .before .before .before .before .before .before .before .before .before .before .before .before .before .before .before .before .before .before .before .before .before .before .before .before .before .before .args .depth-left) (c .before .before .before .before .before .before .before .before .before .before .before .before .before .before .before .before .before .before .before .before .before .before .before .before .before .before .before .before .args .depth-left - 1) (let some = spent-deep _ _ _ _ (rw (c .before .before .before .before .before .before .before .before .before .before .before .before .before .before .before .before .before .before .before .before .before .before .before .node .given .1) at (c .before .before .before .before .before .before .before .before .before .before .before .before .before .before .before .before .before .before .before .before .before .before .before .before .before .spend .ensures .0)) in omega (arith, some)) (c .before .before .before .before .before .before .before .before .before .before .before .before .before .before .before .before .before .before .before .before .before .before .before .before .before .before .before .before .args .builder) (c .before .before .before .before .before .before .before .before .before .before .before .before .before .before .before .before .before .before .before .before .before .before .before .before .before .before .before .before .args .trace .now) _ (rw (c .before .before .before .before .before .before .before .before .before .before .before .before .before .before .before .before .before .before .before .before .before .before .before .node .given .1) at (c .before .before .before .before .before .before .before .before .before .before .before .before .before .before .before .before .before .before .before .before .before .before .before .before .before .spend .ensures .0)) _ _ _ _ _ _ (rw (c .before .before .before .before .before .before .before .before .before .before .before .before .before .before .before .before .before .before .before .before .before .both .ensures, c .before .before .before .before .before .before .before .before .before .before .before .before .before .before .before .entry .given .1) at (c .before .before .before .before .before .before .before .before .before .before .before .before .before .before .before .before .before .before .before .enter-group .ensures .0)) ((rw (c .before .before .before .before .before .before .before .before .behind .given .1) at (c .before .before .before .before .before .before .before .before .before .before .before .before .add-body .ensures)) .adds) left;
+      grows = grown-grows _ _ (group-grown _ _ _ _ _ _ (rw (c .before .before .before .before .before .before .before .before .before .before .before .before .before .before .before .before .before .before .before .before .before .before .before .node .given .1) at (c .before .before .before .before .before .before .before .before .before .before .before .before .before .before .before .before .before .before .before .before .before .before .before .before .before .spend .ensures .0)) (done-grown _ _ (rw (c .before .before .before .before .before .before .before .before .before .before .before .before .before .before .before .entry .given .1) at (c .before .before .before .before .before .before .before .before .before .before .before .before .before .before .before .before .before .before .before .enter-group .ensures .1))) (done-grown _ _ ((rw (c .before .before .before .before .before .before .before .before .behind .given .1) at (c .before .before .before .before .before .before .before .before .before .before .before .before .add-body .ensures)) .grows)) _ _ _ _ left);
+      ends = (rw (c .before .before .before .before .before .before .before .before .behind .given .1) at (c .before .before .before .before .before .before .before .before .before .before .before .before .add-body .ensures)) .ends;
+    }
 
 pub +add-body+add-component+add-group-spec : {M : Type 1} → statement M
 +add-body+add-component+add-group-spec =
@@ -402,7 +416,7 @@ pub +add-body+add-component+add-group-spec : {M : Type 1} → statement M
     (add-body-add-at t)
     (add-body-loop-less t)
     (add-body-loop-again t)
-    (add-body-enum-known-refusal t)
+    (add-body-enum-known-stop t)
     (add-body-same-length t)
     (add-body-returns t)
     (add-body-enum-known-count t)
@@ -411,7 +425,7 @@ pub +add-body+add-component+add-group-spec : {M : Type 1} → statement M
     (add-body-enum-known-behind t)
     (add-body-loop-less-2 t)
     (add-body-loop-again-2 t)
-    (add-body-enum-known-refusal-2 t)
+    (add-body-enum-known-stop-2 t)
     (add-body-same-length-2 t)
     (add-body-returns-2 t)
     (add-body-enum-known-name t)
@@ -420,7 +434,7 @@ pub +add-body+add-component+add-group-spec : {M : Type 1} → statement M
     (add-body-add-at-2 t)
     (add-body-loop-less-3 t)
     (add-body-loop-again-3 t)
-    (add-body-enum-known-refusal-3 t)
+    (add-body-enum-known-stop-3 t)
     (add-body-same-length-3 t)
     (add-body-returns-3 t)
     (add-body-enum-told t)
@@ -431,7 +445,7 @@ pub +add-body+add-component+add-group-spec : {M : Type 1} → statement M
     (add-component-at t)
     add-component.Post
     (add-component-spend-requires t)
-    (add-component-enum-known-refusal t)
+    (add-component-enum-known-stop t)
     (add-component-enum-known-node t)
     (add-component-component-of-requires t)
     (add-component-enum-known-number t)
@@ -452,17 +466,19 @@ pub +add-body+add-component+add-group-spec : {M : Type 1} → statement M
     (add-group-at t)
     add-group.Post
     (add-group-spend-requires t)
-    (add-group-enum-known-refusal t)
+    (add-group-enum-known-stop t)
     (add-group-enum-known-node t)
     (add-group-both-requires t)
     (add-group-enter-group-requires t)
-    (add-group-enum-known-refusal-2 t)
+    (add-group-enum-known-stop-2 t)
     (add-group-enum-known-entry t)
     (add-group-sub-below t)
     (add-group-add-body-requires t)
-    (add-group-enum-known-refusal-3 t)
+    (add-group-enum-known-stop-3 t)
     (add-group-enum-known-behind t)
     (add-group-leave-group-requires t)
+    (add-group-enum-known-stop-4 t)
+    (add-group-enum-known-last t)
     (add-group-returns t)
     (add-group-same-length t)
     (add-group-returns-2 t)
@@ -470,3 +486,5 @@ pub +add-body+add-component+add-group-spec : {M : Type 1} → statement M
     (add-group-returns-3 t)
     (add-group-same-length-3 t)
     (add-group-returns-4 t)
+    (add-group-same-length-4 t)
+    (add-group-returns-5 t)

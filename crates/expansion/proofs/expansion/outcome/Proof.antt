@@ -10,11 +10,11 @@ use Rattle.expansion.proofs.expansion.outcome.Tie as tie
 enum-known-filled : tie.Need-enum-known-filled
 enum-known-filled c = search needs
 
--- Filled::Stopped(refusal) => Added::Refused(refusal),
+-- Filled::Stopped(stop) => Added::Stopped(stop),
 enum-known-filled-2 : tie.Need-enum-known-filled-2
 enum-known-filled-2 c = search needs
 
--- fn outcome(filled: Filled) -> Added
+-- pub fn outcome(filled: Filled) -> Added
 returns : tie.Need-returns
 returns c = sym (ap outcomeOf (c .before .filled .given .1))
 
