@@ -44,24 +44,24 @@ use Rattle.expand.specs.ExpandCall.{layoutAnswer, layoutWith, toldAnswer
 
 -- ---- the memory for arranging
 
-pub short-levels : (trace : List ℕ) → length trace ≤ 1024 → levelCount trace ≤ 1025
-short-levels trace short = omega (arith, levelCount-within trace, groups-counted trace, short)
+module _ (size : ℕ) (small : size ≤ 1024) (trace : List ℕ) (short : length trace ≤ size) where
+  pub short-levels : levelCount trace ≤ size + 1
+  short-levels = omega (arith, levelCount-within trace, groups-counted trace, short)
 
-pub short-room : (trace members required tags rows : List ℕ)
-    → length trace ≤ 1024
-    → length members ≡ 1024
-    → length required ≡ 1024
-    → length tags ≡ 1024
-    → length rows ≡ 6150
-    → GatherRoom trace members required tags rows
-short-room trace members required tags rows short one two three four = record {
-  short = omega (arith, short);
-  for-members = omega (arith, members-counted trace, short, one);
-  for-required = omega (arith, required-counted trace, short, two);
-  for-tags = omega (arith, groups-counted trace, short, three);
-  for-rows = omega (arith, short-levels trace short, four);
-  few = omega (arith, short-levels trace short);
-}
+  pub short-room : (members required tags rows : List ℕ)
+      → length members ≡ size
+      → length required ≡ size
+      → length tags ≡ size
+      → length rows ≡ 6 * size + 6
+      → GatherRoom trace members required tags rows
+  short-room members required tags rows one two three four = record {
+    short = omega (arith, short);
+    for-members = omega (arith, members-counted trace, short, one);
+    for-required = omega (arith, required-counted trace, short, two);
+    for-tags = omega (arith, groups-counted trace, short, three);
+    for-rows = omega (arith, short-levels, four);
+    few = omega (arith, short-levels);
+  }
 
 pub long-room : (trace members required tags rows : List ℕ)
     → length trace ≤ 14336

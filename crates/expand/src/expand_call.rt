@@ -11,13 +11,19 @@ ghost use Prim.Native.Nat.{_≤_};
 ghost use lib.ListN.{length};
 ghost use Rattle.dictionary.specs.DictionaryCheck.{isDictionary};
 ghost use Rattle.expand.specs.ArrangeGather.{levelCount, GatherRoom};
-ghost use Rattle.expand.specs.ExpandCall.{toldAnswer, toldWith, expandedOf, expandedIn};
+ghost use Rattle.expand.specs.ExpandCall.{toldAnswer, toldWith, expandedOf, expandedIn, AnswersOr};
 
 // What the expansion of a message type gives.
 pub enum Expanded {
     // how many nodes were spent, and how many words were written
     Done { nodes: usize, words: usize },
     Refused(Refusal),
+}
+
+// What a try with a short trace gives: the answer, or the trace had no room and nothing is written.
+pub enum Tried {
+    Answer(Expanded),
+    NoRoom,
 }
 
 // Writes the layout that the trace tells of, gathered in the memory that is lent for it.
@@ -57,8 +63,29 @@ fn arrange(
     }
 }
 
-// A trace of up to 1,024 words, as a message type mostly has, takes little memory: less to clear.
+// A trace of up to 512 words, as a message type mostly has, takes little memory: less to clear.
 fn arrange_short(trace: &[u64], nodes: usize, layout: &mut [u32]) -> Expanded
+    requires { ⌜ length (now trace) ≤ 512 ⌝ }
+    ensures outcome { λ outcome. ⌜ outcome ≡ toldAnswer (now (trace .entry)) nodes (length (now (layout .entry))) ⌝ }
+    ensures memory { λ _. ⌜ now (layout .exit) ≡ toldWith (now (trace .entry)) nodes (now (layout .entry)) ⌝ }
+{
+    let mut members = [0u32; 512];
+    let mut required = [0u32; 512];
+    let mut tags = [0u32; 512];
+    let mut rows = [0u32; 3078];
+    arrange(
+        trace,
+        nodes,
+        &mut members,
+        &mut required,
+        &mut tags,
+        &mut rows,
+        layout,
+    )
+}
+
+// A trace of up to 1,024 words.
+fn arrange_middle(trace: &[u64], nodes: usize, layout: &mut [u32]) -> Expanded
     requires { ⌜ length (now trace) ≤ 1024 ⌝ }
     ensures outcome { λ outcome. ⌜ outcome ≡ toldAnswer (now (trace .entry)) nodes (length (now (layout .entry))) ⌝ }
     ensures memory { λ _. ⌜ now (layout .exit) ≡ toldWith (now (trace .entry)) nodes (now (layout .entry)) ⌝ }
@@ -118,6 +145,32 @@ fn expand_long(dictionary: &[u32], message_type: &[u8], layout: &mut [u32]) -> E
     }
 }
 
+// Expands a message type whose trace has up to 1,024 words. The memory of this try is free again behind it.
+fn expand_short(dictionary: &[u32], message_type: &[u8], layout: &mut [u32]) -> Tried
+    requires { ⌜ isDictionary (now dictionary) ≡ true ⌝ }
+    ensures { λ tried. ⌜ AnswersOr (now (dictionary .entry)) (now («message_type» .entry)) (now (layout .entry)) tried (now (layout .exit)) ⌝ }
+{
+    let mut trace = [0u64; 1024];
+    match expansion::build::expand(dictionary, message_type, &mut trace) {
+        Added::Stopped(stop) => match stop {
+            Stop::Error(refusal) => Tried::Answer(Expanded::Refused(refusal)),
+            Stop::NoRoom => Tried::NoRoom,
+        },
+        Added::Done(builder) => {
+            let len = builder.len;
+            if len <= 512 {
+                let answer = arrange_short(&trace[0..len], builder.nodes, layout);
+                return Tried::Answer(answer);
+            }
+            if len <= 1024 {
+                let answer = arrange_middle(&trace[0..len], builder.nodes, layout);
+                return Tried::Answer(answer);
+            }
+            Tried::NoRoom
+        }
+    }
+}
+
 // Expands a message type of the dictionary in lent words, and writes the words of its layout. The Rust's `ScopeBuilder::expand`, with one
 // dictionary as transport and application: "Schema expansion shared by the validator and the group reader." Refuses dictionary words that do not
 // pass their check with 2, place 0; then 6, then 7 to 10 as met, then 13.
@@ -128,19 +181,8 @@ pub fn expand(dictionary: &[u32], message_type: &[u8], layout: &mut [u32]) -> Ex
     if !is_dictionary(dictionary) {
         return Expanded::Refused(Refusal::UnknownForm(0));
     }
-    let mut trace = [0u64; 1024];
-    match expansion::build::expand(dictionary, message_type, &mut trace) {
-        Added::Stopped(stop) => {
-            if let Stop::Error(refusal) = stop {
-                return Expanded::Refused(refusal);
-            }
-        }
-        Added::Done(builder) => {
-            let len = builder.len;
-            if len <= 1024 {
-                return arrange_short(&trace[0..len], builder.nodes, layout);
-            }
-        }
+    match expand_short(dictionary, message_type, layout) {
+        Tried::Answer(answer) => answer,
+        Tried::NoRoom => expand_long(dictionary, message_type, layout),
     }
-    expand_long(dictionary, message_type, layout)
 }

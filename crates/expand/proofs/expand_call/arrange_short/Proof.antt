@@ -25,7 +25,7 @@ slice-aggregate-arrange-4 c = search needs
 
 -- arrange(
 arrange-requires : tie.Need-arrange-requires
-arrange-requires c κs = (short-room _ _ _ _ _ (c .before .before .before .before .before .before .before .pre) refl refl refl refl, omega arith, omega arith, omega (arith, short-levels (c .before .before .before .before .before .before .before .args .trace .now) (c .before .before .before .before .before .before .before .pre)))
+arrange-requires c κs = (short-room 512 (omega arith) (c .before .before .before .before .before .before .before .args .trace .now) (c .before .before .before .before .before .before .before .pre) _ _ _ _ refl refl refl refl, omega arith, omega arith, omega (arith, short-levels 512 (omega arith) (c .before .before .before .before .before .before .before .args .trace .now) (c .before .before .before .before .before .before .before .pre)))
 
 -- fn arrange_short(trace: &[u64], nodes: usize, layout: &mut [u32]) -> Expanded
 same-length : tie.Need-same-length
