@@ -1,15 +1,39 @@
--- The space for the verdicts while the fields are judged: first it holds the number of each field's record, then the verdicts. Assumes nothing.
+-- The verdict on a value by the record of its tag, and the space for the verdicts while the fields are judged: first it holds the number of each field's
+-- record, then the verdicts. Assumes nothing.
 --
+--   recordedVerdict dictionary strict value number   the verdict on a value whose tag has the record with this number
+--   recordOf dictionary tag          the number of the record that defines the tag, or the number of all records, which is none's
 --   wordsFrom word left position     the words that are given for so many positions from this one on
 --   filledIn word count space        the space with its first words replaced by those given for the positions from 0 on
 --   Holds word count space           so many words of the space are those given for their positions
 --   fieldRecord dictionary fields position   the number of the record that defines the tag of the field at the position
 use mathlib.Core.Path.{_≡_}
-use Prim.Native.Nat.{ℕ, zero, suc, _<_}
+use Prim.Native.Nat.{ℕ, zero, suc, _+_, _*_, _<_}
+use mathlib.Core.Bool.{Bool}
 use mathlib.Core.List.{List, [], _∷_, _++_}
 use lib.ListN.{getD, drop}
+use Rattle.ascii.specs.Notation.{_<ᵇ_, if_then_else_}
+use Rattle.formats.specs.FieldType.{typeNumbered}
+use Rattle.dictionary.specs.declared.definitions.Definition.{Definition}
+use Rattle.dictionary.specs.declared.definitions.Definition.the-variants.{Defined, Undefined}
+use Rattle.dictionary.specs.Definitions.{definitionOf}
 use Rattle.walk.specs.FieldTable.{tagOf}
-use Rattle.verdicts.specs.Verdict.{recordOf}
+use Rattle.verdicts.specs.declared.verdict.Verdict.{Verdict}
+use Rattle.verdicts.specs.declared.verdict.Verdict.the-variants as verdicts
+use Rattle.verdicts.specs.Verdict.{typedVerdict}
+
+unfoldable pub recordedVerdict : List ℕ → Bool → List ℕ → ℕ → Verdict
+recordedVerdict dictionary strict value number =
+    if number <ᵇ getD dictionary 0 0
+    then typedVerdict dictionary strict value number (typeNumbered (getD dictionary (4 + 10 * number + 2) 0))
+    else verdicts.Undefined
+
+abbrev pub recordWith : List ℕ → Definition → ℕ
+recordWith dictionary (Defined type number) = number
+recordWith dictionary Undefined = getD dictionary 0 0
+
+unfoldable pub recordOf : List ℕ → ℕ → ℕ
+recordOf dictionary tag = recordWith dictionary (definitionOf dictionary tag)
 
 unfoldable pub wordsFrom : (ℕ → ℕ) → ℕ → ℕ → List ℕ
 wordsFrom word zero position = []

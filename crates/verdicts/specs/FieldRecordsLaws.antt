@@ -1,12 +1,36 @@
 -- Laws of `FieldRecords.antt`, in its order, and the loop of `write_records`. Assumes nothing.
 use mathlib.Core.Path.{_≡_, refl, sym, ap, _∙_}
 use Prim.Native.Nat.{ℕ, zero, suc, _+_, _-_, _≤_, _<_}
+use mathlib.Core.Bool.{Bool, true}
 use mathlib.Core.List.{List, _++_}
 use native.Mathlib.Omega.{arith}
 use native.Mathlib.Numerals.{add-one}
 use lib.ListN.{length, getD, drop, set, length-set}
 use lib.Seq.{sets, sets-eq}
-use Rattle.verdicts.specs.FieldRecords.{wordsFrom, filledIn, Holds}
+use borrow.Author.Tests.{lt-ltb, le-ltb}
+use Rattle.dictionary.specs.declared.definitions.Definition.{Definition}
+use Rattle.dictionary.specs.declared.definitions.Definition.the-variants.{Defined, Undefined}
+use Rattle.dictionary.specs.DictionaryCheck.{isDictionary}
+use Rattle.dictionary.specs.Definitions.{definitionOf}
+use Rattle.verdicts.specs.Verdict.{definedVerdict, checkValue}
+use Rattle.verdicts.specs.DefinitionFacts.{definition-known, definition-type}
+use Rattle.verdicts.specs.FieldRecords.{recordedVerdict, recordWith, recordOf, wordsFrom, filledIn, Holds}
+
+-- ---- recordedVerdict
+
+-- the record's number gives the verdict that the tag gives
+pub recordedVerdict-of : (dictionary : List ℕ) (strict : Bool) (tag : ℕ) (value : List ℕ) → isDictionary dictionary ≡ true
+    → recordedVerdict dictionary strict value (recordOf dictionary tag) ≡ checkValue dictionary strict tag value
+unfolding checkValue recordedVerdict recordOf
+recordedVerdict-of dictionary strict tag value holds = go (definitionOf dictionary tag) refl
+  where
+    go : (definition : Definition) → definitionOf dictionary tag ≡ definition
+        → recordedVerdict dictionary strict value (recordWith dictionary definition) ≡ definedVerdict dictionary strict value definition
+    go (Defined type number) defined =
+        rw (lt-ltb number (getD dictionary 0 0) (definition-known dictionary holds tag type number defined .1), definition-type dictionary tag type number defined)
+    go Undefined missing = let none : getD dictionary 0 0 ≤ getD dictionary 0 0 = omega arith in rw (le-ltb (getD dictionary 0 0) (getD dictionary 0 0) none)
+
+-- ---- wordsFrom, filledIn
 
 module _ (word : ℕ → ℕ) where
   wordsFrom-length : (left position : ℕ) → length (wordsFrom word left position) ≡ left

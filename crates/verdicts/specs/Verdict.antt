@@ -12,14 +12,11 @@
 --   typedVerdict dictionary strict value number type   the verdict on a value whose definition has this record and this type
 --   definedVerdict dictionary strict value definition  the verdict on a value whose tag has this definition, or none
 --   checkValue dictionary strict tag value     the verdict on the value of a field with this tag
---   recordOf dictionary tag                    the number of the record that defines the tag, or the number of all records, which is none's
---   recordedVerdict dictionary strict value number     the verdict on a value whose tag has the record with this number
-use Prim.Native.Nat.{ℕ, _+_, _*_}
+use Prim.Native.Nat.{ℕ}
 use Prim.Native.Char.{code}
 use mathlib.Core.Bool.{Bool}
 use mathlib.Core.List.{List}
-use lib.ListN.{getD}
-use Rattle.ascii.specs.Notation.{_<ᵇ_, if_then_else_}
+use Rattle.ascii.specs.Notation.{if_then_else_}
 use Rattle.ascii.specs.Split.{split, everyPart}
 use Rattle.formats.specs.declared.field_type.FieldType.{FieldType}
 use Rattle.formats.specs.declared.field_type.NumberedType.{NumberedType}
@@ -66,17 +63,3 @@ module _ (dictionary : List ℕ) where
 
     unfoldable pub checkValue : ℕ → List ℕ → Verdict
     checkValue tag value = definedVerdict value (definitionOf dictionary tag)
-
-    -- the same verdict by the record's number alone (`recordedVerdict-of`, VerdictLaws.antt)
-    unfoldable pub recordedVerdict : List ℕ → ℕ → Verdict
-    recordedVerdict value number =
-        if number <ᵇ getD dictionary 0 0
-        then typedVerdict value number (typeNumbered (getD dictionary (4 + 10 * number + 2) 0))
-        else Undefined
-
-  abbrev pub recordWith : Definition → ℕ
-  recordWith (definitions.Defined type number) = number
-  recordWith definitions.Undefined = getD dictionary 0 0
-
-  unfoldable pub recordOf : ℕ → ℕ
-  recordOf tag = recordWith (definitionOf dictionary tag)

@@ -5,7 +5,6 @@ use mathlib.Core.Bool.{Bool, true, false}
 use mathlib.Core.List.{List}
 use native.Mathlib.Omega.{arith}
 use lib.ListN.{length, getD, take, drop}
-use borrow.Author.Tests.{lt-ltb, le-ltb}
 use Rattle.ascii.specs.BytesLaws.{part-to-end}
 use Rattle.ascii.specs.Split.{indexOf, split, everyPart}
 use Rattle.ascii.specs.SplitLaws.{found-within, everyPart-last, everyPart-goes-on, everyPart-fails}
@@ -13,12 +12,8 @@ use Rattle.formats.specs.declared.field_type.FieldType.{FieldType}
 use Rattle.formats.specs.declared.field_type.Format.{Format}
 use Rattle.formats.specs.FieldType.{formatOf}
 use Rattle.formats.specs.FieldValue.{isOfFormat, isValidValue, isInRanges}
-use Rattle.dictionary.specs.declared.definitions.Definition.{Definition}
-use Rattle.dictionary.specs.declared.definitions.Definition.the-variants.{Defined, Undefined}
-use Rattle.dictionary.specs.DictionaryCheck.{isDictionary}
-use Rattle.dictionary.specs.Definitions.{definitionOf, admitsValue}
-use Rattle.verdicts.specs.Verdict.{hasFormat, admitsEach, definedVerdict, checkValue, recordWith, recordOf, recordedVerdict}
-use Rattle.verdicts.specs.DefinitionFacts.{definition-known, definition-type}
+use Rattle.dictionary.specs.Definitions.{admitsValue}
+use Rattle.verdicts.specs.Verdict.{hasFormat, admitsEach}
 
 -- ---- hasFormat: one test of the form serves both modes
 
@@ -40,20 +35,6 @@ module _ (type : FieldType) (value : List ℕ) (format : Format) (known : format
     hasFormat-ranges good ranged tested =
         let valid : isValidValue type value ≡ true = sym formed-here ∙ good in
         rw (asked, valid) (tested ∙ ap (λ (other : Format). isInRanges other value) known)
-
--- ---- recordedVerdict
-
--- the record's number gives the verdict that the tag gives
-pub recordedVerdict-of : (dictionary : List ℕ) (strict : Bool) (tag : ℕ) (value : List ℕ) → isDictionary dictionary ≡ true
-    → recordedVerdict dictionary strict value (recordOf dictionary tag) ≡ checkValue dictionary strict tag value
-unfolding checkValue recordedVerdict recordOf
-recordedVerdict-of dictionary strict tag value holds = go (definitionOf dictionary tag) refl
-  where
-    go : (definition : Definition) → definitionOf dictionary tag ≡ definition
-        → recordedVerdict dictionary strict value (recordWith dictionary definition) ≡ definedVerdict dictionary strict value definition
-    go (Defined type number) defined =
-        rw (lt-ltb number (getD dictionary 0 0) (definition-known dictionary holds tag type number defined .1), definition-type dictionary tag type number defined)
-    go Undefined missing = let none : getD dictionary 0 0 ≤ getD dictionary 0 0 = omega arith in rw (le-ltb (getD dictionary 0 0) (getD dictionary 0 0) none)
 
 -- ---- the loop of `admits_each`
 

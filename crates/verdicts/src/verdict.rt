@@ -14,7 +14,8 @@ ghost use mathlib.Core.Bool.{true};
 ghost use Prim.Native.Nat.{_<_};
 ghost use lib.ListN.{getD};
 ghost use Rattle.dictionary.specs.DictionaryCheck.{isDictionary};
-ghost use Rattle.verdicts.specs.Verdict.{verdictWord, hasFormat, admitsEach, isAdmitted, recordOf, recordedVerdict};
+ghost use Rattle.verdicts.specs.Verdict.{verdictWord, hasFormat, admitsEach, isAdmitted};
+ghost use Rattle.verdicts.specs.FieldRecords.{recordOf, recordedVerdict};
 
 // What is said of a value. The Rust pushes an error for each but the first.
 pub enum Verdict {
@@ -97,7 +98,7 @@ pub fn record_of(dictionary: &[u32], tag: u32) -> usize
 }
 
 // Checks that a field is defined, well-formed for its type, and — when enumerated — carries a defined value. The record of its tag was found before.
-pub fn check_recorded(dictionary: &[u32], number: usize, value: &[u8], strict: bool) -> Verdict
+pub fn check_value(dictionary: &[u32], number: usize, value: &[u8], strict: bool) -> Verdict
     requires { ⌜ isDictionary (now dictionary) ≡ true ⌝ }
     ensures { λ verdict. ⌜ verdict ≡ recordedVerdict (now (dictionary .entry)) strict (now (value .entry)) number ⌝ }
 {

@@ -1,6 +1,6 @@
 // The verdicts on the values of a message, on lent words: a call that refuses what it cannot judge, and else writes one word a field.
 use crate::verdict::Verdict;
-use crate::verdict::check_recorded;
+use crate::verdict::check_value;
 use crate::verdict::record_of;
 use crate::verdict::verdict_word;
 use dictionary::dictionary_check::is_dictionary;
@@ -58,7 +58,7 @@ fn verdict_at(
 {
     let first = first_at(fields, index);
     let past = past_at(fields, index);
-    check_recorded(dictionary, number, &message[first..past], strict)
+    check_value(dictionary, number, &message[first..past], strict)
 }
 
 // Writes the verdict on each field over the number of its record.

@@ -3,7 +3,7 @@
 use mathlib.Core.Path.{sym, _∙_}
 use native.Mathlib.Omega.{arith}
 use Rattle.dictionary.specs.DefinitionsLaws.{isDictionary-parts}
-use Rattle.verdicts.specs.Verdict.{recordOf}
+use Rattle.verdicts.specs.FieldRecords.{recordOf}
 use borrow.Author.Needs.{needs}
 use Rattle.verdicts.proofs.verdict.record_of.Statement.{statement}
 use Rattle.verdicts.proofs.verdict.record_of.Tie as tie

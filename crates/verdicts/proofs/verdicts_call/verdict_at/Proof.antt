@@ -3,7 +3,7 @@
 use mathlib.Core.Path.{_∙_}
 use native.Mathlib.Omega.{arith}
 use Rattle.walk.specs.FieldTableLaws.{valueAt-part}
-use Rattle.verdicts.specs.VerdictLaws.{recordedVerdict-of}
+use Rattle.verdicts.specs.FieldRecordsLaws.{recordedVerdict-of}
 use borrow.Author.Needs.{needs}
 use Rattle.verdicts.proofs.verdicts_call.verdict_at.Statement.{statement}
 use Rattle.verdicts.proofs.verdicts_call.verdict_at.Tie as tie
@@ -16,22 +16,22 @@ first-at-requires c κs = search needs
 past-at-requires : tie.Need-past-at-requires
 past-at-requires c κs = search needs
 
--- check_recorded(dictionary, number, &message[first..past], strict)
-sub-check-recorded : tie.Need-sub-check-recorded
-sub-check-recorded c = omega (arith, c .before .before .before .before .before .pre .1 .0 .ordered (c .before .before .before .before .before .args .index) (c .before .before .before .before .before .pre .1 .1 .0), c .before .first-at .ensures, c .past-at .ensures)
+-- check_value(dictionary, number, &message[first..past], strict)
+sub-check-value : tie.Need-sub-check-value
+sub-check-value c = omega (arith, c .before .before .before .before .before .pre .1 .0 .ordered (c .before .before .before .before .before .args .index) (c .before .before .before .before .before .pre .1 .1 .0), c .before .first-at .ensures, c .past-at .ensures)
 
-part-check-recorded-start : tie.Need-part-check-recorded-start
-part-check-recorded-start c = omega (arith, c .before .before .before .before .before .pre .1 .0 .ordered (c .before .before .before .before .before .args .index) (c .before .before .before .before .before .pre .1 .1 .0), c .before .first-at .ensures, c .past-at .ensures)
+part-check-value-start : tie.Need-part-check-value-start
+part-check-value-start c = omega (arith, c .before .before .before .before .before .pre .1 .0 .ordered (c .before .before .before .before .before .args .index) (c .before .before .before .before .before .pre .1 .1 .0), c .before .first-at .ensures, c .past-at .ensures)
 
-part-check-recorded-end : tie.Need-part-check-recorded-end
-part-check-recorded-end c = omega (arith, c .before .before .before .before .before .pre .1 .0 .inside (c .before .before .before .before .before .args .index) (c .before .before .before .before .before .pre .1 .1 .0), c .past-at .ensures)
+part-check-value-end : tie.Need-part-check-value-end
+part-check-value-end c = omega (arith, c .before .before .before .before .before .pre .1 .0 .inside (c .before .before .before .before .before .args .index) (c .before .before .before .before .before .pre .1 .1 .0), c .past-at .ensures)
 
-check-recorded-requires : tie.Need-check-recorded-requires
-check-recorded-requires c κs = search needs
+check-value-requires : tie.Need-check-value-requires
+check-value-requires c κs = search needs
 
 -- fn verdict_at(
 returns : tie.Need-returns
-returns c = c .check-recorded .ensures ∙ rw (c .before .before .before .before .before .before .before .pre .1 .1 .1, valueAt-part (c .before .before .before .before .before .before .before .args .fields .now) (c .before .before .before .before .before .before .before .args .message .now) (c .before .before .before .before .before .before .before .args .index) _ _ (c .before .before .before .first-at .ensures) (c .before .before .past-at .ensures)) (recordedVerdict-of _ _ _ _ (c .before .before .before .before .before .before .before .pre .0))
+returns c = c .check-value .ensures ∙ rw (c .before .before .before .before .before .before .before .pre .1 .1 .1, valueAt-part (c .before .before .before .before .before .before .before .args .fields .now) (c .before .before .before .before .before .before .before .args .message .now) (c .before .before .before .before .before .before .before .args .index) _ _ (c .before .before .before .first-at .ensures) (c .before .before .past-at .ensures)) (recordedVerdict-of _ _ _ _ (c .before .before .before .before .before .before .before .pre .0))
 
 pub verdict-at-spec : {M : Type 1} → statement M
 verdict-at-spec =
@@ -39,8 +39,8 @@ verdict-at-spec =
     (tie.spec
     first-at-requires
     past-at-requires
-    sub-check-recorded
-    part-check-recorded-start
-    part-check-recorded-end
-    check-recorded-requires
+    sub-check-value
+    part-check-value-start
+    part-check-value-end
+    check-value-requires
     returns)
