@@ -125,12 +125,13 @@ module _ (dictionary : Dictionary) (path : List ℕ) (collect : Bool) (count del
         rw (group-is (frame .level))
         (stops-later stop middle fillsEntry begun (λ refusal met. first-fill gateLimits refusal dictionary less path true true inner begun met) first)
 
-    pub group-left-over : (filled : Code.Builder) (stop : Stop) (inside after : List ℕ)
-        → Leaves delimiter filled inside (Stopped stop) after
+    -- with whatever delimiter it is left
+    pub group-left-over : (last : ℕ) (filled : Code.Builder) (stop : Stop) (inside after : List ℕ)
+        → Leaves last filled inside (Stopped stop) after
         → Adds addsGroup builder before (Stopped stop) after
     unfolding Adds Leaves
-    group-left-over filled (Error refusal) inside after leaves = absurd leaves
-    group-left-over filled NoRoom inside after leaves = λ frame outer stands. leaves
+    group-left-over last filled (Error refusal) inside after leaves = absurd leaves
+    group-left-over last filled NoRoom inside after leaves = λ frame outer stands. leaves
 
     pub group-body-over : (entry : Code.Builder) (stop : Stop) (middle inside : List ℕ)
         → Enters count (required && collect) delimiter node before (Done entry) middle
