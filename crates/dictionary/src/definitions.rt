@@ -1,8 +1,6 @@
 // What a dictionary defines, looked up in its words.
-use crate::records::line_at;
 use sorting::search::Found;
 use sorting::search::binary_search;
-use texts::line::Line;
 use texts::line_parts::Admitted;
 use texts::line_parts::MessageType;
 use texts::line_parts::ValueText;
@@ -13,7 +11,7 @@ ghost use mathlib.Core.Bool.{true};
 ghost use Prim.Native.Nat.{_+_, _*_, _≤_, _<_};
 ghost use lib.ListN.{length, getD};
 ghost use Rattle.dictionary.specs.DictionaryCheck.{isIndex, messagesAt, isDictionary};
-ghost use Rattle.dictionary.specs.Definitions.{recordIn, definitionOf, componentOf, messageOf, lineNumbered, isSameValue, isAmong, isEnumerated, admitsValue};
+ghost use Rattle.dictionary.specs.Definitions.{recordIn, definitionOf, componentOf, messageOf, isSameValue, isAmong, isEnumerated, admitsValue};
 ghost use Rattle.dictionary.specs.DefinitionsLaws.{Below};
 ghost use Rattle.dictionary.specs.Records.{admittedFrom};
 
@@ -91,14 +89,6 @@ pub fn message_of(words: &[u32], value: &[u8]) -> Found
         MessageType::Letters(letters) => message_named(words, letters),
         MessageType::NoLetters => Found::Nothing,
     }
-}
-
-// The line of the record with this number.
-pub fn line_numbered(words: &[u32], number: usize) -> Line
-    requires { ⌜ (isDictionary (now words) ≡ true) × (number < getD (now words) 0 0) ⌝ }
-    ensures { λ line. ⌜ line ≡ lineNumbered (now (words .entry)) number ⌝ }
-{
-    line_at(words, 4 + 10 * number)
 }
 
 // The value is that of the record. Most records differ from it in their first words, and no other is read.

@@ -199,7 +199,7 @@ fn def_from(words: &[u32]) -> Line
     Line::Unknown
 }
 
-pub fn admitted_from(words: &[u32]) -> Admitted
+fn admitted_from(words: &[u32]) -> Admitted
     requires { ⌜ length (now words) ≡ 10 ⌝ }
     ensures { λ value. ⌜ value ≡ admittedFrom (now (words .entry)) ⌝ }
 {
