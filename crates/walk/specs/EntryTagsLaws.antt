@@ -154,6 +154,44 @@ module _ (words : List ℕ) (rank : ℕ) where
     pub fresh-two : eqb (bitOr (bitAnd (getD words 0 0) (maskIn 0 rank)) (bitAnd (getD words 1 0) (maskIn 1 rank))) 0 ≡ not (holdsRank words rank)
     fresh-two = two-fresh (rank / 64) refl few
 
+-- ---- the same by the set of the 128 ranks around a rank, in the words of a wider level
+
+module _ (words : List ℕ) (rank : ℕ) where
+  -- the two words of that set
+  abbrev pub partOf : List ℕ
+  partOf = getD words (rank / 128 * 2) 0 ∷ getD words (rank / 128 * 2 + 1) 0 ∷ []
+
+  -- the words with such a set in place of their own
+  abbrev pub withPart : List ℕ → List ℕ
+  withPart part = set (set words (rank / 128 * 2) (getD part 0 0)) (rank / 128 * 2 + 1) (getD part 1 0)
+
+  same-bit : rank % 128 % 64 ≡ rank % 64
+  same-bit = omega arith
+
+  held-by : (word : ℕ) → rank % 128 / 64 ≡ word → holdsRank partOf (rank % 128) ≡ holdsRank words rank
+  unfolding holdsRank
+  held-by zero at-word = let here : rank / 64 ≡ rank / 128 * 2 = omega arith in rw (at-word, same-bit, here)
+  held-by (suc zero) at-word = let here : rank / 64 ≡ rank / 128 * 2 + 1 = omega arith in rw (at-word, same-bit, here)
+  held-by (suc (suc word)) at-word = absurd (omega arith)
+
+  pub part-holds : holdsRank partOf (rank % 128) ≡ holdsRank words rank
+  part-holds = held-by (rank % 128 / 64) refl
+
+  inserted-by : (word : ℕ) → rank % 128 / 64 ≡ word → withPart (insertRank partOf (rank % 128)) ≡ insertRank words rank
+  unfolding insertRank
+  inserted-by zero at-word =
+      let here : rank / 64 ≡ rank / 128 * 2 = omega arith in
+      let other : getD (set words (rank / 128 * 2) (bitOr (getD words (rank / 128 * 2) 0) (2 ^ (rank % 64)))) (rank / 128 * 2 + 1) 0 ≡ getD words (rank / 128 * 2 + 1) 0 =
+      getD-set-other words (rank / 128 * 2) (rank / 128 * 2 + 1) (bitOr (getD words (rank / 128 * 2) 0) (2 ^ (rank % 64))) 0 (λ (same : rank / 128 * 2 + 1 ≡ rank / 128 * 2). omega (arith, same)) in
+      rw (at-word, same-bit, here, ← other, set-getD)
+  inserted-by (suc zero) at-word =
+      let here : rank / 64 ≡ rank / 128 * 2 + 1 = omega arith in
+      rw (at-word, same-bit, here, set-getD)
+  inserted-by (suc (suc word)) at-word = absurd (omega arith)
+
+  pub part-inserted : withPart (insertRank partOf (rank % 128)) ≡ insertRank words rank
+  part-inserted = inserted-by (rank % 128 / 64) refl
+
 -- ---- onesOf
 
 onesOf-append : (words others : List ℕ) → onesOf (words ++ others) ≡ onesOf words + onesOf others

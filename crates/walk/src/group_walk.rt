@@ -1,7 +1,8 @@
 // The walk of a group and the scan of an entry, which call each other: a call falls on the fields left and the depth left. Ported from walk.rs,
 // `walk_group` and `scan_entry`; the Visitor is the event space.
 use crate::entry_tags::EntryTags;
-use crate::entry_tags::WideEntryTags;
+use crate::entry_tags::insert_wide;
+use crate::entry_tags::rank_count;
 use crate::event::Kind;
 use crate::field_table::count_at;
 use crate::group_events::either;
@@ -37,7 +38,7 @@ pub struct EntryEnd {
 }
 
 // Walks one group instance, starting at its count field at `index`, and returns the index of the first field after the group. `enclosing` lists,
-// sorted, the tags the scope around the group accepts. The tags seen in an entry are kept in 8 words for a level of up to 512 members, else in 128.
+// sorted, the tags the scope around the group accepts. The tags seen in an entry are kept in one set for a level of up to 128 members, else in 128 words.
 pub fn walk_group<'a>(
     fields: &[u32],
     message: &[u8],
@@ -88,7 +89,7 @@ pub fn walk_group<'a>(
                 unparseable = true;
             }
         }
-        if members.len() <= 512 {
+        if members.len() <= 128 {
             let entry = scan_entry(fields, message, words, group, cursor, depth, events, to);
             let close = Kind::Close(entries, entry.seen);
             to = put_event(events, entry.at, tag, depth, close);
@@ -112,7 +113,7 @@ pub fn walk_group<'a>(
 }
 
 // Consumes one entry starting at `start`: its own fields, and the runs of the groups nested in it. Stops at the next delimiter (the next entry) or
-// at the first field that is not a member (the end of the group). For a level of up to 512 members.
+// at the first field that is not a member (the end of the group). For a level of up to 128 members.
 fn scan_entry<'a>(
     fields: &[u32],
     message: &[u8],
@@ -123,7 +124,7 @@ fn scan_entry<'a>(
     events: &mut [u64],
     at: usize,
 ) -> EntryEnd
-    requires { ⌜ ScanAsks (now words) (now fields) (now message) group start depth at 512 ⌝ }
+    requires { ⌜ ScanAsks (now words) (now fields) (now message) group start depth at 128 ⌝ }
     ensures { λ end. ⌜ Scans (now (words .entry)) (now (fields .entry)) (now (message .entry)) group start depth
         (now (events .entry)) (now (events .exit)) at (end .at) (end .next) (end .seen) (end .unparseable) ⌝ }
 {
@@ -142,7 +143,7 @@ fn scan_entry<'a>(
                 break;
             }
             EntryStep::Plain(rank, member) => {
-                let inserted = seen.insert_rank(rank, members.len());
+                let inserted = seen.insert_rank(rank);
                 let with = inserted.tags;
                 seen = with;
                 to = put_repeat(events, to, tag, depth, member, inserted.fresh);
@@ -150,7 +151,7 @@ fn scan_entry<'a>(
                 cursor += 1;
             }
             EntryStep::Nested(rank, member, inner) => {
-                let inserted = seen.insert_rank(rank, members.len());
+                let inserted = seen.insert_rank(rank);
                 let with = inserted.tags;
                 seen = with;
                 to = put_repeat(events, to, tag, depth, member, inserted.fresh);
@@ -201,7 +202,7 @@ fn scan_wide<'a>(
     let members = members_at(words, 1 + group);
     let tags = count_tags_at(words, 1 + group);
     let first = first_group_of(words, 1 + group);
-    let mut seen = WideEntryTags::new();
+    let mut seen = [0u64; 128];
     let mut cursor = start;
     let mut unparseable = false;
     let mut to = at;
@@ -211,19 +212,15 @@ fn scan_wide<'a>(
                 break;
             }
             EntryStep::Plain(rank, member) => {
-                let inserted = seen.insert_rank(rank);
-                let with = inserted.tags;
-                seen = with;
-                to = put_repeat(events, to, tag, depth, member, inserted.fresh);
-                unparseable = spoilt_by(unparseable, inserted.fresh);
+                let fresh = insert_wide(&mut seen, rank);
+                to = put_repeat(events, to, tag, depth, member, fresh);
+                unparseable = spoilt_by(unparseable, fresh);
                 cursor += 1;
             }
             EntryStep::Nested(rank, member, inner) => {
-                let inserted = seen.insert_rank(rank);
-                let with = inserted.tags;
-                seen = with;
-                to = put_repeat(events, to, tag, depth, member, inserted.fresh);
-                unparseable = spoilt_by(unparseable, inserted.fresh);
+                let fresh = insert_wide(&mut seen, rank);
+                to = put_repeat(events, to, tag, depth, member, fresh);
+                unparseable = spoilt_by(unparseable, fresh);
                 let below = depth + 1;
                 let nested = walk_group(
                     fields,
@@ -241,7 +238,7 @@ fn scan_wide<'a>(
             }
         }
     }
-    let count = seen.close(members.len());
+    let count = rank_count(&seen, members.len());
     EntryEnd {
         next: cursor,
         at: to,
