@@ -1,7 +1,7 @@
 // Reading a level from the trace of an expansion (specs/ArrangeTrace.antt): its own members, required tags and groups.
 use expansion::required::retain;
 use sorting::dedup::dedup;
-use sorting::heap_sort::sort_unstable;
+use sorting::sort::sort_unstable;
 ghost use mathlib.Core.Path.{_≡_};
 ghost use Prim.Native.Nat.{_≤_};
 ghost use lib.ListN.{length};

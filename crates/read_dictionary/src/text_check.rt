@@ -1,7 +1,7 @@
 // The check of a dictionary text, where no name is compared with all before it: the names are kept while the lines are read in order, and sorted. Only where one
 // is defined again does texts search for the first such line. A line that defines a name has at least five bytes, its line feed with it.
-use sorting::heap_sort::sort_unstable;
 use sorting::search::is_strictly_ascending;
+use sorting::sort::sort_unstable;
 use texts::dictionary_order::BEGINNING;
 use texts::dictionary_order::BEHIND_MESSAGE;
 use texts::dictionary_order::BEHIND_TRAILER;

@@ -4,6 +4,9 @@ pub mod Sort
 pub mod SortLaws
 pub mod Heap
 pub mod HeapLaws
+pub mod PartLaws
+pub mod Insertion
+pub mod InsertionLaws
 pub mod Search
 pub mod SearchLaws
 pub mod Dedup
