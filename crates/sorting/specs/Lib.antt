@@ -2,11 +2,15 @@
 -- of all stand in `OrderCases`.
 pub mod Sort
 pub mod SortLaws
+pub mod Swap
+pub mod SwapLaws
 pub mod Heap
 pub mod HeapLaws
 pub mod PartLaws
 pub mod Insertion
 pub mod InsertionLaws
+pub mod Partition
+pub mod PartitionLaws
 pub mod Search
 pub mod SearchLaws
 pub mod Dedup

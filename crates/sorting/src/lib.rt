@@ -2,5 +2,7 @@
 pub mod dedup;
 pub mod heap_sort;
 pub mod insertion_sort;
+pub mod quick_sort;
 pub mod search;
 pub mod sort;
+pub mod swap;
