@@ -1,24 +1,22 @@
 -- What the functions of src/expansion.rt ask and promise: a body, a group or a use is added as the definition adds it (`Expansion.antt`), told by the trace
 -- (`Adds`, Trace.antt), and a body is walked from its first line to behind its end. Assumes nothing.
 --
---   openNames path            the names of the components that are open, the one opened last first
 --   groupAt words group       the group of the tree that a group's line begins
 --   fillAt words depth path collect place work   what is left of the body that is open at the place, added to the level in work
 --   outcomeOf filled          what was added, without the place
---   Asks words depth path builder           dictionary words that passed, and a path that has room for the depths left
+--   Asks words depth path builder           dictionary words that passed, and a path that leaves room for the depths left in 33 names
 --   Fills change words place builder before filled after   the change is told by the trace, and the place that is given is behind the body at `place`
 --   Uses change builder before added after  the same for a use, which gives no place
 use mathlib.Core.Path.{_≡_}
-use Prim.Native.Nat.{ℕ, _≤_, _<_}
+use Prim.Native.Nat.{ℕ, _+_, _≤_, _<_}
 use mathlib.Core.Bool.{Bool, true}
 use mathlib.Core.List.{List}
-use lib.ListN.{length, getD, drop}
+use lib.ListN.{length, getD}
 use Rattle.layouts.specs.Limits.{gateLimits}
 use Rattle.dictionary.specs.DictionaryCheck.{isDictionary}
 use Rattle.expansion.specs.declared.builder.Builder.{Builder}
 use Rattle.expansion.specs.declared.builder.Added.{Added}
 use Rattle.expansion.specs.declared.builder.Added.the-variants.{Done, Stopped}
-use Rattle.expansion.specs.declared.expansion.Path.{Path}
 use Rattle.expansion.specs.declared.expansion.Filled.{Filled}
 use Rattle.expansion.specs.declared.expansion.Filled.the-variants as filled
 use Rattle.expansion.specs.declared.expansion.GroupLine.{GroupLine}
@@ -27,9 +25,6 @@ use Rattle.expansion.specs.DictionaryPlaces.{openAt}
 use Rattle.expansion.specs.DictionaryLookups.{wordLines, dictionaryIn, bodyAt, aroundAt, BodyAt}
 use Rattle.expansion.specs.Expansion.{Work, fillBody, addGroup, addComponent}
 use Rattle.expansion.specs.Trace.{Adds, Fits, Grows}
-
-abbrev pub openNames : Path → List ℕ
-openNames path = drop (path .first) (path .names)
 
 abbrev pub groupAt : List ℕ → GroupLine → GroupDef
 groupAt words group = group-def (group .count) (group .delimiter) (group .required) (bodyAt (wordLines words) (group .first))
@@ -46,10 +41,9 @@ abbrev pub outcomeOf : Filled → Added
 outcomeOf (filled.UpTo place next) = Done next
 outcomeOf (filled.Stopped stop) = Stopped stop
 
-pub record Asks (words : List ℕ) (depth : ℕ) (path : Path) (builder : Builder) : Type 0 where
+pub record Asks (words : List ℕ) (depth : ℕ) (path : List ℕ) (builder : Builder) : Type 0 where
   pub passed : isDictionary words ≡ true
-  pub deep : depth ≤ path .first
-  pub names : path .first ≤ 33
+  pub deep : depth + length path ≤ 33
   pub fits : Fits builder
 
 -- the place is behind the end of the body that was open at `place`

@@ -5,11 +5,11 @@
 use mathlib.Core.Path.{_≡_, refl, sym, ap, _∙_}
 use Prim.Native.Nat.{ℕ, zero, suc, _+_, _-_, _≤_, _<_}
 use mathlib.Core.Bool.{Bool, true, false, _&&_}
-use mathlib.Core.List.{List, [], _∷_}
+use mathlib.Core.List.{List, [], _∷_, _++_}
 use native.Mathlib.Omega.{arith}
 use native.Mathlib.Numerals.{add-one}
-use lib.ListN.{length, getD, take, drop, set, length-set, length-drop}
-use lib.Seq.{take-all, drop-cons, drop-set-lt, getD-set-same}
+use lib.ListN.{length, getD, take, set, length-set}
+use lib.Seq.{take-all, take-suc, take-suc-set}
 use Rattle.texts.specs.declared.refusal.Refusal.{Refusal}
 use Rattle.texts.specs.declared.refusal.Refusal.the-variants.{ComponentNotDefined}
 use Rattle.texts.specs.declared.line.Line.{Line}
@@ -34,22 +34,40 @@ use Rattle.expansion.specs.TraceLaws.{stops-later, same-work, adds-then,
 use Rattle.expansion.specs.FillLaws.{fill-field, fill-group, fill-use, fill-end, first-fill, adds-same}
 use Rattle.expansion.specs.ExpansionPromises.{fillAt, outcomeOf, Asks, Ends, Fills, Uses}
 
--- ---- openNames
+-- ---- the names of a path: the loop of `open_component`
 
-module _ (names : List ℕ) (size : length names ≡ 33) where
-  -- the part of the names that is looked through
-  pub names-part : (first : ℕ) → take (33 - first) (drop first names) ≡ drop first names
-  names-part first = take-all (33 - first) (drop first names) (omega (arith, length-drop first names))
+-- the new name and the first `count` of the path are written
+pub record NamesSoFar (room : ℕ) (path : List ℕ) (name : ℕ) (names : List ℕ) (count : ℕ) : Type 0 where
+  pub within : count ≤ length path
+  pub size : length names ≡ room
+  pub written : take (count + 1) names ≡ name ∷ take count path
 
-  pub names-longer : (first name : ℕ) → 0 < first → first ≤ 33 → drop (first - 1) (set names (first - 1) name) ≡ name ∷ drop first names
-  names-longer first name some few =
-      let next : suc (first - 1) ≡ first = omega arith in
-      let inside : first - 1 < length names = omega arith in
-      let stored : first - 1 < length (set names (first - 1) name) = omega (arith, length-set names (first - 1) name) in
-      drop-cons (set names (first - 1) name) (first - 1) 0 stored
-      ∙ ap (λ (word : ℕ). word ∷ drop (suc (first - 1)) (set names (first - 1) name)) (getD-set-same names (first - 1) name 0 inside)
-      ∙ ap (λ (rest : List ℕ). name ∷ rest) (drop-set-lt (suc (first - 1)) names (first - 1) name (omega arith))
-      ∙ ap (λ (place : ℕ). name ∷ drop place names) next
+pub names-begin : (names path : List ℕ) (name : ℕ) → 0 < length names → NamesSoFar (length (set names 0 name)) path name (set names 0 name) 0
+names-begin names path name some = record {
+  within = omega arith;
+  size = refl;
+  written = take-suc-set names 0 name some;
+}
+
+module _ (room : ℕ) (path : List ℕ) (name : ℕ) (names : List ℕ) (count : ℕ) (so-far : NamesSoFar room path name names count) where
+  pub names-more : count < length path → length path < room → NamesSoFar room path name (set names (count + 1) (getD path count 0)) (count + 1)
+  names-more inside enough =
+      let last = getD path count 0 in
+      let here : count + 1 < length names = omega (arith, so-far .size) in
+      let longer : take (count + 1 + 1) (set names (count + 1) last) ≡ take (count + 1) names ++ (last ∷ []) = rw (add-one (count + 1)) (take-suc-set names (count + 1) last here) in
+      let more : take (count + 1) path ≡ take count path ++ (last ∷ []) = rw (add-one count) (take-suc path count 0 inside) in
+      record {
+        within = omega arith;
+        size = length-set names (count + 1) last ∙ so-far .size;
+        written = rw (longer, so-far .written, more);
+      }
+
+  pub names-end : length path ≤ count → take (count + 1) names ≡ name ∷ path
+  names-end over = so-far .written ∙ ap (λ (rest : List ℕ). name ∷ rest) (take-all count path over)
+
+-- the part of the names that is lent
+pub names-lent : (names path : List ℕ) (name count : ℕ) → take count names ≡ name ∷ path → take (count - 0) names ≡ name ∷ path
+names-lent names path name count written = let all : count - 0 ≡ count = omega arith in rw all written
 
 -- ---- a node
 

@@ -2,7 +2,6 @@
 use crate::builder::Added;
 use crate::builder::Builder;
 use crate::builder::Stop;
-use crate::expansion::Path;
 use crate::expansion::add_body;
 use crate::expansion::outcome;
 use dictionary::definitions::message_of;
@@ -18,7 +17,7 @@ ghost use Rattle.dictionary.specs.DictionaryWords.{placeOf};
 ghost use Rattle.dictionary.specs.DictionaryCheck.{isDictionary};
 ghost use Rattle.expansion.specs.DictionaryLookups.{wordLines, Begins};
 ghost use Rattle.expansion.specs.Trace.{Fits};
-ghost use Rattle.expansion.specs.ExpansionPromises.{openNames, fillAt, Uses};
+ghost use Rattle.expansion.specs.ExpansionPromises.{fillAt, Uses};
 ghost use Rattle.expansion.specs.BuildPromises.{Built, Traced};
 
 // Document 01: "top 0; over 32 refuses". So 33 depths are left at the top.
@@ -30,18 +29,6 @@ const DEFINITION: u32 = 1;
 const VALUE: u32 = 2;
 
 const BEGIN_TRAILER: u32 = 4;
-
-// No component is open.
-fn nothing_open() -> Path
-    ensures names { λ path. ⌜ openNames path ≡ [] ⌝ }
-    ensures first { λ path. ⌜ path .first ≡ 33 ⌝ }
-{
-    let names = [0; 33];
-    Path {
-        names,
-        first: DEPTHS,
-    }
-}
 
 // A record of this kind defines a tag or a value that it admits.
 fn is_definition(kind: u32) -> bool
@@ -90,9 +77,9 @@ fn add_top(words: &[u32], line: usize, trace: &mut [u64], builder: Builder) -> A
     requires { ⌜ (isDictionary (now words) ≡ true) × (Begins (now words) line × Fits builder) ⌝ }
     ensures { λ added. ⌜ Uses (fillAt (now (words .entry)) 33 [] true (line + 1)) builder (now (trace .entry)) added (now (trace .exit)) ⌝ }
 {
-    let path = nothing_open();
+    let nothing_open = &words[0..0];
     let first = line + 1;
-    let filled = add_body(words, first, DEPTHS, path, true, trace, builder);
+    let filled = add_body(words, first, DEPTHS, nothing_open, true, trace, builder);
     outcome(filled)
 }
 

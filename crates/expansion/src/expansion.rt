@@ -2,7 +2,7 @@
 // goes one depth down, and the proof that they end falls on the depths left.
 //
 // A body is walked by its lines: a place is the number of a line among the dictionary's lines, from 0. What is added goes into the trace
-// (builder.rt), so that a level needs no memory of its own.
+// (builder.rt), so that a level needs no memory of its own. `path` has the names of the open components, the one opened last first: the Rust's HashSet.
 use crate::body_line::BodyLine;
 use crate::body_line::body_line;
 use crate::builder::Added;
@@ -19,18 +19,12 @@ use texts::refusal::Refusal;
 ghost use mathlib.Core.Path.{_≡_};
 ghost use mathlib.Core.Bool.{_&&_};
 ghost use mathlib.Core.List.{_∷_};
-ghost use Prim.Native.Nat.{_-_, _≤_, _<_};
+ghost use Prim.Native.Nat.{_+_, _<_};
+ghost use lib.ListN.{length, take};
 ghost use Rattle.layouts.specs.Limits.{gateLimits};
-ghost use Rattle.sorting.specs.Sort.{isIn};
 ghost use Rattle.expansion.specs.DictionaryLookups.{wordLines, dictionaryIn, BodyAt};
 ghost use Rattle.expansion.specs.Expansion.{addGroup, addComponent};
-ghost use Rattle.expansion.specs.ExpansionPromises.{openNames, groupAt, fillAt, outcomeOf, Asks, Fills, Uses};
-
-// The names of the open components, the one opened last first: those from `first` on. The Rust's HashSet of the path.
-pub struct Path {
-    pub names: [u32; 33],
-    pub first: usize,
-}
+ghost use Rattle.expansion.specs.ExpansionPromises.{groupAt, fillAt, outcomeOf, Asks, Fills, Uses};
 
 // A line `group=COUNT,DELIMITER,R`, and the place of the first line of its body.
 pub struct GroupLine {
@@ -61,26 +55,20 @@ fn both(one: bool, other: bool) -> bool
     one && other
 }
 
-// The component is open on the path.
-fn is_open(path: Path, name: u32) -> bool
-    requires { ⌜ path .first ≤ 33 ⌝ }
-    ensures { λ answer. ⌜ answer ≡ isIn name (openNames path) ⌝ }
+// Writes the names of a path with one more open component, and returns how many they are.
+fn open_component(names: &mut [u32], path: &[u32], name: u32) -> usize
+    requires { ⌜ length (now path) < length (now names) ⌝ }
+    ensures count { λ count. ⌜ count ≡ length (now (path .entry)) + 1 ⌝ }
+    ensures names { λ count. ⌜ take count (now (names .exit)) ≡ name ∷ now (path .entry) ⌝ }
 {
-    let first = path.first;
-    let names = path.names;
-    contains(&names[first..33], name)
-}
-
-// The path with one more open component.
-fn opened(path: Path, name: u32) -> Path
-    requires { ⌜ (0 < path .first) × (path .first ≤ 33) ⌝ }
-    ensures names { λ longer. ⌜ openNames longer ≡ name ∷ openNames path ⌝ }
-    ensures first { λ longer. ⌜ longer .first ≡ path .first - 1 ⌝ }
-{
-    let mut names = path.names;
-    let first = path.first - 1;
-    names[first] = name;
-    Path { names, first }
+    names[0] = name;
+    let mut count = 0;
+    while count < path.len() {
+        let open = path[count];
+        count += 1;
+        names[count] = open;
+    }
+    count + 1
 }
 
 // Adds what is left of the body that is open at `place`, a line at a time: fields, groups and uses.
@@ -88,13 +76,13 @@ pub fn add_body(
     words: &[u32],
     place: usize,
     depth_left: usize,
-    path: Path,
+    path: &[u32],
     collect: bool,
     trace: &mut [u64],
     builder: Builder,
 ) -> Filled
-    requires { ⌜ Asks (now words) «depth_left» path builder × BodyAt (wordLines (now words)) place ⌝ }
-    ensures { λ filled. ⌜ Fills (fillAt (now (words .entry)) «depth_left» (openNames path) collect place) (now (words .entry)) place
+    requires { ⌜ Asks (now words) «depth_left» (now path) builder × BodyAt (wordLines (now words)) place ⌝ }
+    ensures { λ filled. ⌜ Fills (fillAt (now (words .entry)) «depth_left» (now (path .entry)) collect place) (now (words .entry)) place
         builder (now (trace .entry)) filled (now (trace .exit)) ⌝ }
 {
     let mut at = place;
@@ -164,13 +152,13 @@ fn add_group(
     words: &[u32],
     group: GroupLine,
     depth_left: usize,
-    path: Path,
+    path: &[u32],
     collect: bool,
     trace: &mut [u64],
     builder: Builder,
 ) -> Filled
-    requires { ⌜ Asks (now words) «depth_left» path builder × BodyAt (wordLines (now words)) (group .first) ⌝ }
-    ensures { λ filled. ⌜ Fills (addGroup gateLimits (dictionaryIn (now (words .entry))) «depth_left» (openNames path) collect (groupAt (now (words .entry)) group))
+    requires { ⌜ Asks (now words) «depth_left» (now path) builder × BodyAt (wordLines (now words)) (group .first) ⌝ }
+    ensures { λ filled. ⌜ Fills (addGroup gateLimits (dictionaryIn (now (words .entry))) «depth_left» (now (path .entry)) collect (groupAt (now (words .entry)) group))
         (now (words .entry)) (group .first) builder (now (trace .entry)) filled (now (trace .exit)) ⌝ }
 {
     match spend(builder, group.count, depth_left) {
@@ -202,13 +190,13 @@ fn add_component(
     name: u32,
     required: bool,
     depth_left: usize,
-    path: Path,
+    path: &[u32],
     collect: bool,
     trace: &mut [u64],
     builder: Builder,
 ) -> Added
-    requires { ⌜ Asks (now words) «depth_left» path builder ⌝ }
-    ensures { λ added. ⌜ Uses (addComponent gateLimits (dictionaryIn (now (words .entry))) «depth_left» (openNames path) collect
+    requires { ⌜ Asks (now words) «depth_left» (now path) builder ⌝ }
+    ensures { λ added. ⌜ Uses (addComponent gateLimits (dictionaryIn (now (words .entry))) «depth_left» (now (path .entry)) collect
         (record { name = name; required = required })) builder (now (trace .entry)) added (now (trace .exit)) ⌝ }
 {
     match spend(builder, name, depth_left) {
@@ -217,14 +205,15 @@ fn add_component(
             let Found::At(number) = component_of(words, name) else {
                 return Added::Stopped(Stop::Error(Refusal::ComponentNotDefined(name)));
             };
-            if is_open(path, name) {
+            if contains(path, name) {
                 return Added::Done(node);
             }
-            let inside = opened(path, name);
+            let mut names = [0u32; 33];
+            let open = open_component(&mut names, path, name);
             let collects = both(collect, required);
             let first = number + 1;
             let below = depth_left - 1;
-            let filled = add_body(words, first, below, inside, collects, trace, node);
+            let filled = add_body(words, first, below, &names[0..open], collects, trace, node);
             outcome(filled)
         }
     }

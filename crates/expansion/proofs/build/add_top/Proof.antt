@@ -6,21 +6,26 @@ use borrow.Author.Needs.{needs}
 use Rattle.expansion.proofs.build.add_top.Statement.{statement}
 use Rattle.expansion.proofs.build.add_top.Tie as tie
 
--- let path = nothing_open();
-nothing-open-requires : tie.Need-nothing-open-requires
-nothing-open-requires c κs = search needs
+-- let nothing_open = &words[0..0];
+sub-nothing-open : tie.Need-sub-nothing-open
+sub-nothing-open c = search needs
+
+part-nothing-open-start : tie.Need-part-nothing-open-start
+part-nothing-open-start c = search needs
+
+part-nothing-open-end : tie.Need-part-nothing-open-end
+part-nothing-open-end c = search needs
 
 -- let first = line + 1;
 add-first : tie.Need-add-first
 add-first c = omega (arith, c .before .before .before .pre .1 .0 .inside, isDictionary-parts (c .before .before .before .args .words .now) (c .before .before .before .pre .0) .fits)
 
--- let filled = add_body(words, first, DEPTHS, path, true, trace, builder);
+-- let filled = add_body(words, first, DEPTHS, nothing_open, true, trace, builder);
 add-body-requires : tie.Need-add-body-requires
 add-body-requires c κs = (
   record {
     passed = c .before .before .before .before .pre .0;
-    deep = omega (arith, c .before .nothing-open .ensures .1);
-    names = omega (arith, c .before .nothing-open .ensures .1);
+    deep = omega arith;
     fits = c .before .before .before .before .pre .1 .1;
   },
   c .before .before .before .before .pre .1 .0 .there,
@@ -35,13 +40,15 @@ same-length : tie.Need-same-length
 same-length c = search needs
 
 returns : tie.Need-returns
-returns c = rw (c .outcome .ensures, ← c .before .before .before .before .before .nothing-open .ensures .0) (record { adds = c .before .before .before .add-body .ensures .adds; grows = c .before .before .before .add-body .ensures .grows })
+returns c = rw (c .outcome .ensures) (record { adds = c .before .before .before .add-body .ensures .adds; grows = c .before .before .before .add-body .ensures .grows })
 
 pub add-top-spec : {M : Type 1} → statement M
 add-top-spec =
     tie.close
     (tie.spec
-    nothing-open-requires
+    sub-nothing-open
+    part-nothing-open-start
+    part-nothing-open-end
     add-first
     add-body-requires
     outcome-requires
