@@ -1,14 +1,14 @@
 -- Laws of `typeText` (`LineTexts.antt`): each of the 34 names of `FieldType` is read as its place. Assumes nothing.
-use mathlib.Core.Path.{_≡_, refl, ap}
-use Prim.Native.Nat.{ℕ, zero, suc, _≤_, _<_}
+use mathlib.Core.Path.{_≡_, refl, sym, ap}
+use Prim.Native.Nat.{ℕ, zero, suc, _<_}
 use mathlib.Core.Bool.{Bool, true, false, _&&_, false≢true}
-use mathlib.Core.List.{List, [], _∷_}
 use native.Mathlib.Omega.{arith}
-use lib.Dec.{leb, eqb}
-use lib.ListN.{length, getD}
-use borrow.Author.Tests.{leb-true, eqb-true, eqb-false}
+use lib.Dec.{eqb}
+use lib.ListN.{length, getD, List·getD-eq-default}
+use borrow.Author.Tests.{eqb-true, eqb-false}
 use Rattle.ascii.specs.NotationLaws.{and-left, and-right}
 use Rattle.ascii.specs.Bytes.{every}
+use Rattle.formats.specs.FieldTypeLaws.{NoneBelow, none-below}
 use Rattle.texts.specs.declared.line_parts.TypeName.{TypeName}
 use Rattle.texts.specs.declared.line_parts.TypeName.the-variants.{TypeAt, NoType}
 use Rattle.texts.specs.Lines.{startsWith, isSame, longer, cut}
@@ -68,15 +68,9 @@ module _ (place : ℕ) (few : place < 34) where
 
 -- ---- typeLengths
 
-limited : (words : List ℕ) (limit : ℕ) → every (λ word. leb word limit) words ≡ true → (place : ℕ) → getD words place 0 ≤ limit
-unfolding every
-limited [] limit all place = omega arith
-limited (word ∷ rest) limit all zero = leb-true word limit (and-left (leb word limit) (every (λ each. leb each limit) rest) all)
-limited (word ∷ rest) limit all (suc place) = limited rest limit (and-right (leb word limit) (every (λ each. leb each limit) rest) all) place
+-- the length at a place that is known
+pub typeLengths-at : (known place : ℕ) → place ≡ known → getD typeLengths known 0 ≡ getD typeLengths place 0
+typeLengths-at known place same = ap (λ at. getD typeLengths at 0) (sym same)
 
-lengths-few : every (λ word. leb word 255) typeLengths ≡ true
-unfolding every
-lengths-few = refl
-
-pub typeLengths-few : (place : ℕ) → getD typeLengths place 0 ≤ 255
-typeLengths-few place = limited typeLengths 255 lengths-few place
+pub typeLengths-behind : (place : ℕ) → NoneBelow 34 place → 0 ≡ getD typeLengths place 0
+typeLengths-behind place none = sym (List·getD-eq-default typeLengths 0 (none-below 34 place none))

@@ -16,7 +16,7 @@ abbrev pub NoneBelow : ℕ → ℕ → Type 0
 NoneBelow zero number = Unit
 NoneBelow (suc count) number = NoneBelow count number × (number ≡ count → ⊥)
 
-none-below : (count number : ℕ) → NoneBelow count number → count ≤ number
+pub none-below : (count number : ℕ) → NoneBelow count number → count ≤ number
 none-below zero number none = omega arith
 none-below (suc count) number none = omega (arith, none-below count number (none .0), none .1)
 
