@@ -25,7 +25,7 @@
 --   holdsValue left words        the words hold `left` bytes 21 to 7E, then 0
 --   recordOf line                the ten words of a line
 --   lineFrom record              the line of ten words
-use Prim.Native.Nat.{ℕ, _-_, _/_, _%_}
+use Prim.Native.Nat.{ℕ, _+_, _-_, _*_, _/_, _%_}
 use mathlib.Core.Bool.{Bool, true, false, _&&_}
 use mathlib.Core.List.{List, [], _∷_}
 use lib.ListN.{getD, take, drop, replicate}
@@ -130,6 +130,13 @@ recordOf (RequiredTag tag) = record4 0 0 0 0
 recordOf Unknown = record4 0 0 0 0
 
 -- ---- the line of a record
+
+-- two words as one number
+abbrev pub pairOf : ℕ → ℕ → ℕ
+pairOf low high = low + 4294967296 * high
+
+abbrev pub pairAt : List ℕ → ℕ → ℕ
+pairAt words at = pairOf (getD words at 0) (getD words (at + 1) 0)
 
 -- the words of the record behind the first `used` are 0
 unfoldable pub isUnused : ℕ → List ℕ → Bool

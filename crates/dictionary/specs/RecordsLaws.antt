@@ -4,8 +4,8 @@
 --   Held line         a record can hold the line: its numbers have 32 bits, its parts are what document 01 admits
 --   Words32 words     every word has 32 bits
 use mathlib.Core.Path.{_≡_, refl, sym, ap, _∙_}
-use Prim.Native.Nat.{ℕ, suc, _+_, _-_, _^_, _≤_, _<_}
-use mathlib.Core.Bool.{Bool, true, false, cond, false≢true}
+use Prim.Native.Nat.{ℕ, suc, _+_, _-_, _*_, _^_, _≤_, _<_}
+use mathlib.Core.Bool.{Bool, true, false, _&&_, cond, false≢true}
 use mathlib.Core.List.{List, [], _∷_}
 use native.Mathlib.Omega.{arith}
 use lib.Bits.{bitOr, and-le-l, and-le-r, or-add-and}
@@ -23,7 +23,7 @@ use Rattle.texts.specs.declared.line_parts.Number32.the-variants.{Number, NoNum
 use Rattle.texts.specs.declared.line_parts.MessageType.{MessageType}
 use Rattle.texts.specs.declared.line_parts.MessageType.the-variants.{Letters, NoLetters}
 use Rattle.texts.specs.LineParts.{numberOf, isVisible}
-use Rattle.dictionary.specs.Records.{holdsByte, holdsPart, lettersText, holdsLetters, holdsValue, isZero, valueWords, isUnused, flagWord, record4, recordOf, if-unused, defFrom, valueFrom, messageFrom, fieldFrom, groupFrom, useFrom, endOfLetters, endOfNumber, outerFrom, bodyFrom, lineFrom}
+use Rattle.dictionary.specs.Records.{holdsByte, holdsPart, lettersText, holdsLetters, holdsValue, isZero, valueWords, pairOf, pairAt, isUnused, flagWord, record4, recordOf, if-unused, defFrom, valueFrom, messageFrom, fieldFrom, groupFrom, useFrom, endOfLetters, endOfNumber, outerFrom, bodyFrom, lineFrom}
 
 -- ---- holdsByte
 
@@ -62,24 +62,123 @@ module _ (len : ℕ) (words : List ℕ) (left index : ℕ) (so-far : ValueSoFar 
 
 -- ---- isUnused: the loop of `is_unused`
 
+pub isUnused-step : (used : ℕ) (words : List ℕ) → used < length words → isUnused used words ≡ isZero (getD words used 0) && isUnused (used + 1) words
+unfolding isUnused every
+isUnused-step used words inside = rw (drop-step words used inside)
+
 pub record UnusedSoFar (used : ℕ) (words : List ℕ) (index : ℕ) : Type 0 where
-  pub within : index ≤ length words
-  pub zeros : isUnused used words ≡ every isZero (drop index words)
+  pub within : index ≤ 4
+  pub zeros : isUnused used words ≡ isUnused index words
 
-pub unused-begins : (used : ℕ) (words : List ℕ) → used ≤ length words → UnusedSoFar used words used
-unfolding isUnused
-unused-begins used words within = record { within = within; zeros = refl }
+module _ (used : ℕ) (words : List ℕ) (ten : length words ≡ 10) where
+  pub unused-begins : used ≤ 4 → UnusedSoFar used words used
+  unused-begins within = record { within = within; zeros = refl }
 
-module _ (used : ℕ) (words : List ℕ) (index : ℕ) (so-far : UnusedSoFar used words index) where
-  pub unused-ends : length words ≤ index → isUnused used words ≡ true
-  unused-ends over = so-far .zeros ∙ every-end isZero words index over
+  module _ (index : ℕ) (so-far : UnusedSoFar used words index) where
+    pub unused-ends : 4 ≤ index → isUnused used words ≡ isUnused 4 words
+    unused-ends over = let four : index ≡ 4 = omega (arith, so-far .within) in so-far .zeros ∙ rw four
 
-  module _ (inside : index < length words) where
-    pub unused-stops : (getD words index 0 ≡ 0 → ⊥) → isUnused used words ≡ false
-    unused-stops other = so-far .zeros ∙ every-stop isZero words index inside (ne-eqb _ 0 other)
+    module _ (inside : index < 4) where
+      pub unused-stops : (getD words index 0 ≡ 0 → ⊥) → isUnused used words ≡ false
+      unused-stops other = so-far .zeros ∙ isUnused-step index words (omega arith) ∙ rw (ne-eqb (getD words index 0) 0 other)
 
-    pub unused-goes-on : getD words index 0 ≡ 0 → UnusedSoFar used words (index + 1)
-    unused-goes-on same = record { within = omega arith; zeros = so-far .zeros ∙ every-step isZero words index inside (eq-eqb _ 0 same) }
+      pub unused-goes-on : getD words index 0 ≡ 0 → UnusedSoFar used words (index + 1)
+      unused-goes-on same =
+          record {
+            within = omega arith;
+            zeros = so-far .zeros ∙ isUnused-step index words (omega arith) ∙ rw (eq-eqb (getD words index 0) 0 same);
+          }
+
+-- ---- isUnused: words that are read two at a time
+
+or-none : (a b : ℕ) → bitOr a b ≡ 0 → (a ≡ 0) × (b ≡ 0)
+or-none a b none =
+    let together = or-add-and a b in
+    let first = and-le-l a b in
+    let second = and-le-r a b in
+    (omega arith, omega arith)
+
+or-zero-by : (a b : ℕ) (first second : Bool) → isZero a ≡ first → isZero b ≡ second → isZero (bitOr a b) ≡ first && second
+or-zero-by a b true true no-a no-b = rw (eqb-true a 0 no-a, eqb-true b 0 no-b)
+or-zero-by a b true false no-a some-b = ne-eqb _ 0 (λ none. eqb-false b 0 some-b (or-none a b none .1))
+or-zero-by a b false second some-a b-is = ne-eqb _ 0 (λ none. eqb-false a 0 some-a (or-none a b none .0))
+
+or-zero : (a b : ℕ) → isZero (bitOr a b) ≡ isZero a && isZero b
+or-zero a b = or-zero-by a b _ _ refl refl
+
+pair-none : (low high : ℕ) → pairOf low high ≡ 0 → (low ≡ 0) × (high ≡ 0)
+pair-none low high none = (omega arith, omega arith)
+
+pair-zero-by : (low high : ℕ) (first second : Bool) → isZero low ≡ first → isZero high ≡ second → isZero (pairOf low high) ≡ first && second
+pair-zero-by low high true true no-low no-high = rw (eqb-true low 0 no-low, eqb-true high 0 no-high)
+pair-zero-by low high true false no-low some-high = ne-eqb _ 0 (λ none. eqb-false high 0 some-high (pair-none low high none .1))
+pair-zero-by low high false second some-low high-is = ne-eqb _ 0 (λ none. eqb-false low 0 some-low (pair-none low high none .0))
+
+pair-zero : (words : List ℕ) (at : ℕ) → isZero (pairAt words at) ≡ isZero (getD words at 0) && isZero (getD words (at + 1) 0)
+pair-zero words at = pair-zero-by (getD words at 0) (getD words (at + 1) 0) _ _ refl refl
+
+three-pairs : (a b c d e f : Bool) → ((a && b) && (c && d)) && (e && f) ≡ a && (b && (c && (d && (e && (f && true)))))
+three-pairs false b c d e f = refl
+three-pairs true false c d e f = refl
+three-pairs true true false d e f = refl
+three-pairs true true true false e f = refl
+three-pairs true true true true false f = refl
+three-pairs true true true true true false = refl
+three-pairs true true true true true true = refl
+
+-- the third pair and the fourth share a word
+four-pairs : (a b c d e f g : Bool) → (((a && b) && (c && d)) && (e && f)) && (f && g) ≡ a && (b && (c && (d && (e && (f && (g && true))))))
+four-pairs false b c d e f g = refl
+four-pairs true false c d e f g = refl
+four-pairs true true false d e f g = refl
+four-pairs true true true false e f g = refl
+four-pairs true true true true false f g = refl
+four-pairs true true true true true false g = refl
+four-pairs true true true true true true false = refl
+four-pairs true true true true true true true = refl
+
+module _ (words : List ℕ) (ten : length words ≡ 10) where
+  abbrev zero-at : ℕ → Bool
+  zero-at index = isZero (getD words index 0)
+
+  six-zeros : isUnused 4 words ≡ zero-at 4 && (zero-at 5 && (zero-at 6 && (zero-at 7 && (zero-at 8 && (zero-at 9 && true)))))
+  unfolding isUnused every
+  six-zeros =
+      let no-more : length words ≤ 10 = omega arith in
+      rw (
+        isUnused-step 4 words (omega arith),
+        isUnused-step 5 words (omega arith),
+        isUnused-step 6 words (omega arith),
+        isUnused-step 7 words (omega arith),
+        isUnused-step 8 words (omega arith),
+        isUnused-step 9 words (omega arith),
+        drop-of-length-le words no-more,
+      )
+
+  pub isUnused-four : isZero (bitOr (bitOr (pairAt words 4) (pairAt words 6)) (pairAt words 8)) ≡ isUnused 4 words
+  isUnused-four =
+      rw (
+        or-zero (bitOr (pairAt words 4) (pairAt words 6)) (pairAt words 8),
+        or-zero (pairAt words 4) (pairAt words 6),
+        pair-zero words 4,
+        pair-zero words 6,
+        pair-zero words 8,
+        six-zeros,
+      ) (three-pairs (zero-at 4) (zero-at 5) (zero-at 6) (zero-at 7) (zero-at 8) (zero-at 9))
+
+  pub isUnused-short : isZero (bitOr (bitOr (bitOr (pairAt words 3) (pairAt words 5)) (pairAt words 7)) (pairAt words 8)) ≡ isUnused 3 words
+  isUnused-short =
+      rw (
+        or-zero (bitOr (bitOr (pairAt words 3) (pairAt words 5)) (pairAt words 7)) (pairAt words 8),
+        or-zero (bitOr (pairAt words 3) (pairAt words 5)) (pairAt words 7),
+        or-zero (pairAt words 3) (pairAt words 5),
+        pair-zero words 3,
+        pair-zero words 5,
+        pair-zero words 7,
+        pair-zero words 8,
+        isUnused-step 3 words (omega arith),
+        six-zeros,
+      ) (four-pairs (zero-at 3) (zero-at 4) (zero-at 5) (zero-at 6) (zero-at 7) (zero-at 8) (zero-at 9))
 
 -- ---- recordOf: the ninth word behind the kind, as a run of stores counts
 
@@ -332,67 +431,3 @@ module _ (words : List ℕ) (ten : length words ≡ 10) (small : Words32 words) 
 -- the ten words that `&words[at..past]` lends
 pub lineFrom-part : (words : List ℕ) (at past : ℕ) → past ≡ at + 10 → lineFrom (take (past - at) (drop at words)) ≡ lineFrom (take 10 (drop at words))
 lineFrom-part words at past same = let ten : past - at ≡ 10 = omega arith in rw ten
-
--- ---- isUnused 3: the test of `is_short`
-
-or-none : (a b : ℕ) → bitOr a b ≡ 0 → (a ≡ 0) × (b ≡ 0)
-or-none a b none =
-    let together = or-add-and a b in
-    let first = and-le-l a b in
-    let second = and-le-r a b in
-    (omega arith, omega arith)
-
-module _ (words : List ℕ) (ten : length words ≡ 10) where
-  abbrev lowWords : ℕ
-  lowWords = bitOr (bitOr (getD words 3 0) (getD words 4 0)) (getD words 5 0)
-
-  abbrev highWords : ℕ
-  highWords = bitOr (bitOr (bitOr (getD words 6 0) (getD words 7 0)) (getD words 8 0)) (getD words 9 0)
-
-  module _ (unused : isUnused 3 words ≡ true) where
-    seven-zeros : drop 3 words ≡ replicate 7 0
-    unfolding isUnused
-    seven-zeros =
-        let seven : length (drop 3 words) ≡ 7 = length-drop 3 words ∙ omega arith in
-        all-zero (drop 3 words) unused ∙ rw seven
-
-    zero-at : (index : ℕ) → index < 7 → getD words (3 + index) 0 ≡ 0
-    zero-at index inside = sym (getD-drop 3 words index 0) ∙ rw seven-zeros (getD-replicate 7 index 0 0 inside)
-
-    short-passes : eqb (bitOr lowWords highWords) 0 ≡ true
-    short-passes =
-        rw (
-          zero-at 0 (omega arith),
-          zero-at 1 (omega arith),
-          zero-at 2 (omega arith),
-          zero-at 3 (omega arith),
-          zero-at 4 (omega arith),
-          zero-at 5 (omega arith),
-          zero-at 6 (omega arith),
-        )
-
-  short-fails-by : (test : Bool) → eqb (bitOr lowWords highWords) 0 ≡ test → isUnused 3 words ≡ false → test ≡ false
-  short-fails-by false fails used = refl
-  short-fails-by true holds used =
-      let halves = or-none lowWords highWords (eqb-true (bitOr lowWords highWords) 0 holds) in
-      let low = or-none (bitOr (getD words 3 0) (getD words 4 0)) (getD words 5 0) (halves .0) in
-      let lowest = or-none (getD words 3 0) (getD words 4 0) (low .0) in
-      let high = or-none (bitOr (bitOr (getD words 6 0) (getD words 7 0)) (getD words 8 0)) (getD words 9 0) (halves .1) in
-      let higher = or-none (bitOr (getD words 6 0) (getD words 7 0)) (getD words 8 0) (high .0) in
-      let highest = or-none (getD words 6 0) (getD words 7 0) (higher .0) in
-      let from3 = unused-begins 3 words (omega arith) in
-      let from4 = unused-goes-on 3 words 3 from3 (omega arith) (lowest .0) in
-      let from5 = unused-goes-on 3 words 4 from4 (omega arith) (lowest .1) in
-      let from6 = unused-goes-on 3 words 5 from5 (omega arith) (low .1) in
-      let from7 = unused-goes-on 3 words 6 from6 (omega arith) (highest .0) in
-      let from8 = unused-goes-on 3 words 7 from7 (omega arith) (highest .1) in
-      let from9 = unused-goes-on 3 words 8 from8 (omega arith) (higher .1) in
-      let from10 = unused-goes-on 3 words 9 from9 (omega arith) (high .1) in
-      absurd (false≢true (sym used ∙ unused-ends 3 words 10 from10 (omega arith)))
-
-  short-by : (unused : Bool) → isUnused 3 words ≡ unused → eqb (bitOr lowWords highWords) 0 ≡ unused
-  short-by true unused = short-passes unused
-  short-by false used = short-fails-by (eqb (bitOr lowWords highWords) 0) refl used
-
-  pub isUnused-short : eqb (bitOr lowWords highWords) 0 ≡ isUnused 3 words
-  isUnused-short = short-by (isUnused 3 words) refl

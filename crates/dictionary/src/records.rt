@@ -9,7 +9,7 @@ ghost use Prim.Native.Nat.{_+_, _-_, _≤_};
 ghost use lib.ListN.{length, getD, take, drop};
 ghost use Rattle.ascii.specs.Notation.{isBetween};
 ghost use Rattle.texts.specs.LineParts.{numberOf, isAlphanumeric, isVisible};
-ghost use Rattle.dictionary.specs.Records.{holdsByte, holdsPart, lettersLength, lettersText, holdsLetters, holdsValue, isUnused, if-unused, defFrom, admittedFrom, valueFrom, messageFrom, fieldFrom, groupFrom, useFrom, endOfLetters, endOfNumber, outerFrom, bodyFrom, lineFrom};
+ghost use Rattle.dictionary.specs.Records.{holdsByte, holdsPart, lettersLength, lettersText, holdsLetters, holdsValue, pairOf, pairAt, isUnused, if-unused, defFrom, admittedFrom, valueFrom, messageFrom, fieldFrom, groupFrom, useFrom, endOfLetters, endOfNumber, outerFrom, bodyFrom, lineFrom};
 
 // How many words a record has.
 pub const RECORD: usize = 10;
@@ -139,15 +139,27 @@ fn holds_value(len: u32, words: &[u32]) -> bool
     left == 0
 }
 
+fn pair(low: u32, high: u32) -> u64
+    ensures { λ pair. ⌜ pair ≡ pairOf low high ⌝ }
+{
+    low as u64 + 0x1_0000_0000 * (high as u64)
+}
+
+// Two words that stand side by side as one number, so that one load reads both.
+fn pair_at(words: &[u32], at: usize) -> u64
+    requires { ⌜ at + 2 ≤ length (now words) ⌝ }
+    ensures { λ pair. ⌜ pair ≡ pairAt (now (words .entry)) at ⌝ }
+{
+    pair(words[at], words[at + 1])
+}
+
 // The last seven words of a record are 0, as in that of every line but a group's and a value's of more than four bytes.
 pub fn is_short(words: &[u32]) -> bool
     requires { ⌜ length (now words) ≡ 10 ⌝ }
     ensures { λ answer. ⌜ answer ≡ isUnused 3 (now (words .entry)) ⌝ }
 {
     // one test of all of them: a jump for each takes longer
-    let low = words[3] | words[4] | words[5];
-    let high = words[6] | words[7] | words[8] | words[9];
-    low | high == 0
+    pair_at(words, 3) | pair_at(words, 5) | pair_at(words, 7) | pair_at(words, 8) == 0
 }
 
 // The record holds as many bytes 21 to 7E as it says, and 0 behind them.
@@ -164,23 +176,31 @@ pub fn holds_value_in(words: &[u32]) -> bool
     holds_value(words[1], &words[2..])
 }
 
-// Every word behind the first `used` is 0.
+// Every word behind the first four is 0.
+fn is_unused_behind_four(words: &[u32]) -> bool
+    requires { ⌜ length (now words) ≡ 10 ⌝ }
+    ensures { λ answer. ⌜ answer ≡ isUnused 4 (now (words .entry)) ⌝ }
+{
+    pair_at(words, 4) | pair_at(words, 6) | pair_at(words, 8) == 0
+}
+
+// Every word behind the first `used` is 0. No kind but a value's uses more than four.
 fn is_unused(used: usize, words: &[u32]) -> bool
-    requires { ⌜ used ≤ length (now words) ⌝ }
+    requires { ⌜ (used ≤ 4) × (length (now words) ≡ 10) ⌝ }
     ensures { λ answer. ⌜ answer ≡ isUnused used (now (words .entry)) ⌝ }
 {
     let mut index = used;
-    while index < words.len() {
+    while index < 4 {
         if words[index] != 0 {
             return false;
         }
         index += 1;
     }
-    true
+    is_unused_behind_four(words)
 }
 
 fn line_if_unused(used: usize, words: &[u32], line: Line) -> Line
-    requires { ⌜ used ≤ length (now words) ⌝ }
+    requires { ⌜ (used ≤ 4) × (length (now words) ≡ 10) ⌝ }
     ensures { λ answer. ⌜ answer ≡ if-unused used (now (words .entry)) line ⌝ }
 {
     if is_unused(used, words) {

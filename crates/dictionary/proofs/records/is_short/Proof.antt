@@ -5,42 +5,24 @@ use borrow.Author.Needs.{needs}
 use Rattle.dictionary.proofs.records.is_short.Statement.{statement}
 use Rattle.dictionary.proofs.records.is_short.Tie as tie
 
--- let low = words[3] | words[4] | words[5];
-shared-slice-read-low : tie.Need-shared-slice-read-low
-shared-slice-read-low c = search needs
+-- pair_at(words, 3) | pair_at(words, 5) | pair_at(words, 7) | pair_at(words, 8) == 0
+pair-at-requires : tie.Need-pair-at-requires
+pair-at-requires c κs = search needs
 
-shared-slice-read-low-2 : tie.Need-shared-slice-read-low-2
-shared-slice-read-low-2 c = search needs
+pair-at-requires-2 : tie.Need-pair-at-requires-2
+pair-at-requires-2 c κs = search needs
 
-shared-slice-read-low-3 : tie.Need-shared-slice-read-low-3
-shared-slice-read-low-3 c = search needs
+pair-at-requires-3 : tie.Need-pair-at-requires-3
+pair-at-requires-3 c κs = search needs
 
--- let high = words[6] | words[7] | words[8] | words[9];
-shared-slice-read-high : tie.Need-shared-slice-read-high
-shared-slice-read-high c = search needs
-
-shared-slice-read-high-2 : tie.Need-shared-slice-read-high-2
-shared-slice-read-high-2 c = search needs
-
-shared-slice-read-high-3 : tie.Need-shared-slice-read-high-3
-shared-slice-read-high-3 c = search needs
-
-shared-slice-read-high-4 : tie.Need-shared-slice-read-high-4
-shared-slice-read-high-4 c = search needs
+pair-at-requires-4 : tie.Need-pair-at-requires-4
+pair-at-requires-4 c κs = search needs
 
 -- pub fn is_short(words: &[u32]) -> bool
 returns : tie.Need-returns
-returns c = isUnused-short (c .before .before .before .before .before .before .before .args .words .now) (c .before .before .before .before .before .before .before .pre)
+returns c = rw (c .before .before .before .pair-at .ensures, c .before .before .pair-at2 .ensures, c .before .pair-at3 .ensures, c .pair-at4 .ensures) (isUnused-short (c .before .before .before .before .before .args .words .now) (c .before .before .before .before .before .pre))
 
 pub is-short-spec : {M : Type 1} → statement M
 is-short-spec =
     tie.close
-    (tie.spec
-    shared-slice-read-low
-    shared-slice-read-low-2
-    shared-slice-read-low-3
-    shared-slice-read-high
-    shared-slice-read-high-2
-    shared-slice-read-high-3
-    shared-slice-read-high-4
-    returns)
+    (tie.spec pair-at-requires pair-at-requires-2 pair-at-requires-3 pair-at-requires-4 returns)

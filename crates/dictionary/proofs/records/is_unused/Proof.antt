@@ -2,7 +2,6 @@
 -- `dictionary::records::is_unused` meets its contract. The loop's invariant is `UnusedSoFar`; the laws are those of specs/RecordsLaws.antt.
 use mathlib.Core.Path.{sym, _∙_}
 use Prim.Native.Nat.{_-_}
-use lib.ListN.{length}
 use Rattle.dictionary.specs.RecordsLaws.{UnusedSoFar, unused-begins, unused-stops, unused-goes-on, unused-ends}
 use borrow.Author.Needs.{needs}
 use Rattle.dictionary.proofs.records.is_unused.Statement.{statement}
@@ -12,11 +11,11 @@ abbrev Inv-loop : tie.InvT-loop
 Inv-loop used words index₀ index = UnusedSoFar used words index
 
 abbrev μ-loop : tie.MeasureT-loop
-μ-loop used words index₀ index = length words - index
+μ-loop used words index₀ index = 4 - index
 
--- while index < words.len() {
+-- while index < 4 {
 loop-holds : tie.Need-loop-holds Inv-loop μ-loop
-loop-holds c = unused-begins _ _ (c .pre)
+loop-holds c = unused-begins _ _ (c .before .pre .1) (c .before .pre .0)
 
 -- if words[index] != 0 {
 mul-if1 : tie.Need-mul-if1 Inv-loop μ-loop
@@ -27,22 +26,26 @@ shared-slice-read-if1 c = search needs
 
 -- return false;
 returns : tie.Need-returns Inv-loop μ-loop
-returns c = sym (unused-stops _ _ _ (c .before .before .before .loop .inv) (c .before .before .loop-test .taken) (c .if1 .taken))
+returns c = sym (unused-stops _ _ (c .before .before .before .before .before .pre .1) _ (c .before .before .before .loop .inv) (c .before .before .loop-test .taken) (c .if1 .taken))
 
 -- index += 1;
 add-index : tie.Need-add-index Inv-loop μ-loop
 add-index c = search needs
 
--- while index < words.len() {
+-- while index < 4 {
 loop-less : tie.Need-loop-less Inv-loop μ-loop
 loop-less c = search needs
 
 loop-again : tie.Need-loop-again Inv-loop μ-loop
-loop-again c = unused-goes-on _ _ _ (c .before .before .before .loop .inv) (c .before .before .loop-test .taken) (c .if1 .left)
+loop-again c = unused-goes-on _ _ (c .before .before .before .before .before .pre .1) _ (c .before .before .before .loop .inv) (c .before .before .loop-test .taken) (c .if1 .left)
+
+-- is_unused_behind_four(words)
+is-unused-behind-four-requires : tie.Need-is-unused-behind-four-requires Inv-loop μ-loop
+is-unused-behind-four-requires c κs = search needs
 
 -- fn is_unused(used: usize, words: &[u32]) -> bool
 returns-2 : tie.Need-returns-2 Inv-loop μ-loop
-returns-2 c = sym (unused-ends _ _ _ (c .before .loop .inv) (c .loop-test .left))
+returns-2 c = c .is-unused-behind-four .ensures ∙ sym (unused-ends _ _ (c .before .before .before .before .pre .1) _ (c .before .before .loop .inv) (c .before .loop-test .left))
 
 pub is-unused-spec : {M : Type 1} → statement M
 is-unused-spec =
@@ -57,4 +60,5 @@ is-unused-spec =
     add-index
     loop-less
     loop-again
+    is-unused-behind-four-requires
     returns-2)
