@@ -241,7 +241,7 @@ module _ (n : ℕ) where
       omega (arith, count-more 8 10 n, count-more 7 100 n, count-more 6 1000 n)
 
   pub digitCount-large : 10000 ≤ n → n < 2 ^ 32
-      → 5 + reaches 100000 n + reaches 1000000 n + reaches 10000000 n + reaches 100000000 n + reaches 1000000000 n ≡ digitCount n
+      → 1 + reaches 10 n + reaches 100 n + reaches 1000 n + 1 + reaches 100000 n + reaches 1000000 n + reaches 10000000 n + reaches 100000000 n + reaches 1000000000 n ≡ digitCount n
   unfolding digitCount
   digitCount-large large few =
       let last : digitCountFrom 1 10000000000 n ≡ 1 = rw (lt-ltb n 10000000000 (omega arith)) in

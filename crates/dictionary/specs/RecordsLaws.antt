@@ -4,17 +4,16 @@
 --   Held line         a record can hold the line: its numbers have 32 bits, its parts are what document 01 admits
 --   Words32 words     every word has 32 bits
 use mathlib.Core.Path.{_≡_, refl, sym, ap, _∙_}
-use Prim.Native.Nat.{ℕ, suc, _+_, _-_, _*_, _^_, _≤_, _<_}
-use mathlib.Core.Bool.{Bool, true, false, _&&_, cond, false≢true}
+use Prim.Native.Nat.{ℕ, suc, _+_, _-_, _^_, _≤_, _<_}
+use mathlib.Core.Bool.{Bool, true, false, _&&_, cond}
 use mathlib.Core.List.{List, [], _∷_}
 use native.Mathlib.Omega.{arith}
 use lib.Bits.{bitOr, and-le-l, and-le-r, or-add-and}
 use lib.Dec.{leb, ltb, eqb}
-use lib.ListN.{length, getD, take, drop, replicate, drop-of-length-le, length-drop, getD-replicate}
-use lib.Seq.{getD-drop}
+use lib.ListN.{length, getD, take, drop, replicate, drop-of-length-le}
 use borrow.Author.Tests.{lt-ltb, le-ltb, ltb-true, le-leb, leb-true, eq-eqb, ne-eqb, eqb-true, eqb-false}
 use Rattle.ascii.specs.Bytes.{every}
-use Rattle.ascii.specs.BytesLaws.{drop-step, every-step, every-stop, every-end}
+use Rattle.ascii.specs.BytesLaws.{drop-step}
 use Rattle.ascii.specs.NotationLaws.{and-left, and-right}
 use Rattle.texts.specs.declared.line.Line.{Line}
 use Rattle.texts.specs.declared.line.Line.the-variants.{Def, Value, BeginHeader, BeginTrailer, EndHeader, EndTrailer, Component, Message, Field, Group, Use, End, Member, RequiredTag, Unknown}

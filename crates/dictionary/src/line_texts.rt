@@ -21,10 +21,12 @@ pub fn digit_count(n: u32) -> usize
     ensures count { λ count. ⌜ count ≡ digitCount n ⌝ }
     ensures few { λ count. ⌜ count ≤ 10 ⌝ }
 {
+    let digits = 1 + reaches(10, n) + reaches(100, n) + reaches(1000, n);
     if n < 10000 {
-        return 1 + reaches(10, n) + reaches(100, n) + reaches(1000, n);
+        return digits;
     }
-    5
+    digits
+        + 1
         + reaches(100000, n)
         + reaches(1000000, n)
         + reaches(10000000, n)

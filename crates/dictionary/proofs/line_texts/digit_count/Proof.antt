@@ -6,90 +6,97 @@ use borrow.Author.Needs.{needs}
 use Rattle.dictionary.proofs.line_texts.digit_count.Statement.{statement}
 use Rattle.dictionary.proofs.line_texts.digit_count.Tie as tie
 
--- return 1 + reaches(10, n) + reaches(100, n) + reaches(1000, n);
+-- let digits = 1 + reaches(10, n) + reaches(100, n) + reaches(1000, n);
 reaches-requires : tie.Need-reaches-requires
 reaches-requires c κs = search needs
 
-add-result : tie.Need-add-result
-add-result c = search needs
+add-digits : tie.Need-add-digits
+add-digits c = search needs
 
 reaches-requires-2 : tie.Need-reaches-requires-2
 reaches-requires-2 c κs = search needs
 
-add-result-2 : tie.Need-add-result-2
-add-result-2 c = search needs
+add-digits-2 : tie.Need-add-digits-2
+add-digits-2 c = search needs
 
 reaches-requires-3 : tie.Need-reaches-requires-3
 reaches-requires-3 c κs = search needs
 
-add-result-3 : tie.Need-add-result-3
-add-result-3 c = search needs
+add-digits-3 : tie.Need-add-digits-3
+add-digits-3 c = search needs
 
+-- return digits;
 returns : tie.Need-returns
-returns c = (omega (arith, digitCount-small (c .before .before .before .before .args .n) (c .before .before .before .if1 .taken), c .before .before .reaches .ensures .0, c .before .reaches2 .ensures .0, c .reaches3 .ensures .0), omega (arith, c .before .before .reaches .ensures .1, c .before .reaches2 .ensures .1, c .reaches3 .ensures .1))
+returns c = (omega (arith, digitCount-small (c .before .before .before .before .args .n) (c .if1 .taken), c .before .before .before .reaches .ensures .0, c .before .before .reaches2 .ensures .0, c .before .reaches3 .ensures .0), omega (arith, c .before .before .before .reaches .ensures .1, c .before .before .reaches2 .ensures .1, c .before .reaches3 .ensures .1))
 
--- 5 + reaches(100000, n)
+-- digits
+add-result : tie.Need-add-result
+add-result c = search needs
+
+-- + reaches(100000, n)
 reaches-requires-4 : tie.Need-reaches-requires-4
 reaches-requires-4 c κs = search needs
 
-add-result-4 : tie.Need-add-result-4
-add-result-4 c = search needs
+-- digits
+add-result-2 : tie.Need-add-result-2
+add-result-2 c = search needs
 
 -- + reaches(1000000, n)
 reaches-requires-5 : tie.Need-reaches-requires-5
 reaches-requires-5 c κs = search needs
 
--- 5 + reaches(100000, n)
-add-result-5 : tie.Need-add-result-5
-add-result-5 c = search needs
+-- digits
+add-result-3 : tie.Need-add-result-3
+add-result-3 c = search needs
 
 -- + reaches(10000000, n)
 reaches-requires-6 : tie.Need-reaches-requires-6
 reaches-requires-6 c κs = search needs
 
--- 5 + reaches(100000, n)
-add-result-6 : tie.Need-add-result-6
-add-result-6 c = search needs
+-- digits
+add-result-4 : tie.Need-add-result-4
+add-result-4 c = search needs
 
 -- + reaches(100000000, n)
 reaches-requires-7 : tie.Need-reaches-requires-7
 reaches-requires-7 c κs = search needs
 
--- 5 + reaches(100000, n)
-add-result-7 : tie.Need-add-result-7
-add-result-7 c = search needs
+-- digits
+add-result-5 : tie.Need-add-result-5
+add-result-5 c = search needs
 
 -- + reaches(1000000000, n)
 reaches-requires-8 : tie.Need-reaches-requires-8
 reaches-requires-8 c κs = search needs
 
--- 5 + reaches(100000, n)
-add-result-8 : tie.Need-add-result-8
-add-result-8 c = search needs
+-- digits
+add-result-6 : tie.Need-add-result-6
+add-result-6 c = search needs
 
 -- pub fn digit_count(n: u32) -> usize
 returns-2 : tie.Need-returns-2
-returns-2 c = (omega (arith, digitCount-large (c .before .before .before .before .before .before .args .n) (c .before .before .before .before .before .if1 .left) (omega arith), c .before .before .before .before .reaches4 .ensures .0, c .before .before .before .reaches5 .ensures .0, c .before .before .reaches6 .ensures .0, c .before .reaches7 .ensures .0, c .reaches8 .ensures .0), omega (arith, c .before .before .before .before .reaches4 .ensures .1, c .before .before .before .reaches5 .ensures .1, c .before .before .reaches6 .ensures .1, c .before .reaches7 .ensures .1, c .reaches8 .ensures .1))
+returns-2 c = (omega (arith, digitCount-large (c .before .before .before .before .before .before .before .before .before .args .n) (c .before .before .before .before .before .if1 .left) (omega arith), c .before .before .before .before .before .before .before .before .reaches .ensures .0, c .before .before .before .before .before .before .before .reaches2 .ensures .0, c .before .before .before .before .before .before .reaches3 .ensures .0, c .before .before .before .before .reaches4 .ensures .0, c .before .before .before .reaches5 .ensures .0, c .before .before .reaches6 .ensures .0, c .before .reaches7 .ensures .0, c .reaches8 .ensures .0), omega (arith, c .before .before .before .before .before .before .before .before .reaches .ensures .1, c .before .before .before .before .before .before .before .reaches2 .ensures .1, c .before .before .before .before .before .before .reaches3 .ensures .1, c .before .before .before .before .reaches4 .ensures .1, c .before .before .before .reaches5 .ensures .1, c .before .before .reaches6 .ensures .1, c .before .reaches7 .ensures .1, c .reaches8 .ensures .1))
 
 pub digit-count-spec : {M : Type 1} → statement M
 digit-count-spec =
     tie.close
     (tie.spec
     reaches-requires
-    add-result
+    add-digits
     reaches-requires-2
-    add-result-2
+    add-digits-2
     reaches-requires-3
-    add-result-3
+    add-digits-3
     returns
+    add-result
     reaches-requires-4
-    add-result-4
+    add-result-2
     reaches-requires-5
-    add-result-5
+    add-result-3
     reaches-requires-6
-    add-result-6
+    add-result-4
     reaches-requires-7
-    add-result-7
+    add-result-5
     reaches-requires-8
-    add-result-8
+    add-result-6
     returns-2)
