@@ -2,6 +2,7 @@
 -- examples in the one with `Cases`.
 pub mod Records
 pub mod RecordsLaws
+pub mod LettersLaws
 pub mod RecordsCases
 pub mod LineTexts
 pub mod NumeralLaws

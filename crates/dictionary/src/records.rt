@@ -3,11 +3,12 @@ use texts::line::Line;
 use texts::line_parts::Admitted;
 use texts::line_parts::MessageType;
 use texts::line_parts::Number32;
-use texts::line_parts::parse_number;
 ghost use mathlib.Core.Path.{_≡_};
-ghost use Prim.Native.Nat.{_+_, _-_, _≤_};
+ghost use mathlib.Core.Bool.{true};
+ghost use Prim.Native.Nat.{_+_, _*_, _-_, _≤_};
 ghost use lib.ListN.{length, getD, take, drop};
 ghost use Rattle.ascii.specs.Notation.{isBetween};
+ghost use Rattle.ascii.specs.Digits.{isDigit};
 ghost use Rattle.texts.specs.LineParts.{numberOf, isAlphanumeric, isVisible};
 ghost use Rattle.dictionary.specs.Records.{holdsByte, holdsPart, lettersLength, lettersText, holdsLetters, holdsValue, pairOf, pairAt, isUnused, if-unused, defFrom, admittedFrom, valueFrom, messageFrom, fieldFrom, groupFrom, useFrom, endOfLetters, endOfNumber, outerFrom, bodyFrom, lineFrom};
 
@@ -18,6 +19,13 @@ fn is_between(low: u32, high: u32, n: u32) -> bool
     ensures { λ answer. ⌜ answer ≡ isBetween low high n ⌝ }
 {
     low <= n && n <= high
+}
+
+// The Rust's u8::is_ascii_digit, of a byte in a word.
+fn is_digit(byte: u32) -> bool
+    ensures { λ answer. ⌜ answer ≡ isDigit byte ⌝ }
+{
+    is_between(48, 57, byte)
 }
 
 // The Rust's u8::is_ascii_alphanumeric, of a byte in a word.
@@ -31,15 +39,6 @@ fn is_ascii_alphanumeric(byte: u32) -> bool
         return true;
     }
     is_between(97, 122, byte)
-}
-
-fn holds_letter(left: u32, index: u32, byte: u32) -> bool
-    ensures { λ answer. ⌜ answer ≡ holdsByte isAlphanumeric left index byte ⌝ }
-{
-    if index < left {
-        return is_ascii_alphanumeric(byte);
-    }
-    byte == 0
 }
 
 fn holds_visible(left: u32, index: u32, byte: u32) -> bool
@@ -72,17 +71,25 @@ pub fn letters_length(word: u32) -> u32
 fn holds_letters(word: u32) -> bool
     ensures { λ answer. ⌜ answer ≡ holdsLetters word ⌝ }
 {
-    let left = letters_length(word);
-    if !holds_letter(left, 0, word / 0x100_0000) {
+    if !is_ascii_alphanumeric(word / 0x100_0000) {
         return false;
     }
-    if !holds_letter(left, 1, word / 0x1_0000 % 0x100) {
+    if word / 0x1_0000 % 0x100 == 0 {
+        return word / 0x100 % 0x100 == 0 && word % 0x100 == 0;
+    }
+    if !is_ascii_alphanumeric(word / 0x1_0000 % 0x100) {
         return false;
     }
-    if !holds_letter(left, 2, word / 0x100 % 0x100) {
+    if word / 0x100 % 0x100 == 0 {
+        return word % 0x100 == 0;
+    }
+    if !is_ascii_alphanumeric(word / 0x100 % 0x100) {
         return false;
     }
-    holds_letter(left, 3, word % 0x100)
+    if word % 0x100 == 0 {
+        return true;
+    }
+    is_ascii_alphanumeric(word % 0x100)
 }
 
 fn holds_one_visible(word: u32) -> bool
@@ -292,18 +299,51 @@ fn use_from(words: &[u32]) -> Line
     Line::Unknown
 }
 
+// The number with this digit behind it.
+fn with_digit(high: u32, byte: u32) -> u32
+    requires { ⌜ (high ≤ 999) × (isDigit byte ≡ true) ⌝ }
+    ensures number { λ number. ⌜ number ≡ high * 10 + (byte - 48) ⌝ }
+    ensures few { λ number. ⌜ number ≤ high * 10 + 9 ⌝ }
+{
+    high * 10 + (byte - 48)
+}
+
 // The number that the letters of a T make, where they are one.
 fn letters_number(word: u32) -> Number32
     ensures { λ number. ⌜ number ≡ numberOf (lettersText word) ⌝ }
 {
-    let bytes = [
-        (word / 0x100_0000) as u8,
-        (word / 0x1_0000 % 0x100) as u8,
-        (word / 0x100 % 0x100) as u8,
-        (word % 0x100) as u8,
-    ];
-    let len = letters_length(word) as usize;
-    parse_number(&bytes[..len])
+    let first = word / 0x100_0000;
+    if !is_digit(first) {
+        return Number32::NoNumber;
+    }
+    let one = with_digit(0, first);
+    let second = word / 0x1_0000 % 0x100;
+    if second == 0 {
+        return Number32::Number(one);
+    }
+    if first == 48 {
+        return Number32::NoNumber;
+    }
+    if !is_digit(second) {
+        return Number32::NoNumber;
+    }
+    let two = with_digit(one, second);
+    let third = word / 0x100 % 0x100;
+    if third == 0 {
+        return Number32::Number(two);
+    }
+    if !is_digit(third) {
+        return Number32::NoNumber;
+    }
+    let three = with_digit(two, third);
+    let fourth = word % 0x100;
+    if fourth == 0 {
+        return Number32::Number(three);
+    }
+    if !is_digit(fourth) {
+        return Number32::NoNumber;
+    }
+    Number32::Number(with_digit(three, fourth))
 }
 
 fn end_of_letters(words: &[u32]) -> Line
