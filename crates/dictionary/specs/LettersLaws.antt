@@ -4,7 +4,7 @@
 --   secondOf word, thirdOf word, fourthOf word    the letters from the second, third, fourth on
 --   numberBehind high bytes                       the number that `high` makes with the bytes written behind it, where they are digits
 --   NumberSoFar word high bytes                   the letters before the bytes are digits and make `high`
-use mathlib.Core.Path.{_≡_, refl, sym, _∙_}
+use mathlib.Core.Path.{_≡_, refl, _∙_}
 use Prim.Native.Nat.{ℕ, _+_, _*_, _-_, _^_, _<_}
 use mathlib.Core.Bool.{Bool, true, false, _&&_, cond}
 use mathlib.Core.List.{List, [], _∷_}

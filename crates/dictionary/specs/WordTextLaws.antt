@@ -198,6 +198,63 @@ module _ (word : ℕ) where
     unfolding holdsPart holdsByte
     part-one-more some = rw (behind-first-by behindFirst refl, ne-eqb (word % 16777216) 0 some) (and-false (test (byte0 word)))
 
+-- a part of two bytes or more: first the bytes that are there, then 0
+
+low-zero-by : (word : ℕ) (held : Bool) → isZero (byte2 word) && isZero (byte3 word) ≡ held → held ≡ eqb (word % 65536) 0
+low-zero-by word true held =
+    let third = eqb-true (byte2 word) 0 (and-left (isZero (byte2 word)) (isZero (byte3 word)) held) in
+    let fourth = eqb-true (byte3 word) 0 (and-right (isZero (byte2 word)) (isZero (byte3 word)) held) in
+    sym (eq-eqb (word % 65536) 0 (omega arith))
+low-zero-by word false other = sym (ne-eqb (word % 65536) 0 (λ none. false≢true (sym other ∙ all-none none)))
+  where
+    all-none : word % 65536 ≡ 0 → isZero (byte2 word) && isZero (byte3 word) ≡ true
+    all-none none = rw (eq-eqb (byte2 word) 0 (omega arith), eq-eqb (byte3 word) 0 (omega arith))
+
+module _ (test : ℕ → Bool) (left word : ℕ) where
+  pub part-other-first : 1 ≤ left → test (byte0 word) ≡ false → holdsPart test left word ≡ false
+  unfolding holdsPart
+  part-other-first some other = rw (holdsByte-inside test left 0 (byte0 word) some, other)
+
+  module _ (first : test (byte0 word) ≡ true) where
+    pub part-other-second : 2 ≤ left → test (byte1 word) ≡ false → holdsPart test left word ≡ false
+    unfolding holdsPart
+    part-other-second some other = rw (holdsByte-inside test left 0 (byte0 word) (omega arith), first, holdsByte-inside test left 1 (byte1 word) some, other)
+
+    module _ (second : test (byte1 word) ≡ true) where
+      pub part-of-two : left ≡ 2 → holdsPart test left word ≡ eqb (word % 65536) 0
+      unfolding holdsPart holdsByte
+      part-of-two two = rw (two, first, second) (low-zero-by word _ refl)
+
+      pub part-other-third : 3 ≤ left → test (byte2 word) ≡ false → holdsPart test left word ≡ false
+      unfolding holdsPart
+      part-other-third some other =
+          rw (
+            holdsByte-inside test left 0 (byte0 word) (omega arith),
+            first,
+            holdsByte-inside test left 1 (byte1 word) (omega arith),
+            second,
+            holdsByte-inside test left 2 (byte2 word) some,
+            other,
+          )
+
+      module _ (third : test (byte2 word) ≡ true) where
+        pub part-of-three : left ≡ 3 → holdsPart test left word ≡ eqb (word % 256) 0
+        unfolding holdsPart holdsByte
+        part-of-three three = rw (three, first, second, third)
+
+        pub part-of-four : 4 ≤ left → holdsPart test left word ≡ test (byte3 word)
+        unfolding holdsPart
+        part-of-four some =
+            rw (
+              holdsByte-inside test left 0 (byte0 word) (omega arith),
+              first,
+              holdsByte-inside test left 1 (byte1 word) (omega arith),
+              second,
+              holdsByte-inside test left 2 (byte2 word) (omega arith),
+              third,
+              holdsByte-inside test left 3 (byte3 word) some,
+            )
+
 -- four bytes make the word again
 word-of : (bytes : List ℕ) (word : ℕ)
     → getD bytes 0 0 ≡ byte0 word

@@ -10,7 +10,7 @@ ghost use lib.ListN.{length, getD, take, drop};
 ghost use Rattle.ascii.specs.Notation.{isBetween};
 ghost use Rattle.ascii.specs.Digits.{isDigit};
 ghost use Rattle.texts.specs.LineParts.{numberOf, isAlphanumeric, isVisible};
-ghost use Rattle.dictionary.specs.Records.{holdsByte, holdsPart, lettersLength, lettersText, holdsLetters, holdsValue, pairOf, pairAt, isUnused, if-unused, defFrom, admittedFrom, valueFrom, messageFrom, fieldFrom, groupFrom, useFrom, endOfLetters, endOfNumber, outerFrom, bodyFrom, lineFrom};
+ghost use Rattle.dictionary.specs.Records.{holdsPart, lettersLength, lettersText, holdsLetters, holdsValue, pairOf, pairAt, isUnused, if-unused, defFrom, admittedFrom, valueFrom, messageFrom, fieldFrom, groupFrom, useFrom, endOfLetters, endOfNumber, outerFrom, bodyFrom, lineFrom};
 
 // How many words a record has.
 pub const RECORD: usize = 10;
@@ -41,13 +41,10 @@ fn is_ascii_alphanumeric(byte: u32) -> bool
     is_between(97, 122, byte)
 }
 
-fn holds_visible(left: u32, index: u32, byte: u32) -> bool
-    ensures { λ answer. ⌜ answer ≡ holdsByte isVisible left index byte ⌝ }
+fn is_visible(byte: u32) -> bool
+    ensures { λ answer. ⌜ answer ≡ isVisible byte ⌝ }
 {
-    if index < left {
-        return is_between(0x21, 0x7E, byte);
-    }
-    byte == 0
+    is_between(0x21, 0x7E, byte)
 }
 
 // How many letters or digits the T of this word has.
@@ -98,7 +95,7 @@ fn holds_one_visible(word: u32) -> bool
     if word % 0x100_0000 != 0 {
         return false;
     }
-    is_between(0x21, 0x7E, word / 0x100_0000)
+    is_visible(word / 0x100_0000)
 }
 
 fn holds_visible_part(left: u32, word: u32) -> bool
@@ -111,16 +108,22 @@ fn holds_visible_part(left: u32, word: u32) -> bool
     if left == 1 {
         return holds_one_visible(word);
     }
-    if !holds_visible(left, 0, word / 0x100_0000) {
+    if !is_visible(word / 0x100_0000) {
         return false;
     }
-    if !holds_visible(left, 1, word / 0x1_0000 % 0x100) {
+    if !is_visible(word / 0x1_0000 % 0x100) {
         return false;
     }
-    if !holds_visible(left, 2, word / 0x100 % 0x100) {
+    if left == 2 {
+        return word % 0x1_0000 == 0;
+    }
+    if !is_visible(word / 0x100 % 0x100) {
         return false;
     }
-    holds_visible(left, 3, word % 0x100)
+    if left == 3 {
+        return word % 0x100 == 0;
+    }
+    is_visible(word % 0x100)
 }
 
 fn less_four(left: u32) -> u32

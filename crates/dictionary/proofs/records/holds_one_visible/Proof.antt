@@ -11,13 +11,13 @@ use Rattle.dictionary.proofs.records.holds_one_visible.Tie as tie
 returns : tie.Need-returns
 returns c = sym (part-one-more (c .before .args .word) isVisible (c .if1 .taken))
 
--- is_between(0x21, 0x7E, word / 0x100_0000)
-is-between-requires : tie.Need-is-between-requires
-is-between-requires c κs = search needs
+-- is_visible(word / 0x100_0000)
+is-visible-requires : tie.Need-is-visible-requires
+is-visible-requires c κs = search needs
 
 -- fn holds_one_visible(word: u32) -> bool
 returns-2 : tie.Need-returns-2
-returns-2 c = c .is-between .ensures ∙ sym (part-one (c .before .before .args .word) isVisible (c .before .if1 .left))
+returns-2 c = c .is-visible .ensures ∙ sym (part-one (c .before .before .args .word) isVisible (c .before .if1 .left))
 
 pub holds-one-visible-spec : {M : Type 1} → statement M
-holds-one-visible-spec = tie.close (tie.spec returns is-between-requires returns-2)
+holds-one-visible-spec = tie.close (tie.spec returns is-visible-requires returns-2)
