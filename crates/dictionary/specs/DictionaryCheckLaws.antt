@@ -1,6 +1,6 @@
 -- Laws of `DictionaryCheck.antt`: its loops, turn by turn, and its tests, one by one. Assumes nothing.
-use mathlib.Core.Path.{_≡_, refl, sym, _∙_}
-use Prim.Native.Nat.{ℕ, suc, _+_, _*_, _-_, _≤_, _<_}
+use mathlib.Core.Path.{_≡_, refl, sym, ap, _∙_}
+use Prim.Native.Nat.{ℕ, zero, suc, _+_, _*_, _-_, _≤_, _<_}
 use mathlib.Core.Bool.{Bool, true, false, cond}
 use mathlib.Core.List.{List, _∷_}
 use native.Mathlib.Omega.{arith}
@@ -21,8 +21,9 @@ use Rattle.dictionary.specs.LineOrder.{stateOf, standingOf}
 use Rattle.dictionary.specs.LineOrderLaws.{state-again}
 use Rattle.dictionary.specs.declared.line_runs.Run.{Run}
 use Rattle.dictionary.specs.LineRuns.{runBehind}
-use Rattle.dictionary.specs.LineRunsLaws.{acceptsBehind, runBehind-passes}
-use Rattle.dictionary.specs.DictionaryCheck.{isTaken, linesFrom, accepts, countOf, countOne, standsAt, standsEach, isIndex, tagsAt, componentsAt, messagesAt, sizeOf, isDictionary}
+use Rattle.dictionary.specs.LineRunsLaws.{acceptsBehind, runBehind-passes, countOf-step, CountedIn}
+use Rattle.dictionary.specs.DictionaryWords as kinds
+use Rattle.dictionary.specs.DictionaryCheck.{isTaken, linesFrom, accepts, countOf, countOne, Counted, standsAt, standsEach, isIndex, tagsAt, componentsAt, messagesAt, sizeOf, isDictionary}
 
 -- ---- linesFrom
 
@@ -86,12 +87,12 @@ module _ (words : List ℕ) (lines : ℕ) (state : State) (total done at : ℕ) 
             }
 
         -- the run behind the line is passed over
-        module _ (run : Run) (runs : run ≡ runBehind next (lines - done - 1) (drop (at + 10) words)) (inside-too : run .lines ≤ lines - done - 1) where
+        module _ (run : Run) (runs : run ≡ runBehind next (run .lines) (drop (at + 10) words)) (inside-too : run .lines ≤ lines - done - 1) where
           run-passed : total + (len + 1) ≤ 65536
               → accepts start 1 0 (linesFrom lines (drop 4 words)) ≡ acceptsBehind (stateOf next tags) (done + 1 + 1) (total + (len + 1)) (lines - done - 1) (drop (at + 10) words) run
           run-passed few =
               let left : lines - (done + 1) ≡ lines - done - 1 = omega arith in
-              line-goes-on few .rest ∙ rw (left, runs) (runBehind-passes next tags (done + 1 + 1) (total + (len + 1)) (lines - done - 1) (drop (at + 10) words) few)
+              line-goes-on few .rest ∙ rw left (runBehind-passes next tags (done + 1 + 1) (total + (len + 1)) (run .lines) (lines - done - 1) (drop (at + 10) words) inside-too few ∙ rw (← runs))
 
           bytes-together : total + (len + 1) + run .bytes ≡ total + (len + 1 + run .bytes)
           bytes-together = omega arith
@@ -119,53 +120,64 @@ module _ (words : List ℕ) (lines : ℕ) (state : State) (total done at : ℕ) 
                 rest = run-passed (omega arith) ∙ rw (bytes-together, le-leb (total + (len + 1 + run .bytes)) 65536 few, number, left, drop-drop (10 * run .lines) (at + 10) words, behind);
               }
 
--- ---- countOf: the loop of `counts_of`
+-- ---- countOf: what the lines behind define
 
-pub record CountSoFar (kind : ℕ) (words : List ℕ) (lines count done at : ℕ) : Type 0 where
-  pub within : done ≤ lines
-  pub place : at ≡ 4 + 10 * done
-  pub few : count ≤ done
-  pub rest : countOf kind lines (drop 4 words) ≡ count + countOf kind (lines - done) (drop at words)
+few-by : (same : Bool) {rest count : ℕ} → rest ≤ count → cond same (suc rest) rest ≤ suc count
+few-by true few = omega arith
+few-by false few = omega arith
 
-pub count-begins : (kind : ℕ) (words : List ℕ) (lines : ℕ) → CountSoFar kind words lines 0 0 4
-count-begins kind words lines = record {
-  within = omega arith;
-  place = refl;
-  few = omega arith;
-  rest = let all : lines - 0 ≡ lines = omega arith in rw all (omega arith);
-}
+countOf-behind : (kind before after : ℕ) (words : List ℕ) → countOf kind (before + after) words ≡ countOf kind before words + countOf kind after (drop (10 * before) words)
+unfolding countOf
+countOf-behind kind zero after words = let all : 0 + after ≡ after = omega arith in rw all (omega arith)
+countOf-behind kind (suc before) after words =
+    let next : suc before + after ≡ suc (before + after) = omega arith in
+    let place : 10 + 10 * before ≡ 10 * suc before = omega arith in
+    let rest = rw (drop-drop (10 * before) 10 words, place) at (countOf-behind kind before after (drop 10 words)) in
+    ap (λ (count : ℕ). countOf kind count words) next ∙ omega (arith, countOf-step kind (before + after) words, countOf-step kind before words, rest)
 
-module _ (kind : ℕ) (words : List ℕ) (lines count done at : ℕ) (so-far : CountSoFar kind words lines count done at) where
-  pub count-ends : lines ≤ done → count ≡ countOf kind lines (drop 4 words)
-  unfolding countOf
-  count-ends over = let none : lines - done ≡ 0 = omega (arith, so-far .within) in omega (arith, rw none at (so-far .rest))
+pub counted-begins : (words : List ℕ) → Counted 0 words 0 0 0
+unfolding countOf
+counted-begins words = record { of-tags = refl; of-components = refl; of-messages = refl }
 
-  module _ (inside : done < lines) where
-    first-word : getD (drop at words) 0 0 ≡ getD words at 0
-    first-word = let same : at + 0 ≡ at = omega arith in getD-drop at words 0 0 ∙ rw same
+module _ (words : List ℕ) (done at : ℕ) (place : at ≡ 4 + 10 * done) (run : Run) where
+  counted-more : (kind : ℕ)
+      → countOf kind (done + (1 + run .lines)) (drop 4 words) ≡ countOf kind done (drop 4 words) + (countOne (getD words at 0) kind + countOf kind (run .lines) (drop (at + 10) words))
+  counted-more kind =
+      let next : 1 + run .lines ≡ suc (run .lines) = omega arith in
+      let here : drop (10 * done) (drop 4 words) ≡ drop at words = drop-drop (10 * done) 4 words ∙ rw place in
+      let same : at + 0 ≡ at = omega arith in
+      let first-word : getD (drop at words) 0 0 ≡ getD words at 0 = getD-drop at words 0 0 ∙ rw same in
+      countOf-behind kind done (1 + run .lines) (drop 4 words) ∙ rw (here, next, countOf-step kind (run .lines) (drop at words), first-word, drop-drop 10 at words)
 
-    count-adds : getD words at 0 ≡ kind → CountSoFar kind words lines (count + 1) (done + 1) (at + 10)
-    unfolding countOf
-    count-adds same =
-        let more : lines - done ≡ suc (lines - (done + 1)) = omega arith in
-        let step : countOf kind (lines - done) (drop at words) ≡ suc (countOf kind (lines - (done + 1)) (drop (at + 10) words)) =
-        rw (more, first-word, eq-eqb (getD words at 0) kind same, drop-drop 10 at words) in
-        record { within = omega arith; place = omega (arith, so-far .place); few = omega (arith, so-far .few); rest = omega (arith, so-far .rest) }
+  pub counted-goes-on : (tags components messages : ℕ) → Counted done (drop 4 words) tags components messages → CountedIn run (drop (at + 10) words)
+      → (tag component message : ℕ)
+      → tag ≡ countOne (getD words at 0) kinds.definitions
+      → component ≡ countOne (getD words at 0) kinds.components
+      → message ≡ countOne (getD words at 0) kinds.messages
+      → Counted (done + (1 + run .lines)) (drop 4 words) (tags + (tag + run .tags)) (components + component) (messages + message)
+  counted-goes-on tags components messages counted behind tag component message of-tag of-component of-message = record {
+    of-tags = omega (arith, counted-more kinds.definitions, counted .of-tags, behind .of-tags);
+    of-components = omega (arith, counted-more kinds.components, counted .of-components, behind .of-components);
+    of-messages = omega (arith, counted-more kinds.messages, counted .of-messages, behind .of-messages);
+  }
 
-    count-skips : (getD words at 0 ≡ kind → ⊥) → CountSoFar kind words lines count (done + 1) (at + 10)
-    unfolding countOf
-    count-skips other =
-        let more : lines - done ≡ suc (lines - (done + 1)) = omega arith in
-        let step : countOf kind (lines - done) (drop at words) ≡ countOf kind (lines - (done + 1)) (drop (at + 10) words) =
-        rw (more, first-word, ne-eqb (getD words at 0) kind other, drop-drop 10 at words) in
-        record { within = omega arith; place = omega (arith, so-far .place); few = omega (arith, so-far .few); rest = omega (arith, so-far .rest) }
+countOf-few : (kind count : ℕ) (words : List ℕ) → countOf kind count words ≤ count
+unfolding countOf
+countOf-few kind zero words = omega arith
+countOf-few kind (suc count) words = few-by (eqb (getD words 0 0) kind) (countOf-few kind count (drop 10 words))
 
-    count-step-by : (same : Bool) → eqb (getD words at 0) kind ≡ same → CountSoFar kind words lines (count + cond same 1 0) (done + 1) (at + 10)
-    count-step-by true same = count-adds (eqb-true (getD words at 0) kind same)
-    count-step-by false other = let none : count + 0 ≡ count = omega arith in rw none (count-skips (eqb-false (getD words at 0) kind other))
+module _ (words : List ℕ) (lines tags components messages : ℕ) (counted : Counted lines words tags components messages) where
+  pub counted-few : (tags ≤ lines) × ((components ≤ lines) × (messages ≤ lines))
+  counted-few = (
+    omega (arith, counted .of-tags, countOf-few kinds.definitions lines words),
+    (
+      omega (arith, counted .of-components, countOf-few kinds.components lines words),
+      omega (arith, counted .of-messages, countOf-few kinds.messages lines words),
+    ),
+  )
 
-    pub count-step : (one : ℕ) → one ≡ countOne (getD words at 0) kind → CountSoFar kind words lines (count + one) (done + 1) (at + 10)
-    count-step one counts = rw counts (count-step-by (eqb (getD words at 0) kind) refl)
+  pub counted-ends : (all : ℕ) → lines ≤ all → all ≤ lines → Counted all words tags components messages
+  counted-ends all within over = let same : all ≡ lines = omega arith in rw same counted
 
 -- ---- standsEach: the loop of `stands_each`
 

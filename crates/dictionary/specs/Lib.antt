@@ -17,6 +17,8 @@ pub mod LineOrder
 pub mod LineOrderLaws
 pub mod LineRuns
 pub mod LineRunsLaws
+pub mod ShortRuns
+pub mod ShortRunsLaws
 pub mod DictionaryCheckLaws
 pub mod Definitions
 pub mod DictionaryCases

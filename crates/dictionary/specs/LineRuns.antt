@@ -12,6 +12,8 @@ use Rattle.ascii.specs.Notation.{_≡ᵇ_, if_then_else_}
 use Rattle.texts.specs.DictionaryOrder as order
 use Rattle.dictionary.specs.Records.{defFrom, valueFrom, fieldFrom}
 use Rattle.dictionary.specs.LineTexts.{lengthOf}
+use Rattle.dictionary.specs.DictionaryWords as kinds
+use Rattle.dictionary.specs.DictionaryCheck.{countOne}
 use Rattle.dictionary.specs.declared.line_order.Standing.{Standing}
 use Rattle.dictionary.specs.declared.line_runs.Run.{Run}
 
@@ -23,11 +25,11 @@ runLength true record′ =
 runLength false record′ = if getD record′ 0 0 ≡ᵇ 7 then lengthOf (fieldFrom record′) else 0
 
 abbrev pub noRun : Run
-noRun = record { lines = 0; bytes = 0 }
+noRun = record { lines = 0; bytes = 0; tags = 0 }
 
--- a run behind so many lines and bytes
-abbrev pub behindLines : ℕ → ℕ → Run → Run
-behindLines lines bytes run = record { lines = lines + run .lines; bytes = bytes + run .bytes }
+-- a run behind a line with so many bytes, which defines so many tags
+abbrev pub behindLine : ℕ → ℕ → Run → Run
+behindLine bytes tags run = record { lines = 1 + run .lines; bytes = bytes + run .bytes; tags = tags + run .tags }
 
 unfoldable pub runOf : Bool → ℕ → List ℕ → Run
 runOf definitions zero words = noRun
@@ -35,7 +37,7 @@ runOf definitions (suc count) words =
     let len = runLength definitions (take 10 words) in
     if len ≡ᵇ 0
     then noRun
-    else behindLines 1 (len + 1) (runOf definitions count (drop 10 words))
+    else behindLine (len + 1) (countOne (getD words 0 0) kinds.definitions) (runOf definitions count (drop 10 words))
 
 -- definitions are being read, and a further one leaves the standing as it is
 unfoldable pub isAmongDefinitions : Standing → Bool

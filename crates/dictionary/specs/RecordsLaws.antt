@@ -90,7 +90,7 @@ module _ (used : ℕ) (words : List ℕ) (ten : length words ≡ 10) where
 
 -- ---- isUnused: words that are read two at a time
 
-or-none : (a b : ℕ) → bitOr a b ≡ 0 → (a ≡ 0) × (b ≡ 0)
+pub or-none : (a b : ℕ) → bitOr a b ≡ 0 → (a ≡ 0) × (b ≡ 0)
 or-none a b none =
     let together = or-add-and a b in
     let first = and-le-l a b in

@@ -1,6 +1,7 @@
 // The check of lent words: whether they begin with the arrangement of an accepted dictionary.
 use crate::line_order::Standing;
 use crate::line_order::next_standing;
+use crate::line_runs::count_one;
 use crate::line_runs::run_behind;
 use crate::line_texts::length_of;
 use crate::records::line_at;
@@ -10,11 +11,12 @@ use texts::dictionary_order::BEHIND_MESSAGE;
 use texts::dictionary_order::BEHIND_TRAILER;
 use texts::dictionary_order::NO_BODY;
 ghost use mathlib.Core.Path.{_≡_};
+ghost use mathlib.Core.Bool.{true, false};
 ghost use Prim.Native.Nat.{_+_, _*_, _≤_};
 ghost use lib.ListN.{length, getD, drop};
 ghost use Rattle.ascii.specs.Notation.{isBetween};
 ghost use Rattle.texts.specs.DictionaryOrder.{start, behindTrailer, behindMessage};
-ghost use Rattle.dictionary.specs.DictionaryCheck.{linesFrom, accepts, countOf, countOne, Counted, standsAt, standsEach, isIndex, isDictionary};
+ghost use Rattle.dictionary.specs.DictionaryCheck.{linesFrom, accepts, countOf, Counted, standsAt, standsEach, isIndex, isDictionary};
 
 // A text may end here: behind its trailer, and with no block open.
 fn may_end(stage: u8) -> bool
@@ -26,10 +28,30 @@ fn may_end(stage: u8) -> bool
     stage <= BEHIND_MESSAGE
 }
 
-// The lines of so many records are those of an accepted text, but for what is defined again.
-fn is_accepted(words: &[u32], lines: usize) -> bool
+// Whether the lines of records are those of an accepted text, but for what is defined again. If so, how many of them define a tag, a component, a message.
+struct LinesRead {
+    accepted: bool,
+    tags: usize,
+    components: usize,
+    messages: usize,
+}
+
+fn not_accepted() -> LinesRead
+    ensures { λ read. ⌜ read .accepted ≡ false ⌝ }
+{
+    LinesRead {
+        accepted: false,
+        tags: 0,
+        components: 0,
+        messages: 0,
+    }
+}
+
+// Reads the lines of so many records.
+fn read_lines(words: &[u32], lines: usize) -> LinesRead
     requires { ⌜ (lines ≤ 4294967295) × (4 + 10 * lines ≤ length (now words)) ⌝ }
-    ensures { λ answer. ⌜ answer ≡ accepts start 1 0 (linesFrom lines (drop 4 (now (words .entry)))) ⌝ }
+    ensures accepted { λ read. ⌜ read .accepted ≡ accepts start 1 0 (linesFrom lines (drop 4 (now (words .entry)))) ⌝ }
+    ensures counts { λ read. ⌜ (read .accepted ≡ true → Counted lines (drop 4 (now (words .entry))) (read .tags) (read .components) (read .messages)) ⌝ }
 {
     let mut counts = [0u32; 40];
     let mut standing = Standing {
@@ -40,60 +62,32 @@ fn is_accepted(words: &[u32], lines: usize) -> bool
         depth: 0,
     };
     let mut total: usize = 0;
+    let mut tags: usize = 0;
+    let mut components: usize = 0;
+    let mut messages: usize = 0;
     let mut done: usize = 0;
     let mut at: usize = 4;
     while done < lines {
         let line = line_at(words, at);
         let next = next_standing(standing, &mut counts, line);
         if !next.taken {
-            return false;
+            return not_accepted();
         }
         let run = run_behind(next, lines - done - 1, words, at + 10);
         total += length_of(line) + 1 + run.bytes;
         if 65536 < total {
-            return false;
+            return not_accepted();
         }
+        let kind = words[at];
+        tags += count_one(kind, 1) + run.tags;
+        components += count_one(kind, 5);
+        messages += count_one(kind, 6);
         standing = next;
         done += 1 + run.lines;
         at += 10 + 10 * run.lines;
     }
-    may_end(standing.stage)
-}
-
-// How many records define a tag, a component, a message.
-struct Counts {
-    tags: u32,
-    components: u32,
-    messages: u32,
-}
-
-// 1 for a record of this kind.
-fn count_one(found: u32, kind: u32) -> u32
-    ensures one { λ one. ⌜ one ≡ countOne found kind ⌝ }
-    ensures few { λ one. ⌜ one ≤ 1 ⌝ }
-{
-    if found == kind { 1 } else { 0 }
-}
-
-// How many of so many records are definitions, components and messages.
-fn counts_of(words: &[u32], lines: usize) -> Counts
-    requires { ⌜ (lines ≤ 4294967295) × (4 + 10 * lines ≤ length (now words)) ⌝ }
-    ensures { λ counts. ⌜ Counted lines (drop 4 (now (words .entry))) (counts .tags) (counts .components) (counts .messages) ⌝ }
-{
-    let mut tags: u32 = 0;
-    let mut components: u32 = 0;
-    let mut messages: u32 = 0;
-    let mut done: usize = 0;
-    let mut at: usize = 4;
-    while done < lines {
-        let found = words[at];
-        tags += count_one(found, 1);
-        components += count_one(found, 5);
-        messages += count_one(found, 6);
-        done += 1;
-        at += 10;
-    }
-    Counts {
+    LinesRead {
+        accepted: may_end(standing.stage),
         tags,
         components,
         messages,
@@ -134,12 +128,12 @@ fn stands_each(words: &[u32], kind: u32, at: usize, count: usize) -> bool
 }
 
 // The index at this place has the names of all records of this kind, each once, and where they stand.
-fn is_index(words: &[u32], kind: u32, at: usize, count: usize, counted: u32) -> bool
+fn is_index(words: &[u32], kind: u32, at: usize, count: usize, counted: usize) -> bool
     requires { ⌜ (4 ≤ length (now words)) × ((4 + 10 * getD (now words) 0 0 ≤ length (now words)) × (at + 2 * count ≤ length (now words))) ⌝ }
     requires counted { ⌜ counted ≡ countOf kind (getD (now words) 0 0) (drop 4 (now words)) ⌝ }
     ensures { λ answer. ⌜ answer ≡ isIndex kind at count (now (words .entry)) ⌝ }
 {
-    if counted as usize != count {
+    if counted != count {
         return false;
     }
     let past = at + count;
@@ -167,15 +161,15 @@ pub fn is_dictionary(words: &[u32]) -> bool
     if words.len() < size {
         return false;
     }
-    if !is_accepted(words, lines) {
+    let read = read_lines(words, lines);
+    if !read.accepted {
         return false;
     }
-    let counts = counts_of(words, lines);
-    if !is_index(words, 1, tags_at, tags, counts.tags) {
+    if !is_index(words, 1, tags_at, tags, read.tags) {
         return false;
     }
-    if !is_index(words, 5, components_at, components, counts.components) {
+    if !is_index(words, 5, components_at, components, read.components) {
         return false;
     }
-    is_index(words, 6, messages_at, messages, counts.messages)
+    is_index(words, 6, messages_at, messages, read.messages)
 }

@@ -5,20 +5,34 @@ use crate::line_texts::type_length;
 use crate::records::RECORD;
 use crate::records::holds_value_in;
 use crate::records::is_short;
+use crate::short_runs::are_short;
+use crate::short_runs::short_definitions;
+use crate::short_runs::short_fields;
 use texts::dictionary_order::DEFINITIONS;
 use texts::dictionary_order::FIELDS;
 use texts::dictionary_order::NO_BODY;
 ghost use mathlib.Core.Path.{_≡_};
+ghost use mathlib.Core.Bool.{true, false};
 ghost use Prim.Native.Nat.{_+_, _*_, _≤_};
 ghost use lib.ListN.{length, drop};
 ghost use Rattle.dictionary.specs.Records.{defFrom, valueFrom, fieldFrom};
 ghost use Rattle.dictionary.specs.LineTexts.{lengthOf};
+ghost use Rattle.dictionary.specs.DictionaryCheck.{countOne};
 ghost use Rattle.dictionary.specs.LineRuns.{runLength, runOf, isAmongDefinitions, runBehind};
 
-// How many lines stand in the run, and how many bytes they have with their line feeds.
+// How many lines stand in the run, how many bytes they have with their line feeds, and how many of them define a tag.
 pub struct Run {
     pub lines: usize,
     pub bytes: usize,
+    pub tags: usize,
+}
+
+// 1 for a record of this kind.
+pub fn count_one(found: u32, kind: u32) -> usize
+    ensures one { λ one. ⌜ one ≡ countOne found kind ⌝ }
+    ensures few { λ one. ⌜ one ≤ 1 ⌝ }
+{
+    if found == kind { 1 } else { 0 }
 }
 
 // How long the `def` line of the record is, 0 where it has none.
@@ -88,26 +102,54 @@ fn run_length(definitions: bool, words: &[u32]) -> usize
     0
 }
 
-// The run at the head of the `count` records that begin at this place.
+// A run of at most `count` records that begin at this place.
 fn run_of(definitions: bool, count: usize, words: &[u32], first: usize) -> Run
     requires { ⌜ (count ≤ 4294967295) × (first + 10 * count ≤ length (now words)) ⌝ }
-    ensures run { λ run. ⌜ run ≡ runOf definitions count (drop first (now (words .entry))) ⌝ }
-    ensures few { λ run. ⌜ (run .lines ≤ count) × (run .bytes ≤ 271 * run .lines) ⌝ }
+    ensures run { λ run. ⌜ run ≡ runOf definitions (run .lines) (drop first (now (words .entry))) ⌝ }
+    ensures few { λ run. ⌜ (run .lines ≤ count) × ((run .bytes ≤ 271 * run .lines) × (run .tags ≤ run .lines)) ⌝ }
 {
     let mut lines: usize = 0;
     let mut bytes: usize = 0;
+    let mut tags: usize = 0;
     let mut at = first;
     while lines < count {
         let past = at + RECORD;
         let len = run_length(definitions, &words[at..past]);
         if len == 0 {
-            return Run { lines, bytes };
+            return Run { lines, bytes, tags };
         }
         lines += 1;
         bytes += len + 1;
+        tags += count_one(words[at], 1);
         at += 10;
     }
-    Run { lines, bytes }
+    Run { lines, bytes, tags }
+}
+
+// A run of definitions.
+fn definitions_run(count: usize, words: &[u32], first: usize) -> Run
+    requires { ⌜ (count ≤ 4294967295) × (first + 10 * count ≤ length (now words)) ⌝ }
+    ensures run { λ run. ⌜ run ≡ runOf true (run .lines) (drop first (now (words .entry))) ⌝ }
+    ensures few { λ run. ⌜ (run .lines ≤ count) × ((run .bytes ≤ 271 * run .lines) × (run .tags ≤ run .lines)) ⌝ }
+{
+    let run = short_definitions(count, words, first);
+    if are_short(run.lines, words, first) {
+        return run;
+    }
+    run_of(true, count, words, first)
+}
+
+// A run of fields.
+fn fields_run(count: usize, words: &[u32], first: usize) -> Run
+    requires { ⌜ (count ≤ 4294967295) × (first + 10 * count ≤ length (now words)) ⌝ }
+    ensures run { λ run. ⌜ run ≡ runOf false (run .lines) (drop first (now (words .entry))) ⌝ }
+    ensures few { λ run. ⌜ (run .lines ≤ count) × ((run .bytes ≤ 271 * run .lines) × (run .tags ≤ run .lines)) ⌝ }
+{
+    let run = short_fields(count, words, first);
+    if are_short(run.lines, words, first) {
+        return run;
+    }
+    run_of(false, count, words, first)
 }
 
 // Definitions are being read, and a further one leaves the standing as it is.
@@ -126,17 +168,21 @@ fn is_among_definitions(standing: Standing) -> bool
     standing.depth == 0
 }
 
-// The run at the head of these records that leaves this standing as it is.
+// A run at the head of these records that leaves this standing as it is.
 pub fn run_behind(standing: Standing, count: usize, words: &[u32], first: usize) -> Run
     requires { ⌜ (count ≤ 4294967295) × (first + 10 * count ≤ length (now words)) ⌝ }
-    ensures run { λ run. ⌜ run ≡ runBehind standing count (drop first (now (words .entry))) ⌝ }
-    ensures few { λ run. ⌜ (run .lines ≤ count) × (run .bytes ≤ 271 * run .lines) ⌝ }
+    ensures run { λ run. ⌜ run ≡ runBehind standing (run .lines) (drop first (now (words .entry))) ⌝ }
+    ensures few { λ run. ⌜ (run .lines ≤ count) × ((run .bytes ≤ 271 * run .lines) × (run .tags ≤ run .lines)) ⌝ }
 {
     if is_among_definitions(standing) {
-        return run_of(true, count, words, first);
+        return definitions_run(count, words, first);
     }
     if standing.part == FIELDS {
-        return run_of(false, count, words, first);
+        return fields_run(count, words, first);
     }
-    Run { lines: 0, bytes: 0 }
+    Run {
+        lines: 0,
+        bytes: 0,
+        tags: 0,
+    }
 }

@@ -72,41 +72,37 @@ add-size c = omega (arith, c .before .before .before .before .before .shared-sli
 returns-2 : tie.Need-returns-2
 returns-2 c = sym (dictionary-short _ (c .before .before .before .before .before .if1 .left) (c .if2 .taken))
 
--- if !is_accepted(words, lines) {
-is-accepted-requires : tie.Need-is-accepted-requires
-is-accepted-requires c κs = (omega (arith, c .before .before .before .before .before .before .shared-slice-known .given 0), omega arith)
+-- let read = read_lines(words, lines);
+read-lines-requires : tie.Need-read-lines-requires
+read-lines-requires c κs = (omega (arith, c .before .before .before .before .before .before .shared-slice-known .given 0), omega arith)
 
 -- return false;
 returns-3 : tie.Need-returns-3
-returns-3 c = sym (dictionary-disordered (c .before .before .before .before .before .before .before .before .before .args .words .now) (c .before .before .before .before .before .before .before .if1 .left) (c .before .before .if2 .left) _ (c .before .is-accepted .ensures) (not-true _ (c .if3 .taken)))
+returns-3 c = sym (dictionary-disordered (c .before .before .before .before .before .before .before .before .before .before .args .words .now) (c .before .before .before .before .before .before .before .before .if1 .left) (c .before .before .before .if2 .left) _ (c .before .before .read-lines .ensures .0) (not-true _ (c .if3 .taken)))
 
--- let counts = counts_of(words, lines);
-counts-of-requires : tie.Need-counts-of-requires
-counts-of-requires c κs = (omega (arith, c .before .before .before .before .before .before .before .before .shared-slice-known .given 0), omega arith)
-
--- if !is_index(words, 1, tags_at, tags, counts.tags) {
+-- if !is_index(words, 1, tags_at, tags, read.tags) {
 is-index-requires : tie.Need-is-index-requires
-is-index-requires c κs = ((omega arith, (omega arith, omega arith)), c .counts-of .ensures .of-tags)
+is-index-requires c κs = ((omega arith, (omega arith, omega arith)), c .before .before .read-lines .ensures .1 (not-false _ (c .if3 .left)) .of-tags)
 
 -- return false;
 returns-4 : tie.Need-returns-4
-returns-4 c = sym (dictionary-tags (c .before .before .before .before .before .before .before .before .before .before .before .before .args .words .now) (c .before .before .before .before .before .before .before .before .before .before .if1 .left) (c .before .before .before .before .before .if2 .left) _ (c .before .before .before .before .is-accepted .ensures) (not-false _ (c .before .before .before .if3 .left)) _ (c .before .is-index .ensures) (not-true _ (c .if4 .taken)))
+returns-4 c = sym (dictionary-tags (c .before .before .before .before .before .before .before .before .before .before .before .before .args .words .now) (c .before .before .before .before .before .before .before .before .before .before .if1 .left) (c .before .before .before .before .before .if2 .left) _ (c .before .before .before .before .read-lines .ensures .0) (not-false _ (c .before .before .if3 .left)) _ (c .before .is-index .ensures) (not-true _ (c .if4 .taken)))
 
--- if !is_index(words, 5, components_at, components, counts.components) {
+-- if !is_index(words, 5, components_at, components, read.components) {
 is-index-requires-2 : tie.Need-is-index-requires-2
-is-index-requires-2 c κs = ((omega arith, (omega arith, omega arith)), c .before .before .counts-of .ensures .of-components)
+is-index-requires-2 c κs = ((omega arith, (omega arith, omega arith)), c .before .before .before .before .read-lines .ensures .1 (not-false _ (c .before .before .if3 .left)) .of-components)
 
 -- return false;
 returns-5 : tie.Need-returns-5
-returns-5 c = sym (dictionary-components (c .before .before .before .before .before .before .before .before .before .before .before .before .before .before .args .words .now) (c .before .before .before .before .before .before .before .before .before .before .before .before .if1 .left) (c .before .before .before .before .before .before .before .if2 .left) _ (c .before .before .before .before .before .before .is-accepted .ensures) (not-false _ (c .before .before .before .before .before .if3 .left)) _ (c .before .before .before .is-index .ensures) (not-false _ (c .before .before .if4 .left)) _ (c .before .is-index2 .ensures) (not-true _ (c .if5 .taken)))
+returns-5 c = sym (dictionary-components (c .before .before .before .before .before .before .before .before .before .before .before .before .before .before .args .words .now) (c .before .before .before .before .before .before .before .before .before .before .before .before .if1 .left) (c .before .before .before .before .before .before .before .if2 .left) _ (c .before .before .before .before .before .before .read-lines .ensures .0) (not-false _ (c .before .before .before .before .if3 .left)) _ (c .before .before .before .is-index .ensures) (not-false _ (c .before .before .if4 .left)) _ (c .before .is-index2 .ensures) (not-true _ (c .if5 .taken)))
 
--- is_index(words, 6, messages_at, messages, counts.messages)
+-- is_index(words, 6, messages_at, messages, read.messages)
 is-index-requires-3 : tie.Need-is-index-requires-3
-is-index-requires-3 c κs = ((omega arith, (omega arith, omega arith)), c .before .before .before .before .counts-of .ensures .of-messages)
+is-index-requires-3 c κs = ((omega arith, (omega arith, omega arith)), c .before .before .before .before .before .before .read-lines .ensures .1 (not-false _ (c .before .before .before .before .if3 .left)) .of-messages)
 
 -- pub fn is_dictionary(words: &[u32]) -> bool
 returns-6 : tie.Need-returns-6
-returns-6 c = c .is-index3 .ensures ∙ sym (dictionary-messages (c .before .before .before .before .before .before .before .before .before .before .before .before .before .before .before .args .words .now) (c .before .before .before .before .before .before .before .before .before .before .before .before .before .if1 .left) (c .before .before .before .before .before .before .before .before .if2 .left) _ (c .before .before .before .before .before .before .before .is-accepted .ensures) (not-false _ (c .before .before .before .before .before .before .if3 .left)) _ (c .before .before .before .before .is-index .ensures) (not-false _ (c .before .before .before .if4 .left)) _ (c .before .before .is-index2 .ensures) (not-false _ (c .before .if5 .left)))
+returns-6 c = c .is-index3 .ensures ∙ sym (dictionary-messages (c .before .before .before .before .before .before .before .before .before .before .before .before .before .before .before .args .words .now) (c .before .before .before .before .before .before .before .before .before .before .before .before .before .if1 .left) (c .before .before .before .before .before .before .before .before .if2 .left) _ (c .before .before .before .before .before .before .before .read-lines .ensures .0) (not-false _ (c .before .before .before .before .before .if3 .left)) _ (c .before .before .before .before .is-index .ensures) (not-false _ (c .before .before .before .if4 .left)) _ (c .before .before .is-index2 .ensures) (not-false _ (c .before .if5 .left)))
 
 pub is-dictionary-spec : {M : Type 1} → statement M
 is-dictionary-spec =
@@ -130,9 +126,8 @@ is-dictionary-spec =
     mul-size
     add-size
     returns-2
-    is-accepted-requires
+    read-lines-requires
     returns-3
-    counts-of-requires
     is-index-requires
     returns-4
     is-index-requires-2

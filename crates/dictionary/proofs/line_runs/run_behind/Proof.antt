@@ -12,34 +12,34 @@ use Rattle.dictionary.proofs.line_runs.run_behind.Tie as tie
 is-among-definitions-requires : tie.Need-is-among-definitions-requires
 is-among-definitions-requires c κs = search needs
 
--- return run_of(true, count, words, first);
-run-of-requires : tie.Need-run-of-requires
-run-of-requires c κs = search needs
+-- return definitions_run(count, words, first);
+definitions-run-requires : tie.Need-definitions-run-requires
+definitions-run-requires c κs = search needs
 
 returns : tie.Need-returns
 unfolding runBehind
-returns c = (rw (sym (c .before .before .is-among-definitions .ensures) ∙ c .before .if1 .taken) (c .run-of .ensures .0), c .run-of .ensures .1)
+returns c = (rw (sym (c .before .before .is-among-definitions .ensures) ∙ c .before .if1 .taken) (c .definitions-run .ensures .0), c .definitions-run .ensures .1)
 
--- return run_of(false, count, words, first);
-run-of-requires-2 : tie.Need-run-of-requires-2
-run-of-requires-2 c κs = search needs
+-- return fields_run(count, words, first);
+fields-run-requires : tie.Need-fields-run-requires
+fields-run-requires c κs = search needs
 
 returns-2 : tie.Need-returns-2
 unfolding runBehind
-returns-2 c = (rw (sym (c .before .before .before .before .is-among-definitions .ensures) ∙ c .before .before .before .if1 .left, eq-eqb _ _ (c .before .if2 .taken)) (c .run-of2 .ensures .0), c .run-of2 .ensures .1)
+returns-2 c = (rw (sym (c .before .before .before .before .is-among-definitions .ensures) ∙ c .before .before .before .if1 .left, eq-eqb _ _ (c .before .if2 .taken)) (c .fields-run .ensures .0), c .fields-run .ensures .1)
 
 -- pub fn run_behind(standing: Standing, count: usize, words: &[u32], first: usize) -> Run
 returns-3 : tie.Need-returns-3
 unfolding runBehind
-returns-3 c = (rw (sym (c .before .before .before .is-among-definitions .ensures) ∙ c .before .before .if1 .left, ne-eqb _ _ (c .if2 .left)), (omega arith, omega arith))
+returns-3 c = (rw (sym (c .before .before .before .is-among-definitions .ensures) ∙ c .before .before .if1 .left, ne-eqb _ _ (c .if2 .left)), (omega arith, (omega arith, omega arith)))
 
 pub run-behind-spec : {M : Type 1} → statement M
 run-behind-spec =
     tie.close
     (tie.spec
     is-among-definitions-requires
-    run-of-requires
+    definitions-run-requires
     returns
-    run-of-requires-2
+    fields-run-requires
     returns-2
     returns-3)
