@@ -1,15 +1,16 @@
 -- Laws of `DictionaryCheck.antt`: its loops, turn by turn, and its tests, one by one. Assumes nothing.
 use mathlib.Core.Path.{_≡_, refl, sym, ap, _∙_}
 use Prim.Native.Nat.{ℕ, zero, suc, _+_, _*_, _-_, _≤_, _<_}
-use mathlib.Core.Bool.{Bool, true, false, cond}
-use mathlib.Core.List.{List, _∷_}
+use mathlib.Core.Bool.{Bool, true, false, cond, _&&_}
+use mathlib.Core.List.{List, [], _∷_}
 use native.Mathlib.Omega.{arith}
+use native.Mathlib.Numerals.{add-one}
 use lib.Dec.{leb, eqb}
 use lib.ListN.{length, getD, take, drop}
-use lib.Seq.{drop-drop, getD-drop}
+use lib.Seq.{drop-drop, drop-cons, getD-drop}
 use borrow.Author.Tests.{le-leb, lt-leb, leb-true, leb-false, eq-eqb, ne-eqb, eqb-true, eqb-false}
 use Rattle.ascii.specs.Notation.{isBetween}
-use Rattle.sorting.specs.Search.{isStrictlyAscending}
+use Rattle.sorting.specs.Search.{isStrictlyAbove, isStrictlyAscending}
 use Rattle.texts.specs.declared.line.Line.{Line}
 use Rattle.texts.specs.declared.dictionary_order.State.{State}
 use Rattle.texts.specs.DictionaryOrder.{start, stepOf, behindTrailer, behindMessage}
@@ -179,35 +180,80 @@ module _ (words : List ℕ) (lines tags components messages : ℕ) (counted : Co
   pub counted-ends : (all : ℕ) → lines ≤ all → all ≤ lines → Counted all words tags components messages
   counted-ends all within over = let same : all ≡ lines = omega arith in rw same counted
 
--- ---- standsEach: the loop of `stands_each`
+-- ---- standsEach: the loop of `stands_in_order`
 
-pub record StandsSoFar (kind count at : ℕ) (words : List ℕ) (place : ℕ) : Type 0 where
+-- the words ascend strictly, and none is below `lowest`
+unfoldable pub ascendsFrom : ℕ → List ℕ → Bool
+ascendsFrom lowest [] = true
+ascendsFrom lowest (word ∷ rest) = leb lowest word && ascendsFrom (word + 1) rest
+
+above-from : (low : ℕ) (words : List ℕ) → isStrictlyAbove low words ≡ ascendsFrom (low + 1) words
+unfolding isStrictlyAbove ascendsFrom
+above-from low [] = refl
+above-from low (word ∷ rest) = rw (above-from word rest, add-one low)
+
+ascending-from : (words : List ℕ) → isStrictlyAscending words ≡ ascendsFrom 0 words
+unfolding isStrictlyAscending ascendsFrom
+ascending-from [] = refl
+ascending-from (word ∷ rest) = rw (le-leb 0 word (omega arith)) (above-from word rest)
+
+-- the names before `place` ascend and stand where the index says, and the next one is not to be below `lowest`
+pub record InOrderSoFar (kind count at : ℕ) (words : List ℕ) (place lowest : ℕ) : Type 0 where
   pub from : at ≤ place
   pub within : place ≤ at + count
-  pub rest : standsEach kind count at count words ≡ standsEach kind count place (at + count - place) words
+  pub rest : (isStrictlyAscending (take count (drop at words)) && standsEach kind count at count words)
+      ≡ (ascendsFrom lowest (take (at + count - place) (drop place words)) && standsEach kind count place (at + count - place) words)
 
-pub stands-begins : (kind count at : ℕ) (words : List ℕ) → StandsSoFar kind count at words at
-stands-begins kind count at words = record {
+pub order-begins : (kind count at : ℕ) (words : List ℕ) → InOrderSoFar kind count at words at 0
+order-begins kind count at words = record {
   from = omega arith;
   within = omega arith;
-  rest = let all : at + count - at ≡ count = omega arith in rw all;
+  rest = let all : at + count - at ≡ count = omega arith in rw (all, ascending-from (take count (drop at words)));
 }
 
-module _ (kind count at : ℕ) (words : List ℕ) (place : ℕ) (so-far : StandsSoFar kind count at words place) where
-  pub stands-ends : at + count ≤ place → standsEach kind count at count words ≡ true
-  unfolding standsEach
-  stands-ends over = let none : at + count - place ≡ 0 = omega arith in so-far .rest ∙ rw none
+and-none : (test : Bool) → (test && false) ≡ false
+and-none true = refl
+and-none false = refl
 
-  module _ (inside : place < at + count) where
-    pub stands-fails : standsAt kind (getD words place 0) (getD words (place + count) 0) words ≡ false → standsEach kind count at count words ≡ false
-    unfolding standsEach
-    stands-fails fails = let more : at + count - place ≡ suc (at + count - (place + 1)) = omega arith in so-far .rest ∙ rw (more, fails)
+module _ (kind count at : ℕ) (words : List ℕ) (place lowest : ℕ) (so-far : InOrderSoFar kind count at words place lowest) where
+  abbrev InOrder : Bool → Type 0
+  InOrder answer = answer ≡ (isStrictlyAscending (take count (drop at words)) && standsEach kind count at count words)
 
-    pub stands-goes-on : standsAt kind (getD words place 0) (getD words (place + count) 0) words ≡ true → StandsSoFar kind count at words (place + 1)
-    unfolding standsEach
-    stands-goes-on stands =
-        let more : at + count - place ≡ suc (at + count - (place + 1)) = omega arith in
-        record { from = omega (arith, so-far .from); within = omega arith; rest = so-far .rest ∙ rw (more, stands) }
+  pub order-ends : at + count ≤ place → InOrder true
+  unfolding ascendsFrom standsEach
+  order-ends over = let none : at + count - place ≡ 0 = omega arith in sym (so-far .rest ∙ rw none)
+
+  module _ (inside : place < at + count) (stored : at + 2 * count ≤ length words) where
+    abbrev name : ℕ
+    name = getD words place 0
+
+    abbrev left : ℕ
+    left = at + count - (place + 1)
+
+    abbrev stands : Bool
+    stands = standsAt kind name (getD words (place + count) 0) words
+
+    next-name : (isStrictlyAscending (take count (drop at words)) && standsEach kind count at count words)
+        ≡ ((leb lowest name && ascendsFrom (name + 1) (take left (drop (place + 1) words))) && (stands && standsEach kind count (place + 1) left words))
+    unfolding ascendsFrom standsEach
+    next-name =
+        let more : at + count - place ≡ suc left = omega arith in
+        let names : drop place words ≡ name ∷ drop (place + 1) words = rw (add-one place) (drop-cons words place 0 (omega arith)) in
+        so-far .rest ∙ rw (more, names)
+
+    pub order-falls : (next : ℕ) → next ≡ name + 1 → next ≤ lowest → InOrder false
+    order-falls next is below = sym (next-name ∙ rw (lt-leb lowest name (omega (arith, is))))
+
+    pub order-fails : stands ≡ false → InOrder false
+    order-fails fails =
+        sym (next-name ∙ rw fails (and-none (leb lowest name && ascendsFrom (name + 1) (take left (drop (place + 1) words)))))
+
+    pub order-goes-on : (next : ℕ) → next ≡ name + 1 → lowest < next → stands ≡ true → InOrderSoFar kind count at words (place + 1) next
+    order-goes-on next is above holds = record {
+      from = omega (arith, so-far .from);
+      within = omega arith;
+      rest = next-name ∙ rw (is, le-leb lowest name (omega (arith, is)), holds);
+    }
 
 -- ---- isIndex: the tests of `is_index`
 
@@ -216,18 +262,9 @@ module _ (kind at count : ℕ) (words : List ℕ) (counted : ℕ) (counts : coun
   unfolding isIndex
   index-miscounted other = rw (← counts, ne-eqb counted count other)
 
-  -- `&words[at..past]` lends the names
-  module _ (same : counted ≡ count) (ascends : Bool) (tests : ascends ≡ isStrictlyAscending (take (at + count - at) (drop at words))) where
-    tested : isStrictlyAscending (take count (drop at words)) ≡ ascends
-    tested = let part : at + count - at ≡ count = omega arith in sym (rw part at tests)
-
-    pub index-unordered : ascends ≡ false → isIndex kind at count words ≡ false
-    unfolding isIndex
-    index-unordered fails = rw (← counts, eq-eqb counted count same, tested, fails)
-
-    pub index-ordered : ascends ≡ true → isIndex kind at count words ≡ standsEach kind count at count words
-    unfolding isIndex
-    index-ordered holds = rw (← counts, eq-eqb counted count same, tested, holds)
+  pub index-counted : counted ≡ count → isIndex kind at count words ≡ (isStrictlyAscending (take count (drop at words)) && standsEach kind count at count words)
+  unfolding isIndex
+  index-counted same = rw (← counts, eq-eqb counted count same)
 
 -- ---- isDictionary: the tests of `is_dictionary`
 

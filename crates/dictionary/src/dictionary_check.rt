@@ -5,16 +5,16 @@ use crate::line_runs::count_one;
 use crate::line_runs::run_behind;
 use crate::line_texts::length_of;
 use crate::records::line_at;
-use sorting::search::is_strictly_ascending;
 use texts::dictionary_order::BEGINNING;
 use texts::dictionary_order::BEHIND_MESSAGE;
 use texts::dictionary_order::BEHIND_TRAILER;
 use texts::dictionary_order::NO_BODY;
 ghost use mathlib.Core.Path.{_≡_};
-ghost use mathlib.Core.Bool.{true, false};
+ghost use mathlib.Core.Bool.{true, false, _&&_};
 ghost use Prim.Native.Nat.{_+_, _*_, _≤_};
-ghost use lib.ListN.{length, getD, drop};
+ghost use lib.ListN.{length, getD, take, drop};
 ghost use Rattle.ascii.specs.Notation.{isBetween};
+ghost use Rattle.sorting.specs.Search.{isStrictlyAscending};
 ghost use Rattle.texts.specs.DictionaryOrder.{start, behindTrailer, behindMessage};
 ghost use Rattle.dictionary.specs.DictionaryCheck.{linesFrom, accepts, countOf, Counted, standsAt, standsEach, isIndex, isDictionary};
 
@@ -109,19 +109,33 @@ pub fn stands_at(words: &[u32], kind: u32, name: u32, number: u32) -> bool
     words[at + 1] == name
 }
 
-// Each name of the index is that of a record of this kind, and stands where the index says.
-fn stands_each(words: &[u32], kind: u32, at: usize, count: usize) -> bool
+// What a name behind this one is at least.
+fn above(name: u32) -> u64
+    ensures above { λ lowest. ⌜ lowest ≡ name + 1 ⌝ }
+    ensures few { λ lowest. ⌜ lowest ≤ 4294967296 ⌝ }
+{
+    name as u64 + 1
+}
+
+// The names of the index ascend, and each is that of a record of this kind and stands where the index says.
+fn stands_in_order(words: &[u32], kind: u32, at: usize, count: usize) -> bool
     requires { ⌜ (4 ≤ length (now words)) × ((4 + 10 * getD (now words) 0 0 ≤ length (now words)) × (at + 2 * count ≤ length (now words))) ⌝ }
-    ensures { λ answer. ⌜ answer ≡ standsEach kind count at count (now (words .entry)) ⌝ }
+    ensures { λ answer. ⌜ answer ≡ (isStrictlyAscending (take count (drop at (now (words .entry)))) && standsEach kind count at count (now (words .entry))) ⌝ }
 {
     let mut place = at;
     let past = at + count;
+    let mut lowest: u64 = 0;
     while place < past {
         let name = words[place];
+        let next = above(name);
+        if next <= lowest {
+            return false;
+        }
         let number = words[place + count];
         if !stands_at(words, kind, name, number) {
             return false;
         }
+        lowest = next;
         place += 1;
     }
     true
@@ -136,11 +150,7 @@ fn is_index(words: &[u32], kind: u32, at: usize, count: usize, counted: usize) -
     if counted != count {
         return false;
     }
-    let past = at + count;
-    if !is_strictly_ascending(&words[at..past]) {
-        return false;
-    }
-    stands_each(words, kind, at, count)
+    stands_in_order(words, kind, at, count)
 }
 
 // The words begin with the arrangement of an accepted dictionary.
