@@ -174,12 +174,12 @@ module _ (count : ℕ) (words : List ℕ) (first lines bytes tags at : ℕ) (so-
       )
 
   pub def-goes-on : ShortRun true words first lines bytes tags → getD words at 0 ≡ 1 → getD words (at + 2) 0 < 34
-      → (more : ℕ) → 1 + more ≡ digitCount (getD words (at + 1) 0) → more ≤ 9
+      → (digits : ℕ) → digits ≡ digitCount (getD words (at + 1) 0) → digits ≤ 10
       → (len : ℕ) → len ≡ getD typeLengths (getD words (at + 2) 0) 0 → len ≤ 255
-      → (all-bytes all-tags : ℕ) → all-bytes ≡ bytes + (7 + more + len) → all-tags ≡ tags + 1
+      → (all-bytes all-tags : ℕ) → all-bytes ≡ bytes + (6 + digits + len) → all-tags ≡ tags + 1
       → Goes true all-bytes all-tags
-  def-goes-on run kind place more digits few len named short all-bytes all-tags same-bytes same-tags =
-      short-turn true run (7 + more + len) (omega arith) (omega arith)
+  def-goes-on run kind place digits counted few len named short all-bytes all-tags same-bytes same-tags =
+      short-turn true run (6 + digits + len) (omega arith) (omega arith)
       (λ unused. let is = def-length words at unused kind place in omega arith)
       1 (omega arith) (rw kind) all-bytes all-tags same-bytes same-tags
 
@@ -193,9 +193,9 @@ module _ (count : ℕ) (words : List ℕ) (first lines bytes tags at : ℕ) (so-
       0 (omega arith) (rw kind) all-bytes all-tags same-bytes (omega arith)
 
   pub field-goes-on : ShortRun false words first lines bytes tags → getD words at 0 ≡ 7 → getD words (at + 2) 0 ≤ 1
-      → (more : ℕ) → 1 + more ≡ digitCount (getD words (at + 1) 0) → more ≤ 9
-      → Goes false (bytes + (10 + more)) tags
-  field-goes-on run kind flag more digits few =
-      short-turn false run (10 + more) (omega arith) (omega arith)
+      → (digits : ℕ) → digits ≡ digitCount (getD words (at + 1) 0) → digits ≤ 10
+      → Goes false (bytes + (9 + digits)) tags
+  field-goes-on run kind flag digits counted few =
+      short-turn false run (9 + digits) (omega arith) (omega arith)
       (λ unused. let is = field-length words at unused kind flag in omega arith)
       0 (omega arith) (rw kind) _ _ refl (omega arith)

@@ -5,6 +5,5 @@ pub mod dictionary_check;
 pub mod line_order;
 pub mod line_runs;
 pub mod line_texts;
-pub mod more_digits;
 pub mod records;
 pub mod short_runs;

@@ -1,8 +1,8 @@
 // Runs of lines whose records have nothing but 0 in their last seven words, as nearly all have: these words are tested for the whole run at once, and not looked
 // at record by record.
 use crate::line_runs::Run;
+use crate::line_texts::digit_count;
 use crate::line_texts::type_length;
-use crate::more_digits::more_digits;
 ghost use mathlib.Core.Path.{_≡_};
 ghost use mathlib.Core.Bool.{true, false};
 ghost use Prim.Native.Nat.{_+_, _*_, _≤_};
@@ -95,7 +95,7 @@ pub fn short_definitions(count: usize, words: &[u32], first: usize) -> Run
             if 34 <= place {
                 return Run { lines, bytes, tags };
             }
-            bytes += 7 + more_digits(words[at + 1]) + type_length(place);
+            bytes += 6 + digit_count(words[at + 1]) + type_length(place);
             tags += 1;
         }
         lines += 1;
@@ -128,7 +128,7 @@ pub fn short_fields(count: usize, words: &[u32], first: usize) -> Run
                 tags: 0,
             };
         }
-        bytes += 10 + more_digits(words[at + 1]);
+        bytes += 9 + digit_count(words[at + 1]);
         lines += 1;
         at += 10;
     }

@@ -84,18 +84,18 @@ shared-slice-read-place c = search needs
 returns-3 : tie.Need-returns-3 Inv-loop μ-loop
 returns-3 c = (c .before .before .before .before .before .before .loop .inv .1, (c .before .before .before .before .before .before .loop .inv .0 .within, (c .before .before .before .before .before .before .loop .inv .0 .few-bytes, c .before .before .before .before .before .before .loop .inv .0 .few-tags)))
 
--- bytes += 7 + more_digits(words[at + 1]) + type_length(place);
-add-more-digits : tie.Need-add-more-digits Inv-loop μ-loop
-add-more-digits c = search needs
+-- bytes += 6 + digit_count(words[at + 1]) + type_length(place);
+add-digit-count : tie.Need-add-digit-count Inv-loop μ-loop
+add-digit-count c = search needs
 
-mul-more-digits : tie.Need-mul-more-digits Inv-loop μ-loop
-mul-more-digits c = search needs
+mul-digit-count : tie.Need-mul-digit-count Inv-loop μ-loop
+mul-digit-count c = search needs
 
-shared-slice-read-more-digits : tie.Need-shared-slice-read-more-digits Inv-loop μ-loop
-shared-slice-read-more-digits c = search needs
+shared-slice-read-digit-count : tie.Need-shared-slice-read-digit-count Inv-loop μ-loop
+shared-slice-read-digit-count c = search needs
 
-more-digits-requires : tie.Need-more-digits-requires Inv-loop μ-loop
-more-digits-requires c κs = search needs
+digit-count-requires : tie.Need-digit-count-requires Inv-loop μ-loop
+digit-count-requires c κs = search needs
 
 add-bytes-3 : tie.Need-add-bytes-3 Inv-loop μ-loop
 add-bytes-3 c = search needs
@@ -157,10 +157,10 @@ short-definitions-spec =
     mul-place
     shared-slice-read-place
     returns-3
-    add-more-digits
-    mul-more-digits
-    shared-slice-read-more-digits
-    more-digits-requires
+    add-digit-count
+    mul-digit-count
+    shared-slice-read-digit-count
+    digit-count-requires
     add-bytes-3
     type-length-requires
     add-bytes-4

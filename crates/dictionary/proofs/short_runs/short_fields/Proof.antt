@@ -44,18 +44,18 @@ shared-slice-read-if2 c = search needs
 returns-2 : tie.Need-returns-2 Inv-loop μ-loop
 returns-2 c = (c .before .before .before .before .before .loop .inv .1, (c .before .before .before .before .before .loop .inv .0 .within, (c .before .before .before .before .before .loop .inv .0 .few-bytes, c .before .before .before .before .before .loop .inv .0 .few-tags)))
 
--- bytes += 10 + more_digits(words[at + 1]);
-add-more-digits : tie.Need-add-more-digits Inv-loop μ-loop
-add-more-digits c = search needs
+-- bytes += 9 + digit_count(words[at + 1]);
+add-digit-count : tie.Need-add-digit-count Inv-loop μ-loop
+add-digit-count c = search needs
 
-mul-more-digits : tie.Need-mul-more-digits Inv-loop μ-loop
-mul-more-digits c = search needs
+mul-digit-count : tie.Need-mul-digit-count Inv-loop μ-loop
+mul-digit-count c = search needs
 
-shared-slice-read-more-digits : tie.Need-shared-slice-read-more-digits Inv-loop μ-loop
-shared-slice-read-more-digits c = search needs
+shared-slice-read-digit-count : tie.Need-shared-slice-read-digit-count Inv-loop μ-loop
+shared-slice-read-digit-count c = search needs
 
-more-digits-requires : tie.Need-more-digits-requires Inv-loop μ-loop
-more-digits-requires c κs = search needs
+digit-count-requires : tie.Need-digit-count-requires Inv-loop μ-loop
+digit-count-requires c κs = search needs
 
 add-bytes : tie.Need-add-bytes Inv-loop μ-loop
 add-bytes c = search needs
@@ -76,7 +76,7 @@ loop-less : tie.Need-loop-less Inv-loop μ-loop
 loop-less c = search needs
 
 loop-again : tie.Need-loop-again Inv-loop μ-loop
-loop-again c = field-goes-on _ _ _ _ _ _ _ (c .before .before .before .before .before .before .before .loop .inv .0) (c .before .before .before .before .before .before .loop-test .taken) (c .before .before .before .before .before .before .before .loop .inv .1) (c .before .before .before .before .if1 .left) (omega (arith, c .before .before .if2 .left)) _ (c .more-digits .ensures .0) (c .more-digits .ensures .1)
+loop-again c = field-goes-on _ _ _ _ _ _ _ (c .before .before .before .before .before .before .before .loop .inv .0) (c .before .before .before .before .before .before .loop-test .taken) (c .before .before .before .before .before .before .before .loop .inv .1) (c .before .before .before .before .if1 .left) (omega (arith, c .before .before .if2 .left)) _ (c .digit-count .ensures .0) (c .digit-count .ensures .1)
 
 -- pub fn short_fields(count: usize, words: &[u32], first: usize) -> Run
 returns-3 : tie.Need-returns-3 Inv-loop μ-loop
@@ -96,10 +96,10 @@ short-fields-spec =
     mul-if2
     shared-slice-read-if2
     returns-2
-    add-more-digits
-    mul-more-digits
-    shared-slice-read-more-digits
-    more-digits-requires
+    add-digit-count
+    mul-digit-count
+    shared-slice-read-digit-count
+    digit-count-requires
     add-bytes
     add-bytes-2
     add-lines
