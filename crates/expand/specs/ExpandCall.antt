@@ -8,7 +8,6 @@
 --   toldAnswer trace nodes space, toldWith trace nodes words   the same for the layout that a trace tells of
 --   expandedOf dictionary type space     what the call answers on these dictionary words, where so many words are lent
 --   expandedIn dictionary type words     what the lent words hold afterwards
---   AnswersOr dictionary type words tried after   a try gave the call's answer and wrote what it writes; or it wrote nothing
 use mathlib.Core.Path.{_≡_}
 use Prim.Native.Nat.{ℕ}
 use mathlib.Core.List.{List, _++_}
@@ -18,8 +17,6 @@ use Rattle.texts.specs.declared.refusal.Refusal.the-variants.{UnknownForm, Spac
 use Rattle.dictionary.specs.DictionaryCheck.{isDictionary}
 use Rattle.layouts.specs.LayoutWords.{arranged}
 use Rattle.expand.specs.declared.expand_call.Expanded.{Expanded}
-use Rattle.expand.specs.declared.expand_call.Tried.{Tried}
-use Rattle.expand.specs.declared.expand_call.Tried.the-variants.{Answer, NoRoom}
 use Rattle.expand.specs.declared.expand_call.Expanded.the-variants.{Done, Refused}
 use Rattle.expansion.specs.Expansion as definition
 use Rattle.expansion.specs.BuildPromises.{expansionIn}
@@ -47,7 +44,3 @@ expandedOf dictionary type space = if isDictionary dictionary then layoutAnswer 
 
 unfoldable pub expandedIn : List ℕ → List ℕ → List ℕ → List ℕ
 expandedIn dictionary type words = if isDictionary dictionary then layoutWith (expansionIn dictionary type) words else words
-
-abbrev pub AnswersOr : List ℕ → List ℕ → List ℕ → Tried → List ℕ → Type 0
-AnswersOr dictionary type words (Answer answer) after = (answer ≡ expandedOf dictionary type (length words)) × (after ≡ expandedIn dictionary type words)
-AnswersOr dictionary type words NoRoom after = after ≡ words

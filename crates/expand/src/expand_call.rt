@@ -11,19 +11,13 @@ ghost use Prim.Native.Nat.{_≤_};
 ghost use lib.ListN.{length};
 ghost use Rattle.dictionary.specs.DictionaryCheck.{isDictionary};
 ghost use Rattle.expand.specs.ArrangeGather.{levelCount, GatherRoom};
-ghost use Rattle.expand.specs.ExpandCall.{toldAnswer, toldWith, expandedOf, expandedIn, AnswersOr};
+ghost use Rattle.expand.specs.ExpandCall.{toldAnswer, toldWith, expandedOf, expandedIn};
 
 // What the expansion of a message type gives.
 pub enum Expanded {
     // how many nodes were spent, and how many words were written
     Done { nodes: usize, words: usize },
     Refused(Refusal),
-}
-
-// What a try with a short trace gives: the answer, or the trace had no room and nothing is written.
-pub enum Tried {
-    Answer(Expanded),
-    NoRoom,
 }
 
 // Writes the layout that the trace tells of, gathered in the memory that is lent for it.
@@ -145,28 +139,28 @@ fn expand_long(dictionary: &[u32], message_type: &[u8], layout: &mut [u32]) -> E
     }
 }
 
-// Expands a message type whose trace has up to 1,024 words. The memory of this try is free again behind it.
-fn expand_short(dictionary: &[u32], message_type: &[u8], layout: &mut [u32]) -> Tried
+// Expands a message type, first with a trace of 1,024 words, as a message type mostly needs. `expand_long` is called at two places, so that it is compiled by
+// itself: a call that does not need it does not take its memory.
+fn expand_short(dictionary: &[u32], message_type: &[u8], layout: &mut [u32]) -> Expanded
     requires { ⌜ isDictionary (now dictionary) ≡ true ⌝ }
-    ensures { λ tried. ⌜ AnswersOr (now (dictionary .entry)) (now («message_type» .entry)) (now (layout .entry)) tried (now (layout .exit)) ⌝ }
+    ensures outcome { λ outcome. ⌜ outcome ≡ expandedOf (now (dictionary .entry)) (now («message_type» .entry)) (length (now (layout .entry))) ⌝ }
+    ensures memory { λ _. ⌜ now (layout .exit) ≡ expandedIn (now (dictionary .entry)) (now («message_type» .entry)) (now (layout .entry)) ⌝ }
 {
     let mut trace = [0u64; 1024];
     match expansion::build::expand(dictionary, message_type, &mut trace) {
         Added::Stopped(stop) => match stop {
-            Stop::Error(refusal) => Tried::Answer(Expanded::Refused(refusal)),
-            Stop::NoRoom => Tried::NoRoom,
+            Stop::Error(refusal) => Expanded::Refused(refusal),
+            Stop::NoRoom => expand_long(dictionary, message_type, layout),
         },
         Added::Done(builder) => {
             let len = builder.len;
             if len <= 512 {
-                let answer = arrange_short(&trace[0..len], builder.nodes, layout);
-                return Tried::Answer(answer);
+                return arrange_short(&trace[0..len], builder.nodes, layout);
             }
             if len <= 1024 {
-                let answer = arrange_middle(&trace[0..len], builder.nodes, layout);
-                return Tried::Answer(answer);
+                return arrange_middle(&trace[0..len], builder.nodes, layout);
             }
-            Tried::NoRoom
+            expand_long(dictionary, message_type, layout)
         }
     }
 }
@@ -181,8 +175,5 @@ pub fn expand(dictionary: &[u32], message_type: &[u8], layout: &mut [u32]) -> Ex
     if !is_dictionary(dictionary) {
         return Expanded::Refused(Refusal::UnknownForm(0));
     }
-    match expand_short(dictionary, message_type, layout) {
-        Tried::Answer(answer) => answer,
-        Tried::NoRoom => expand_long(dictionary, message_type, layout),
-    }
+    expand_short(dictionary, message_type, layout)
 }

@@ -19,19 +19,22 @@ expand-requires c κs = c .before .before .before .before .pre
 enum-known-stop : tie.Need-enum-known-stop
 enum-known-stop c = search needs
 
--- Stop::Error(refusal) => Tried::Answer(Expanded::Refused(refusal)),
+-- Stop::Error(refusal) => Expanded::Refused(refusal),
 enum-known-stop-2 : tie.Need-enum-known-stop-2
 enum-known-stop-2 c = search needs
 
--- Stop::NoRoom => Tried::NoRoom,
+-- Stop::NoRoom => expand_long(dictionary, message_type, layout),
 enum-told : tie.Need-enum-told
 enum-told c = search needs
+
+expand-long-requires : tie.Need-expand-long-requires
+expand-long-requires c κs = search needs
 
 -- Added::Done(builder) => {
 enum-known-builder : tie.Need-enum-known-builder
 enum-known-builder c = search needs
 
--- let answer = arrange_short(&trace[0..len], builder.nodes, layout);
+-- return arrange_short(&trace[0..len], builder.nodes, layout);
 sub-arrange-short : tie.Need-sub-arrange-short
 sub-arrange-short c = search needs
 
@@ -44,14 +47,13 @@ part-arrange-short-end c = omega (arith, c .before .if1 .taken, c .before .befor
 arrange-short-requires : tie.Need-arrange-short-requires
 arrange-short-requires c κs = omega (arith, told-length (c .before .before .before .before .before .before .before .before .before .before .before .before .before .args .dictionary .now) (c .before .before .before .before .before .before .before .before .before .before .before .before .before .args .message-type .now) (c .before .before .before .before .before .before .before .before .before .before .before .before .before .args .layout .now) (c .before .before .before .before .before .before .before .before .before .before .before .before .before .pre) _ _ (c .before .before .before .before .before .before .before .before .expand .ensures) _ (c .before .before .before .before .before .builder .given .1) (omega (arith, c .before .before .before .if1 .taken, c .before .before .before .before .before .before .before .before .expand .kept .1 .1 .0)), c .before .before .before .if1 .taken)
 
--- return Tried::Answer(answer);
 same-length : tie.Need-same-length
 same-length c = search needs
 
 returns : tie.Need-returns
 returns c = expand-arranged (c .before .before .before .before .before .before .before .before .before .before .before .before .before .before .before .before .args .dictionary .now) (c .before .before .before .before .before .before .before .before .before .before .before .before .before .before .before .before .args .message-type .now) (c .before .before .before .before .before .before .before .before .before .before .before .before .before .before .before .before .args .layout .now) (c .before .before .before .before .before .before .before .before .before .before .before .before .before .before .before .before .pre) _ _ (c .before .before .before .before .before .before .before .before .before .before .before .expand .ensures) _ (c .before .before .before .before .before .before .before .before .builder .given .1) _ _ (c .before .before .arrange-short .ensures .0) (c .before .before .arrange-short .ensures .1)
 
--- let answer = arrange_middle(&trace[0..len], builder.nodes, layout);
+-- return arrange_middle(&trace[0..len], builder.nodes, layout);
 sub-arrange-middle : tie.Need-sub-arrange-middle
 sub-arrange-middle c = search needs
 
@@ -64,19 +66,28 @@ part-arrange-middle-end c = omega (arith, c .before .if2 .taken, c .before .befo
 arrange-middle-requires : tie.Need-arrange-middle-requires
 arrange-middle-requires c κs = omega (arith, told-length (c .before .before .before .before .before .before .before .before .before .before .before .before .before .before .args .dictionary .now) (c .before .before .before .before .before .before .before .before .before .before .before .before .before .before .args .message-type .now) (c .before .before .before .before .before .before .before .before .before .before .before .before .before .before .args .layout .now) (c .before .before .before .before .before .before .before .before .before .before .before .before .before .before .pre) _ _ (c .before .before .before .before .before .before .before .before .before .expand .ensures) _ (c .before .before .before .before .before .before .builder .given .1) (omega (arith, c .before .before .before .if2 .taken, c .before .before .before .before .before .before .before .before .before .expand .kept .1 .1 .0)), c .before .before .before .if2 .taken)
 
--- return Tried::Answer(answer);
 same-length-2 : tie.Need-same-length-2
 same-length-2 c = search needs
 
 returns-2 : tie.Need-returns-2
 returns-2 c = expand-arranged (c .before .before .before .before .before .before .before .before .before .before .before .before .before .before .before .before .before .args .dictionary .now) (c .before .before .before .before .before .before .before .before .before .before .before .before .before .before .before .before .before .args .message-type .now) (c .before .before .before .before .before .before .before .before .before .before .before .before .before .before .before .before .before .args .layout .now) (c .before .before .before .before .before .before .before .before .before .before .before .before .before .before .before .before .before .pre) _ _ (c .before .before .before .before .before .before .before .before .before .before .before .before .expand .ensures) _ (c .before .before .before .before .before .before .before .before .before .builder .given .1) _ _ (c .before .before .arrange-middle .ensures .0) (c .before .before .arrange-middle .ensures .1)
 
--- fn expand_short(dictionary: &[u32], message_type: &[u8], layout: &mut [u32]) -> Tried
+-- expand_long(dictionary, message_type, layout)
+expand-long-requires-2 : tie.Need-expand-long-requires-2
+expand-long-requires-2 c κs = search needs
+
+-- fn expand_short(dictionary: &[u32], message_type: &[u8], layout: &mut [u32]) -> Expanded
 returns-3 : tie.Need-returns-3
 returns-3 c = expand-refused (c .before .before .before .before .before .before .before .before .before .before .before .before .args .dictionary .now) (c .before .before .before .before .before .before .before .before .before .before .before .before .args .message-type .now) (c .before .before .before .before .before .before .before .before .before .before .before .before .args .layout .now) (c .before .before .before .before .before .before .before .before .before .before .before .before .pre) _ _ (c .before .before .before .before .before .before .before .expand .ensures) _ (c .before .before .before .before .stop .given .1 ∙ ap Stopped (c .before .stop2 .given .1))
 
+same-length-3 : tie.Need-same-length-3
+same-length-3 c = search needs
+
 returns-4 : tie.Need-returns-4
 returns-4 c = search needs
+
+same-length-4 : tie.Need-same-length-4
+same-length-4 c = search needs
 
 returns-5 : tie.Need-returns-5
 returns-5 c = search needs
@@ -90,6 +101,7 @@ expand-short-spec =
     enum-known-stop
     enum-known-stop-2
     enum-told
+    expand-long-requires
     enum-known-builder
     sub-arrange-short
     part-arrange-short-start
@@ -103,6 +115,9 @@ expand-short-spec =
     arrange-middle-requires
     same-length-2
     returns-2
+    expand-long-requires-2
     returns-3
+    same-length-3
     returns-4
+    same-length-4
     returns-5)
