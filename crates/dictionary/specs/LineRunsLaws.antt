@@ -3,10 +3,10 @@
 use mathlib.Core.Path.{_≡_, refl, sym, ap, _∙_}
 use Prim.Native.Nat.{ℕ, zero, suc, _+_, _*_, _-_, _≤_, _<_}
 use mathlib.Core.Bool.{Bool, true, false, cond, _&&_}
-use mathlib.Core.List.{List, _∷_}
+use mathlib.Core.List.{List}
 use native.Mathlib.Omega.{arith}
 use lib.Dec.{eqb, ltb, leb}
-use lib.ListN.{length, getD, take, drop}
+use lib.ListN.{getD, take, drop}
 use lib.Seq.{drop-drop, getD-take, getD-drop}
 use borrow.Author.Tests.{lt-leb, leb-true, leb-false, le-leb, eq-eqb, ne-eqb, eqb-true, eqb-false}
 use Rattle.ascii.specs.NotationLaws.{and-left, and-right}

@@ -4,7 +4,7 @@
 --   HoldsShort len word          the word holds a value of so many bytes, at most four
 use mathlib.Core.Path.{_≡_}
 use Prim.Native.Nat.{ℕ, _+_, _*_, _≤_, _<_}
-use mathlib.Core.Bool.{Bool, true}
+use mathlib.Core.Bool.{true}
 use mathlib.Core.List.{List}
 use lib.ListN.{take, drop}
 use Rattle.texts.specs.LineParts.{isVisible}

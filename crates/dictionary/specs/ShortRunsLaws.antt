@@ -1,23 +1,23 @@
 -- Laws of `ShortRuns.antt`: the loop of `are_short`, the words of `holds_short_value`, and the lines of short records, so that the loops of `short_definitions`
 -- and `short_fields` need not look at the last seven words. Assumes nothing.
-use mathlib.Core.Path.{_≡_, refl, sym, ap, _∙_}
-use Prim.Native.Nat.{ℕ, _+_, _*_, _-_, _/_, _%_, _≤_, _<_}
-use mathlib.Core.Bool.{Bool, true, false, cond, _&&_}
+use mathlib.Core.Path.{_≡_, refl, sym, _∙_}
+use Prim.Native.Nat.{ℕ, _+_, _*_, _%_, _≤_, _<_}
+use mathlib.Core.Bool.{Bool, true, false}
 use mathlib.Core.List.{List}
 use native.Mathlib.Omega.{arith}
 use lib.Bits.{bitOr}
-use lib.Dec.{eqb, ltb, leb}
+use lib.Dec.{eqb}
 use lib.ListN.{length, getD, take, drop, length-take, length-drop}
 use lib.Seq.{getD-take, getD-drop}
-use borrow.Author.Tests.{lt-ltb, le-leb, eq-eqb, ne-eqb, eqb-true, eqb-false}
+use borrow.Author.Tests.{lt-ltb, le-leb, eq-eqb, eqb-true, eqb-false}
 use Rattle.texts.specs.LineParts.{isVisible}
-use Rattle.dictionary.specs.Records.{holdsByte, holdsPart, isUnused, byte0, byte1, byte2, byte3, defFrom, valueFrom, fieldFrom}
+use Rattle.dictionary.specs.Records.{holdsByte, holdsPart, isUnused, byte0, byte1, byte2, byte3}
 use Rattle.dictionary.specs.RecordsLaws.{or-none, isUnused-short}
 use Rattle.dictionary.specs.WordTextLaws.{part-one, short-value}
 use Rattle.dictionary.specs.LineTexts.{digitCount, typeLengths, lengthOf}
 use Rattle.dictionary.specs.DictionaryWords as kinds
 use Rattle.dictionary.specs.DictionaryCheck.{countOne}
-use Rattle.dictionary.specs.LineRuns.{runLength, runOf}
+use Rattle.dictionary.specs.LineRuns.{runLength}
 use Rattle.dictionary.specs.LineRunsLaws.{RunPlace, place-goes-on, IsRun, run-begins, run-goes-on}
 use Rattle.dictionary.specs.ShortRuns.{AreShort, HoldsShort}
 
@@ -111,13 +111,25 @@ module _ (count : ℕ) (words : List ℕ) (first word3 word4 word5 word6 word7 w
 
 -- ---- HoldsShort: the tests of `holds_short_value`
 
-module _ (word : ℕ) where
-  pub holds-one : word % 16777216 ≡ 0 → isVisible (byte0 word) ≡ true → HoldsShort 1 word
-  holds-one none visible = (omega arith, (omega arith, part-one word isVisible none ∙ visible))
+module _ (word : ℕ) (first : isVisible (byte0 word) ≡ true) where
+  pub holds-one : eqb (word % 16777216) 0 ≡ true → HoldsShort 1 word
+  holds-one none = (omega arith, (omega arith, part-one word isVisible (eqb-true (word % 16777216) 0 none) ∙ first))
 
-  pub holds-two : word % 65536 ≡ 0 → isVisible (byte0 word) ≡ true → isVisible (byte1 word) ≡ true → HoldsShort 2 word
-  unfolding holdsPart holdsByte
-  holds-two none first second = (omega arith, (omega arith, rw (first, second, eq-eqb (byte2 word) 0 (omega arith), eq-eqb (byte3 word) 0 (omega arith))))
+  module _ (second : isVisible (byte1 word) ≡ true) where
+    pub holds-two : eqb (word % 65536) 0 ≡ true → HoldsShort 2 word
+    unfolding holdsPart holdsByte
+    holds-two none =
+        let zeros = eqb-true (word % 65536) 0 none in
+        (omega arith, (omega arith, rw (first, second, eq-eqb (byte2 word) 0 (omega arith), eq-eqb (byte3 word) 0 (omega arith))))
+
+    module _ (third : isVisible (byte2 word) ≡ true) where
+      pub holds-three : eqb (word % 256) 0 ≡ true → HoldsShort 3 word
+      unfolding holdsPart holdsByte
+      holds-three none = (omega arith, (omega arith, rw (first, second, third, none)))
+
+      pub holds-four : isVisible (byte3 word) ≡ true → HoldsShort 4 word
+      unfolding holdsPart holdsByte
+      holds-four fourth = (omega arith, (omega arith, rw (first, second, third, fourth)))
 
 -- ---- the lines of short records
 
@@ -194,8 +206,9 @@ module _ (count : ℕ) (words : List ℕ) (first lines bytes tags at : ℕ) (so-
 
   pub field-goes-on : ShortRun false words first lines bytes tags → getD words at 0 ≡ 7 → getD words (at + 2) 0 ≤ 1
       → (digits : ℕ) → digits ≡ digitCount (getD words (at + 1) 0) → digits ≤ 10
-      → Goes false (bytes + (9 + digits)) tags
-  field-goes-on run kind flag digits counted few =
+      → (all-bytes : ℕ) → all-bytes ≡ bytes + (9 + digits)
+      → Goes false all-bytes tags
+  field-goes-on run kind flag digits counted few all-bytes same-bytes =
       short-turn false run (9 + digits) (omega arith) (omega arith)
       (λ unused. let is = field-length words at unused kind flag in omega arith)
-      0 (omega arith) (rw kind) _ _ refl (omega arith)
+      0 (omega arith) (rw kind) all-bytes tags same-bytes (omega arith)

@@ -47,29 +47,35 @@ fn is_visible(byte: u32) -> bool
     0x21 <= byte && byte <= 0x7E
 }
 
-// A record that passes has a value of one or two bytes, if its last seven words are 0.
+// A record that passes has a value of one to four bytes, if its last seven words are 0.
 fn holds_short_value(len: u32, word: u32) -> bool
     ensures { λ answer. ⌜ (answer ≡ true → HoldsShort len word) ⌝ }
 {
+    if !is_visible(word / 0x100_0000) {
+        return false;
+    }
     if len == 1 {
-        if word % 0x100_0000 != 0 {
-            return false;
-        }
-        return is_visible(word / 0x100_0000);
+        return word % 0x100_0000 == 0;
+    }
+    if !is_visible(word / 0x1_0000 % 0x100) {
+        return false;
     }
     if len == 2 {
-        if word % 0x1_0000 != 0 {
-            return false;
-        }
-        if !is_visible(word / 0x100_0000) {
-            return false;
-        }
-        return is_visible(word / 0x1_0000 % 0x100);
+        return word % 0x1_0000 == 0;
+    }
+    if !is_visible(word / 0x100 % 0x100) {
+        return false;
+    }
+    if len == 3 {
+        return word % 0x100 == 0;
+    }
+    if len == 4 {
+        return is_visible(word % 0x100);
     }
     false
 }
 
-// A run of definitions with values of one or two bytes, if the last seven words of its records are 0.
+// A run of definitions with values of at most four bytes, if the last seven words of its records are 0.
 pub fn short_definitions(count: usize, words: &[u32], first: usize) -> Run
     requires { ⌜ (count ≤ 4294967295) × (first + 10 * count ≤ length (now words)) ⌝ }
     ensures run { λ run. ⌜ (AreShort (run .lines) (now (words .entry)) first → run ≡ runOf true (run .lines) (drop first (now (words .entry)))) ⌝ }
