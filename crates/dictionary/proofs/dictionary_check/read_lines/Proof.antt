@@ -70,7 +70,7 @@ not-accepted-requires-2 : tie.Need-not-accepted-requires-2 Inv-loop μ-loop
 not-accepted-requires-2 c κs = search needs
 
 returns-2 : tie.Need-returns-2 Inv-loop μ-loop
-returns-2 c = (c .not-accepted2 .ensures ∙ sym (accepts-long _ _ _ _ _ _ (c .before .before .before .before .before .before .before .before .before .before .before .loop .inv .0) (c .before .before .before .before .before .before .before .before .before .before .loop-test .taken) _ (c .before .before .before .before .before .before .before .before .before .line-at .ensures) _ (c .before .before .before .before .before .before .before .next-standing .ensures .0 _) (not-false _ (c .before .before .before .before .before .if1 .left)) _ (c .before .before .before .length-of .ensures .0) _ (c .before .before .before .before .before .before .before .next-standing .ensures .1 _) _ (c .before .before .before .before .run-behind .ensures .0) (c .before .before .before .before .run-behind .ensures .1 .0) (c .before .if2 .taken)), λ accepted. absurd (false≢true (sym (c .not-accepted2 .ensures) ∙ accepted)))
+returns-2 c = (c .not-accepted2 .ensures ∙ sym (accepts-long _ _ _ _ _ _ (c .before .before .before .before .before .before .before .before .before .before .before .loop .inv .0) (c .before .before .before .before .before .before .before .before .before .before .loop-test .taken) _ (c .before .before .before .before .before .before .before .before .before .line-at .ensures) _ (c .before .before .before .before .before .before .before .next-standing .ensures .0 _) (not-false _ (c .before .before .before .before .before .if1 .left)) _ (c .before .before .before .length-of .ensures .0) _ (c .before .before .before .before .before .before .before .next-standing .ensures .1 _) _ (c .before .before .before .before .run-behind .ensures .0) (c .before .before .before .before .run-behind .ensures .1 .0) (omega (arith, c .before .if2 .taken))), λ accepted. absurd (false≢true (sym (c .not-accepted2 .ensures) ∙ accepted)))
 
 -- let kind = words[at];
 mul-kind : tie.Need-mul-kind Inv-loop μ-loop
@@ -125,7 +125,7 @@ loop-less : tie.Need-loop-less Inv-loop μ-loop
 loop-less c = omega (arith, c .before .before .before .before .before .before .before .before .before .before .before .before .before .before .before .before .loop-test .taken)
 
 loop-again : tie.Need-loop-again Inv-loop μ-loop
-loop-again c = (accepts-goes-on _ _ _ _ _ _ (c .before .before .before .before .before .before .before .before .before .before .before .before .before .before .before .before .before .loop .inv .0) (c .before .before .before .before .before .before .before .before .before .before .before .before .before .before .before .before .loop-test .taken) _ (c .before .before .before .before .before .before .before .before .before .before .before .before .before .before .before .line-at .ensures) _ (c .before .before .before .before .before .before .before .before .before .before .before .before .before .next-standing .ensures .0 _) (not-false _ (c .before .before .before .before .before .before .before .before .before .before .before .if1 .left)) _ (c .before .before .before .before .before .before .before .before .before .length-of .ensures .0) _ (c .before .before .before .before .before .before .before .before .before .before .before .before .before .next-standing .ensures .1 _) _ (c .before .before .before .before .before .before .before .before .before .before .run-behind .ensures .0) (c .before .before .before .before .before .before .before .before .before .before .run-behind .ensures .1 .0) (c .before .before .before .before .before .before .before .if2 .left), counted-goes-on (c .before .before .before .before .before .before .before .before .before .before .before .before .before .before .before .before .before .before .before .args .words .now) _ _ (c .before .before .before .before .before .before .before .before .before .before .before .before .before .before .before .before .before .loop .inv .0 .place) (c .before .before .before .before .before .before .before .before .before .before .run-behind .result) _ _ _ (c .before .before .before .before .before .before .before .before .before .before .before .before .before .before .before .before .before .loop .inv .1) (runBehind-counted _ _ _ _ (c .before .before .before .before .before .before .before .before .before .before .run-behind .ensures .0)) _ _ _ (c .before .before .before .before .before .count-one .ensures .0) (c .before .before .before .count-one2 .ensures .0) (c .before .before .count-one3 .ensures .0))
+loop-again c = (accepts-goes-on _ _ _ _ _ _ (c .before .before .before .before .before .before .before .before .before .before .before .before .before .before .before .before .before .loop .inv .0) (c .before .before .before .before .before .before .before .before .before .before .before .before .before .before .before .before .loop-test .taken) _ (c .before .before .before .before .before .before .before .before .before .before .before .before .before .before .before .line-at .ensures) _ (c .before .before .before .before .before .before .before .before .before .before .before .before .before .next-standing .ensures .0 _) (not-false _ (c .before .before .before .before .before .before .before .before .before .before .before .if1 .left)) _ (c .before .before .before .before .before .before .before .before .before .length-of .ensures .0) _ (c .before .before .before .before .before .before .before .before .before .before .before .before .before .next-standing .ensures .1 _) _ (c .before .before .before .before .before .before .before .before .before .before .run-behind .ensures .0) (c .before .before .before .before .before .before .before .before .before .before .run-behind .ensures .1 .0) (omega (arith, c .before .before .before .before .before .before .before .if2 .left)), counted-goes-on (c .before .before .before .before .before .before .before .before .before .before .before .before .before .before .before .before .before .before .before .args .words .now) _ _ (c .before .before .before .before .before .before .before .before .before .before .before .before .before .before .before .before .before .loop .inv .0 .place) (c .before .before .before .before .before .before .before .before .before .before .run-behind .result) _ _ _ (c .before .before .before .before .before .before .before .before .before .before .before .before .before .before .before .before .before .loop .inv .1) (runBehind-counted _ _ _ _ (c .before .before .before .before .before .before .before .before .before .before .run-behind .ensures .0)) _ _ _ (c .before .before .before .before .before .count-one .ensures .0) (c .before .before .before .count-one2 .ensures .0) (c .before .before .count-one3 .ensures .0))
 
 -- accepted: may_end(standing.stage),
 may-end-requires : tie.Need-may-end-requires Inv-loop μ-loop

@@ -75,7 +75,7 @@ loop-less : tie.Need-loop-less Inv-loop μ-loop
 loop-less c = search needs
 
 loop-again : tie.Need-loop-again Inv-loop μ-loop
-loop-again c = (place-goes-on _ _ _ _ _ _ (c .before .before .before .before .before .before .loop .inv .0) (c .before .before .before .before .before .loop-test .taken) _ (omega (arith, c .before .before .before .run-length .ensures .1)) _ (c .count-one .ensures .1), run-goes-on _ _ _ _ _ _ _ (c .before .before .before .before .before .before .loop .inv .0 .place) (c .before .before .before .before .before .before .loop .inv .1) _ (c .before .before .before .run-length .ensures .0 ∙ runLength-part (c .before .before .before .before .before .before .before .before .args .definitions) (c .before .before .before .before .before .before .before .before .args .words .now) (c .before .before .before .before .before .before .loop .at) _ refl) (c .before .before .if1 .left) _ refl _ (c .count-one .ensures .0))
+loop-again c = (place-goes-on _ _ _ _ _ _ (c .before .before .before .before .before .before .loop .inv .0) (c .before .before .before .before .before .loop-test .taken) _ (omega (arith, c .before .before .before .run-length .ensures .1)) _ (c .count-one .ensures .1), run-goes-on _ _ _ _ _ _ _ (c .before .before .before .before .before .before .loop .inv .0 .place) (c .before .before .before .before .before .before .loop .inv .1) _ (c .before .before .before .run-length .ensures .0 ∙ runLength-part (c .before .before .before .before .before .before .before .before .args .definitions) (c .before .before .before .before .before .before .before .before .args .words .now) (c .before .before .before .before .before .before .loop .at) _ refl) (c .before .before .if1 .left) _ (omega arith) _ (c .count-one .ensures .0))
 
 -- fn run_of(definitions: bool, count: usize, words: &[u32], first: usize) -> Run
 returns-2 : tie.Need-returns-2 Inv-loop μ-loop
