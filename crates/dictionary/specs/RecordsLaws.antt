@@ -4,7 +4,7 @@
 --   Held line         a record can hold the line: its numbers have 32 bits, its parts are what document 01 admits
 --   Words32 words     every word has 32 bits
 use mathlib.Core.Path.{_≡_, refl, sym, ap, _∙_}
-use Prim.Native.Nat.{ℕ, suc, _+_, _-_, _^_, _≤_, _<_}
+use Prim.Native.Nat.{ℕ, zero, suc, _+_, _-_, _^_, _≤_, _<_}
 use mathlib.Core.Bool.{Bool, true, false, _&&_, cond}
 use mathlib.Core.List.{List, [], _∷_}
 use native.Mathlib.Omega.{arith}
@@ -12,9 +12,10 @@ use lib.Bits.{bitOr, and-le-l, and-le-r, or-add-and}
 use lib.Dec.{leb, ltb, eqb}
 use lib.ListN.{length, getD, take, drop, replicate, drop-of-length-le}
 use borrow.Author.Tests.{lt-ltb, le-ltb, ltb-true, le-leb, leb-true, eq-eqb, ne-eqb, eqb-true, eqb-false}
+use Rattle.ascii.specs.Notation.{_≤ᵇ_, _≡ᵇ_, if_then_else_}
 use Rattle.ascii.specs.Bytes.{every}
 use Rattle.ascii.specs.BytesLaws.{drop-step}
-use Rattle.ascii.specs.NotationLaws.{and-left, and-right}
+use Rattle.ascii.specs.NotationLaws.{and-left, and-right, if-same}
 use Rattle.texts.specs.declared.line.Line.{Line}
 use Rattle.texts.specs.declared.line.Line.the-variants.{Def, Value, BeginHeader, BeginTrailer, EndHeader, EndTrailer, Component, Message, Field, Group, Use, End, Member, RequiredTag, Unknown}
 use Rattle.texts.specs.declared.line_parts.Number32.{Number32}
@@ -426,6 +427,56 @@ module _ (words : List ℕ) (ten : length words ≡ 10) (small : Words32 words) 
 
   pub lineFrom-held : Held (lineFrom words)
   lineFrom-held = lineFrom-read words ten small known .1
+
+-- ---- lineFrom: the arms of `line_from`
+
+abbrev lineOfKind : ℕ → List ℕ → Line
+lineOfKind kind words =
+    if kind ≤ᵇ 6
+    then if kind ≡ᵇ 1 then defFrom words
+    else if kind ≡ᵇ 2 then valueFrom words
+    else if kind ≡ᵇ 3 then if-unused 1 words BeginHeader
+    else if kind ≡ᵇ 4 then if-unused 1 words BeginTrailer
+    else if kind ≡ᵇ 5 then if-unused 2 words (Component (getD words 1 0))
+    else if kind ≡ᵇ 6 then messageFrom words
+    else Unknown
+    else if kind ≡ᵇ 7 then fieldFrom words
+    else if kind ≡ᵇ 8 then groupFrom words
+    else if kind ≡ᵇ 9 then useFrom words
+    else if kind ≡ᵇ 10 then if-unused 1 words EndHeader
+    else if kind ≡ᵇ 11 then if-unused 1 words EndTrailer
+    else if kind ≡ᵇ 12 then endOfLetters words
+    else if kind ≡ᵇ 13 then endOfNumber words
+    else Unknown
+
+pub lineFrom-kind : (words : List ℕ) (kind : ℕ) → getD words 0 0 ≡ kind → lineOfKind kind words ≡ lineFrom words
+unfolding lineFrom outerFrom bodyFrom
+lineFrom-kind words kind same = ap (λ known. lineOfKind known words) (sym same)
+
+-- the kind is none of 1 to the count
+abbrev pub NoneTo : ℕ → ℕ → Type 0
+NoneTo zero kind = Unit
+NoneTo (suc count) kind = NoneTo count kind × (kind ≡ suc count → ⊥)
+
+pub lineFrom-other : (words : List ℕ) → NoneTo 13 (getD words 0 0) → Unknown ≡ lineFrom words
+lineFrom-other words none =
+    sym (
+    rw (
+      ne-eqb (getD words 0 0) 1 (none .0 .0 .0 .0 .0 .0 .0 .0 .0 .0 .0 .0 .1),
+      ne-eqb (getD words 0 0) 2 (none .0 .0 .0 .0 .0 .0 .0 .0 .0 .0 .0 .1),
+      ne-eqb (getD words 0 0) 3 (none .0 .0 .0 .0 .0 .0 .0 .0 .0 .0 .1),
+      ne-eqb (getD words 0 0) 4 (none .0 .0 .0 .0 .0 .0 .0 .0 .0 .1),
+      ne-eqb (getD words 0 0) 5 (none .0 .0 .0 .0 .0 .0 .0 .0 .1),
+      ne-eqb (getD words 0 0) 6 (none .0 .0 .0 .0 .0 .0 .0 .1),
+      ne-eqb (getD words 0 0) 7 (none .0 .0 .0 .0 .0 .0 .1),
+      ne-eqb (getD words 0 0) 8 (none .0 .0 .0 .0 .0 .1),
+      ne-eqb (getD words 0 0) 9 (none .0 .0 .0 .0 .1),
+      ne-eqb (getD words 0 0) 10 (none .0 .0 .0 .1),
+      ne-eqb (getD words 0 0) 11 (none .0 .0 .1),
+      ne-eqb (getD words 0 0) 12 (none .0 .1),
+      ne-eqb (getD words 0 0) 13 (none .1),
+    ) (if-same (leb (getD words 0 0) 6) Unknown)
+    ) ∙ lineFrom-kind words (getD words 0 0) refl
 
 -- the ten words that `&words[at..past]` lends
 pub lineFrom-part : (words : List ℕ) (at past : ℕ) → past ≡ at + 10 → lineFrom (take (past - at) (drop at words)) ≡ lineFrom (take 10 (drop at words))

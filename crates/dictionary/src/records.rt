@@ -10,7 +10,7 @@ ghost use lib.ListN.{length, getD, take, drop};
 ghost use Rattle.ascii.specs.Notation.{isBetween};
 ghost use Rattle.ascii.specs.Digits.{isDigit};
 ghost use Rattle.texts.specs.LineParts.{numberOf, isAlphanumeric, isVisible};
-ghost use Rattle.dictionary.specs.Records.{holdsPart, lettersLength, lettersText, holdsLetters, holdsValue, pairOf, pairAt, isUnused, if-unused, defFrom, admittedFrom, valueFrom, messageFrom, fieldFrom, groupFrom, useFrom, endOfLetters, endOfNumber, outerFrom, bodyFrom, lineFrom};
+ghost use Rattle.dictionary.specs.Records.{holdsPart, lettersLength, lettersText, holdsLetters, holdsValue, pairOf, pairAt, isUnused, if-unused, defFrom, admittedFrom, valueFrom, messageFrom, fieldFrom, groupFrom, useFrom, endOfLetters, endOfNumber, lineFrom};
 
 // How many words a record has.
 pub const RECORD: usize = 10;
@@ -374,72 +374,28 @@ fn end_of_number(words: &[u32]) -> Line
     )
 }
 
-// Kinds 1 to 6.
-fn outer_from(words: &[u32]) -> Line
-    requires { ⌜ length (now words) ≡ 10 ⌝ }
-    ensures { λ line. ⌜ line ≡ outerFrom (now (words .entry)) ⌝ }
-{
-    let kind = words[0];
-    if kind == 1 {
-        return def_from(words);
-    }
-    if kind == 2 {
-        return value_from(words);
-    }
-    if kind == 3 {
-        return line_if_unused(1, words, Line::BeginHeader);
-    }
-    if kind == 4 {
-        return line_if_unused(1, words, Line::BeginTrailer);
-    }
-    if kind == 5 {
-        return line_if_unused(2, words, Line::Component(words[1]));
-    }
-    if kind == 6 {
-        return message_from(words);
-    }
-    Line::Unknown
-}
-
-// Kinds 7 to 13.
-fn body_from(words: &[u32]) -> Line
-    requires { ⌜ length (now words) ≡ 10 ⌝ }
-    ensures { λ line. ⌜ line ≡ bodyFrom (now (words .entry)) ⌝ }
-{
-    let kind = words[0];
-    if kind == 7 {
-        return field_from(words);
-    }
-    if kind == 8 {
-        return group_from(words);
-    }
-    if kind == 9 {
-        return use_from(words);
-    }
-    if kind == 10 {
-        return line_if_unused(1, words, Line::EndHeader);
-    }
-    if kind == 11 {
-        return line_if_unused(1, words, Line::EndTrailer);
-    }
-    if kind == 12 {
-        return end_of_letters(words);
-    }
-    if kind == 13 {
-        return end_of_number(words);
-    }
-    Line::Unknown
-}
-
 // The line of ten words, Unknown where they are the record of none.
 pub fn line_from(words: &[u32]) -> Line
     requires { ⌜ length (now words) ≡ 10 ⌝ }
     ensures { λ line. ⌜ line ≡ lineFrom (now (words .entry)) ⌝ }
 {
-    if words[0] <= 6 {
-        return outer_from(words);
+    let kind = words[0];
+    match kind {
+        1 => def_from(words),
+        2 => value_from(words),
+        3 => line_if_unused(1, words, Line::BeginHeader),
+        4 => line_if_unused(1, words, Line::BeginTrailer),
+        5 => line_if_unused(2, words, Line::Component(words[1])),
+        6 => message_from(words),
+        7 => field_from(words),
+        8 => group_from(words),
+        9 => use_from(words),
+        10 => line_if_unused(1, words, Line::EndHeader),
+        11 => line_if_unused(1, words, Line::EndTrailer),
+        12 => end_of_letters(words),
+        13 => end_of_number(words),
+        _ => Line::Unknown,
     }
-    body_from(words)
 }
 
 // The line of the record at this place.
