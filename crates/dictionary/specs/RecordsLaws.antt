@@ -15,7 +15,7 @@ use borrow.Author.Tests.{lt-ltb, le-ltb, ltb-true, le-leb, leb-true, eq-eqb, ne-
 use Rattle.ascii.specs.Notation.{_≤ᵇ_, _≡ᵇ_, if_then_else_}
 use Rattle.ascii.specs.Bytes.{every}
 use Rattle.ascii.specs.BytesLaws.{drop-step}
-use Rattle.ascii.specs.NotationLaws.{and-left, and-right, if-same}
+use Rattle.ascii.specs.NotationLaws.{and-left, and-right, and-true, and-assoc, if-same}
 use Rattle.texts.specs.declared.line.Line.{Line}
 use Rattle.texts.specs.declared.line.Line.the-variants.{Def, Value, BeginHeader, BeginTrailer, EndHeader, EndTrailer, Component, Message, Field, Group, Use, End, Member, RequiredTag, Unknown}
 use Rattle.texts.specs.declared.line_parts.Number32.{Number32}
@@ -60,36 +60,11 @@ module _ (len : ℕ) (words : List ℕ) (left index : ℕ) (so-far : ValueSoFar 
     unfolding holdsValue
     value-goes-on less holds same = record { within = omega arith; held = so-far .held ∙ rw (drop-step words index inside, holds, ← same) }
 
--- ---- isUnused: the loop of `is_unused`
+-- ---- isUnused: words that are joined two at a time
 
-pub isUnused-step : (used : ℕ) (words : List ℕ) → used < length words → isUnused used words ≡ isZero (getD words used 0) && isUnused (used + 1) words
+isUnused-step : (used : ℕ) (words : List ℕ) → used < length words → isUnused used words ≡ isZero (getD words used 0) && isUnused (used + 1) words
 unfolding isUnused every
 isUnused-step used words inside = rw (drop-step words used inside)
-
-pub record UnusedSoFar (used : ℕ) (words : List ℕ) (index : ℕ) : Type 0 where
-  pub within : index ≤ 4
-  pub zeros : isUnused used words ≡ isUnused index words
-
-module _ (used : ℕ) (words : List ℕ) (ten : length words ≡ 10) where
-  pub unused-begins : used ≤ 4 → UnusedSoFar used words used
-  unused-begins within = record { within = within; zeros = refl }
-
-  module _ (index : ℕ) (so-far : UnusedSoFar used words index) where
-    pub unused-ends : 4 ≤ index → isUnused used words ≡ isUnused 4 words
-    unused-ends over = let four : index ≡ 4 = omega (arith, so-far .within) in so-far .zeros ∙ rw four
-
-    module _ (inside : index < 4) where
-      pub unused-stops : (getD words index 0 ≡ 0 → ⊥) → isUnused used words ≡ false
-      unused-stops other = so-far .zeros ∙ isUnused-step index words (omega arith) ∙ rw (ne-eqb (getD words index 0) 0 other)
-
-      pub unused-goes-on : getD words index 0 ≡ 0 → UnusedSoFar used words (index + 1)
-      unused-goes-on same =
-          record {
-            within = omega arith;
-            zeros = so-far .zeros ∙ isUnused-step index words (omega arith) ∙ rw (eq-eqb (getD words index 0) 0 same);
-          }
-
--- ---- isUnused: words that are read two at a time
 
 pub or-none : (a b : ℕ) → bitOr a b ≡ 0 → (a ≡ 0) × (b ≡ 0)
 or-none a b none =
@@ -117,68 +92,46 @@ pair-zero-by low high false second some-low high-is = ne-eqb _ 0 (λ none. eqb-f
 pair-zero : (words : List ℕ) (at : ℕ) → isZero (pairAt words at) ≡ isZero (getD words at 0) && isZero (getD words (at + 1) 0)
 pair-zero words at = pair-zero-by (getD words at 0) (getD words (at + 1) 0) _ _ refl refl
 
-three-pairs : (a b c d e f : Bool) → ((a && b) && (c && d)) && (e && f) ≡ a && (b && (c && (d && (e && (f && true)))))
-three-pairs false b c d e f = refl
-three-pairs true false c d e f = refl
-three-pairs true true false d e f = refl
-three-pairs true true true false e f = refl
-three-pairs true true true true false f = refl
-three-pairs true true true true true false = refl
-three-pairs true true true true true true = refl
-
--- the third pair and the fourth share a word
-four-pairs : (a b c d e f g : Bool) → (((a && b) && (c && d)) && (e && f)) && (f && g) ≡ a && (b && (c && (d && (e && (f && (g && true))))))
-four-pairs false b c d e f g = refl
-four-pairs true false c d e f g = refl
-four-pairs true true false d e f g = refl
-four-pairs true true true false e f g = refl
-four-pairs true true true true false f g = refl
-four-pairs true true true true true false g = refl
-four-pairs true true true true true true false = refl
-four-pairs true true true true true true true = refl
+shared-word : (a b rest : Bool) → (a && b) && (b && rest) ≡ a && (b && rest)
+shared-word false b rest = refl
+shared-word true false rest = refl
+shared-word true true rest = refl
 
 module _ (words : List ℕ) (ten : length words ≡ 10) where
   abbrev zero-at : ℕ → Bool
   zero-at index = isZero (getD words index 0)
 
-  six-zeros : isUnused 4 words ≡ zero-at 4 && (zero-at 5 && (zero-at 6 && (zero-at 7 && (zero-at 8 && (zero-at 9 && true)))))
+  module _ (at rest : ℕ) (inside : at < 9) where
+    -- a pair before the words that stand behind it
+    join-pair : isZero rest ≡ isUnused (at + 1 + 1) words → isZero (bitOr (pairAt words at) rest) ≡ isUnused at words
+    join-pair behind =
+        rw (or-zero (pairAt words at) rest, pair-zero words at, behind, isUnused-step at words (omega arith), isUnused-step (at + 1) words (omega arith))
+        (and-assoc (zero-at at) (zero-at (at + 1)) (isUnused (at + 1 + 1) words))
+
+    -- a pair before words of which the first is its own second
+    join-shared : isZero rest ≡ isUnused (at + 1) words → isZero (bitOr (pairAt words at) rest) ≡ isUnused at words
+    join-shared behind =
+        rw (or-zero (pairAt words at) rest, pair-zero words at, behind, isUnused-step at words (omega arith), isUnused-step (at + 1) words (omega arith))
+        (shared-word (zero-at at) (zero-at (at + 1)) (isUnused (at + 1 + 1) words))
+
+  behind-eight : isZero (pairAt words 8) ≡ isUnused 8 words
   unfolding isUnused every
-  six-zeros =
+  behind-eight =
       let no-more : length words ≤ 10 = omega arith in
-      rw (
-        isUnused-step 4 words (omega arith),
-        isUnused-step 5 words (omega arith),
-        isUnused-step 6 words (omega arith),
-        isUnused-step 7 words (omega arith),
-        isUnused-step 8 words (omega arith),
-        isUnused-step 9 words (omega arith),
-        drop-of-length-le words no-more,
-      )
+      rw (pair-zero words 8, isUnused-step 8 words (omega arith), isUnused-step 9 words (omega arith), drop-of-length-le words no-more, and-true (zero-at 9))
 
-  pub isUnused-four : isZero (bitOr (bitOr (pairAt words 4) (pairAt words 6)) (pairAt words 8)) ≡ isUnused 4 words
-  isUnused-four =
-      rw (
-        or-zero (bitOr (pairAt words 4) (pairAt words 6)) (pairAt words 8),
-        or-zero (pairAt words 4) (pairAt words 6),
-        pair-zero words 4,
-        pair-zero words 6,
-        pair-zero words 8,
-        six-zeros,
-      ) (three-pairs (zero-at 4) (zero-at 5) (zero-at 6) (zero-at 7) (zero-at 8) (zero-at 9))
+  pub behind-four : isZero (bitOr (pairAt words 4) (bitOr (pairAt words 6) (pairAt words 8))) ≡ isUnused 4 words
+  behind-four = join-pair 4 _ (omega arith) (join-pair 6 _ (omega arith) behind-eight)
 
-  pub isUnused-short : isZero (bitOr (bitOr (bitOr (pairAt words 3) (pairAt words 5)) (pairAt words 7)) (pairAt words 8)) ≡ isUnused 3 words
-  isUnused-short =
-      rw (
-        or-zero (bitOr (bitOr (pairAt words 3) (pairAt words 5)) (pairAt words 7)) (pairAt words 8),
-        or-zero (bitOr (pairAt words 3) (pairAt words 5)) (pairAt words 7),
-        or-zero (pairAt words 3) (pairAt words 5),
-        pair-zero words 3,
-        pair-zero words 5,
-        pair-zero words 7,
-        pair-zero words 8,
-        isUnused-step 3 words (omega arith),
-        six-zeros,
-      ) (four-pairs (zero-at 3) (zero-at 4) (zero-at 5) (zero-at 6) (zero-at 7) (zero-at 8) (zero-at 9))
+  module _ (last : ℕ) (behind : isZero last ≡ isUnused 4 words) where
+    pub behind-three : isZero (bitOr (pairAt words 3) last) ≡ isUnused 3 words
+    behind-three = join-shared 3 last (omega arith) behind
+
+    pub behind-two : isZero (bitOr (pairAt words 2) last) ≡ isUnused 2 words
+    behind-two = join-pair 2 last (omega arith) behind
+
+    pub behind-one : isZero (bitOr (pairAt words 1) (bitOr (pairAt words 3) last)) ≡ isUnused 1 words
+    behind-one = join-pair 1 _ (omega arith) behind-three
 
 -- ---- recordOf: the ninth word behind the kind, as a run of stores counts
 

@@ -10,7 +10,7 @@ ghost use lib.ListN.{length, getD, take, drop};
 ghost use Rattle.ascii.specs.Notation.{isBetween};
 ghost use Rattle.ascii.specs.Digits.{isDigit};
 ghost use Rattle.texts.specs.LineParts.{numberOf, isAlphanumeric, isVisible};
-ghost use Rattle.dictionary.specs.Records.{holdsPart, lettersLength, lettersText, holdsLetters, holdsValue, pairOf, pairAt, isUnused, if-unused, defFrom, admittedFrom, valueFrom, messageFrom, fieldFrom, groupFrom, useFrom, endOfLetters, endOfNumber, lineFrom};
+ghost use Rattle.dictionary.specs.Records.{holdsPart, lettersLength, lettersText, holdsLetters, holdsValue, isZero, pairOf, pairAt, isUnused, if-unused, defFrom, admittedFrom, valueFrom, messageFrom, fieldFrom, groupFrom, useFrom, endOfLetters, endOfNumber, lineFrom};
 
 // How many words a record has.
 pub const RECORD: usize = 10;
@@ -163,13 +163,35 @@ fn pair_at(words: &[u32], at: usize) -> u64
     pair(words[at], words[at + 1])
 }
 
+// The words behind the first `used` joined, which is 0 where each of them is: one test takes less than a jump for each. No kind but a value's uses more
+// than four.
+fn joined_behind(used: usize, words: &[u32]) -> u64
+    requires { ⌜ ((1 ≤ used) × (used ≤ 4)) × (length (now words) ≡ 10) ⌝ }
+    ensures { λ joined. ⌜ isZero joined ≡ isUnused used (now (words .entry)) ⌝ }
+{
+    let behind_four = pair_at(words, 4) | (pair_at(words, 6) | pair_at(words, 8));
+    match used {
+        1 => pair_at(words, 1) | (pair_at(words, 3) | behind_four),
+        2 => pair_at(words, 2) | behind_four,
+        3 => pair_at(words, 3) | behind_four,
+        _ => behind_four,
+    }
+}
+
+// Every word behind the first `used` is 0.
+fn is_unused(used: usize, words: &[u32]) -> bool
+    requires { ⌜ ((1 ≤ used) × (used ≤ 4)) × (length (now words) ≡ 10) ⌝ }
+    ensures { λ answer. ⌜ answer ≡ isUnused used (now (words .entry)) ⌝ }
+{
+    joined_behind(used, words) == 0
+}
+
 // The last seven words of a record are 0, as in that of every line but a group's and a value's of more than four bytes.
 pub fn is_short(words: &[u32]) -> bool
     requires { ⌜ length (now words) ≡ 10 ⌝ }
     ensures { λ answer. ⌜ answer ≡ isUnused 3 (now (words .entry)) ⌝ }
 {
-    // one test of all of them: a jump for each takes longer
-    pair_at(words, 3) | pair_at(words, 5) | pair_at(words, 7) | pair_at(words, 8) == 0
+    is_unused(3, words)
 }
 
 // The record holds as many bytes 21 to 7E as it says, and 0 behind them.
@@ -186,31 +208,8 @@ pub fn holds_value_in(words: &[u32]) -> bool
     holds_value(words[1], &words[2..])
 }
 
-// Every word behind the first four is 0.
-fn is_unused_behind_four(words: &[u32]) -> bool
-    requires { ⌜ length (now words) ≡ 10 ⌝ }
-    ensures { λ answer. ⌜ answer ≡ isUnused 4 (now (words .entry)) ⌝ }
-{
-    pair_at(words, 4) | pair_at(words, 6) | pair_at(words, 8) == 0
-}
-
-// Every word behind the first `used` is 0. No kind but a value's uses more than four.
-fn is_unused(used: usize, words: &[u32]) -> bool
-    requires { ⌜ (used ≤ 4) × (length (now words) ≡ 10) ⌝ }
-    ensures { λ answer. ⌜ answer ≡ isUnused used (now (words .entry)) ⌝ }
-{
-    let mut index = used;
-    while index < 4 {
-        if words[index] != 0 {
-            return false;
-        }
-        index += 1;
-    }
-    is_unused_behind_four(words)
-}
-
 fn line_if_unused(used: usize, words: &[u32], line: Line) -> Line
-    requires { ⌜ (used ≤ 4) × (length (now words) ≡ 10) ⌝ }
+    requires { ⌜ ((1 ≤ used) × (used ≤ 4)) × (length (now words) ≡ 10) ⌝ }
     ensures { λ answer. ⌜ answer ≡ if-unused used (now (words .entry)) line ⌝ }
 {
     if is_unused(used, words) {
