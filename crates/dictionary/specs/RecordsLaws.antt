@@ -133,6 +133,9 @@ module _ (words : List ℕ) (ten : length words ≡ 10) where
     pub behind-one : isZero (bitOr (pairAt words 1) (bitOr (pairAt words 3) last)) ≡ isUnused 1 words
     behind-one = join-pair 1 _ (omega arith) behind-three
 
+  pub isUnused-short : isZero (bitOr (pairAt words 3) (bitOr (pairAt words 4) (bitOr (pairAt words 6) (pairAt words 8)))) ≡ isUnused 3 words
+  isUnused-short = behind-three _ behind-four
+
 -- ---- recordOf: the ninth word behind the kind, as a run of stores counts
 
 pub add-nine : (at : ℕ) → at + 9 ≡ suc (suc (suc (suc (suc (suc (suc (suc (suc at))))))))

@@ -76,7 +76,7 @@ loop-less : tie.Need-loop-less Inv-loop μ-loop
 loop-less c = search needs
 
 loop-again : tie.Need-loop-again Inv-loop μ-loop
-loop-again c = field-goes-on _ _ _ _ _ _ _ (c .before .before .before .before .before .before .before .loop .inv .0) (c .before .before .before .before .before .before .loop-test .taken) (c .before .before .before .before .before .before .before .loop .inv .1) (c .before .before .before .before .if1 .left) (omega (arith, c .before .before .if2 .left)) _ (c .digit-count .ensures .0) (c .digit-count .ensures .1)
+loop-again c = field-goes-on _ _ _ _ _ _ _ (c .before .before .before .before .before .before .before .loop .inv .0) (c .before .before .before .before .before .before .loop-test .taken) (c .before .before .before .before .before .before .before .loop .inv .1) (c .before .before .before .before .if1 .left) (omega (arith, c .before .before .if2 .left)) _ (c .digit-count .ensures .0) (c .digit-count .ensures .1) _ (omega arith)
 
 -- pub fn short_fields(count: usize, words: &[u32], first: usize) -> Run
 returns-3 : tie.Need-returns-3 Inv-loop μ-loop
