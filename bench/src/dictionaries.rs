@@ -9,6 +9,7 @@ use std::fmt::Write;
 use std::hint::black_box;
 
 const ORDERS: &[u8] = include_bytes!("../../examples/fix44/new-order-single.dict");
+const ALLOCATIONS: &[u8] = include_bytes!("../../examples/fix44/allocation-instruction.dict");
 const ALL: &[u8] = include_bytes!("../../examples/fix44/fix44.dict");
 
 /// So many definitions, their tags in no order, and so many header fields.
@@ -115,6 +116,7 @@ pub fn comparisons() -> Vec<Maker> {
         Box::new(|| reading("1 definition, 5,900 fields", &dictionary_text(1, 5_900))),
         Box::new(|| reading("3,800 definitions", &dictionary_text(3_800, 0))),
         Box::new(|| expansion(ORDERS, "D")),
+        Box::new(|| expansion(ALLOCATIONS, "J")),
         Box::new(|| expansion(ALL, "D")),
         Box::new(|| expansion(ALL, "J")),
         Box::new(|| expansion(ALL, "W")),
