@@ -247,32 +247,3 @@ module _ (n : ℕ) where
       let last : digitCountFrom 1 10000000000 n ≡ 1 = rw (lt-ltb n 10000000000 (omega arith)) in
       rw (le-ltb n 10 (omega arith), le-ltb n 100 (omega arith), le-ltb n 1000 (omega arith), le-ltb n 10000 (omega arith))
       (omega (arith, count-more 4 100000 n, count-more 3 1000000 n, count-more 2 10000000 n, count-more 1 100000000 n, count-more 0 1000000000 n))
-
-  pub digitCount-five : 10000 ≤ n → n < 100000 → digitCount n ≡ 5
-  unfolding digitCount
-  digitCount-five large small =
-      rw (le-ltb n 10 (omega arith), le-ltb n 100 (omega arith), le-ltb n 1000 (omega arith), le-ltb n 10000 (omega arith), lt-ltb n 100000 small)
-
-  module _ (large : 100000 ≤ n) where
-    beyond-five : digitCount n ≡ 5 + digitCountFrom 5 1000000 n
-    unfolding digitCount
-    beyond-five =
-        rw (le-ltb n 10 (omega arith), le-ltb n 100 (omega arith), le-ltb n 1000 (omega arith), le-ltb n 10000 (omega arith), le-ltb n 100000 large) (omega arith)
-
-    pub digitCount-six : n < 1000000 → digitCount n ≡ 6
-    digitCount-six small = beyond-five ∙ rw (lt-ltb n 1000000 small)
-
-    pub digitCount-seven : 1000000 ≤ n → n < 10000000 → digitCount n ≡ 7
-    digitCount-seven over small = beyond-five ∙ rw (le-ltb n 1000000 over, lt-ltb n 10000000 small)
-
-    pub digitCount-eight : 10000000 ≤ n → n < 100000000 → digitCount n ≡ 8
-    digitCount-eight over small = beyond-five ∙ rw (le-ltb n 1000000 (omega arith), le-ltb n 10000000 over, lt-ltb n 100000000 small)
-
-    pub digitCount-nine : 100000000 ≤ n → n < 1000000000 → digitCount n ≡ 9
-    digitCount-nine over small =
-        beyond-five ∙ rw (le-ltb n 1000000 (omega arith), le-ltb n 10000000 (omega arith), le-ltb n 100000000 over, lt-ltb n 1000000000 small)
-
-    pub digitCount-ten : 1000000000 ≤ n → n < 2 ^ 32 → digitCount n ≡ 10
-    digitCount-ten over few =
-        beyond-five
-        ∙ rw (le-ltb n 1000000 (omega arith), le-ltb n 10000000 (omega arith), le-ltb n 100000000 (omega arith), le-ltb n 1000000000 over, lt-ltb n 10000000000 (omega arith))
