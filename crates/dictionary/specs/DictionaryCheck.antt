@@ -4,10 +4,12 @@
 --
 --   linesFrom count words        the lines of so many records
 --   accepts state number total lines   lines from this number on, read in this state behind so many bytes, are those of an accepted text, but for row 5
+--   takes state number lines     lines from this number on, read in this state, are taken, each
+--   textLength lines             how many bytes the text of these lines has
 --   isIndex kind at count words  the index at this place has the names of all records of this kind, each once, and where they stand
 --   isDictionary words           the words begin with the arrangement of an accepted dictionary
 use mathlib.Core.Path.{_≡_}
-use Prim.Native.Nat.{ℕ, zero, suc, _+_, _*_}
+use Prim.Native.Nat.{ℕ, zero, suc, _+_, _*_, _<_}
 use mathlib.Core.Bool.{Bool, true, false, _&&_}
 use mathlib.Core.List.{List, [], _∷_}
 use lib.ListN.{length, getD, take, drop}
@@ -18,7 +20,7 @@ use Rattle.texts.specs.declared.dictionary_order.State.{State}
 use Rattle.texts.specs.declared.dictionary_order.Fault.{Fault}
 use Rattle.texts.specs.declared.dictionary_order.Fault.the-variants.{NoFault, Faulty}
 use Rattle.texts.specs.DictionaryOrder.{start, stepOf, behindTrailer, behindMessage}
-use Rattle.dictionary.specs.Records.{lineFrom}
+use Rattle.dictionary.specs.Records.{lineFrom, isKnown}
 use Rattle.dictionary.specs.LineTexts.{lengthOf}
 use Rattle.dictionary.specs.DictionaryWords as kinds
 
@@ -38,6 +40,22 @@ accepts state number total (line ∷ rest) =
     let step = stepOf state number line in
     isTaken (step .fault)
     && (total + (lengthOf line + 1) ≤ᵇ 65536 && accepts (step .next) (number + 1) (total + (lengthOf line + 1)) rest)
+
+-- ---- its two halves: lines that are taken, and the bytes of their text
+
+-- every line is taken, and the text may end behind the last
+unfoldable pub takes : State → ℕ → List Line → Bool
+takes state number [] = isBetween behindTrailer behindMessage (state .stage)
+takes state number (line ∷ rest) = let step = stepOf state number line in isTaken (step .fault) && takes (step .next) (number + 1) rest
+
+-- each line ends with a line feed
+unfoldable pub textLength : List Line → ℕ
+textLength [] = 0
+textLength (line ∷ rest) = lengthOf line + 1 + textLength rest
+
+-- so many records are of known forms
+abbrev pub AreKnown : ℕ → List ℕ → Type 0
+AreKnown lines words = (index : ℕ) → index < lines → isKnown (lineFrom (take 10 (drop (10 * index) words))) ≡ true
 
 -- ---- an index
 

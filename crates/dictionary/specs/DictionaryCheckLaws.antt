@@ -1,30 +1,32 @@
 -- Laws of `DictionaryCheck.antt`: its loops, turn by turn, and its tests, one by one. Assumes nothing.
 use mathlib.Core.Path.{_≡_, refl, sym, ap, _∙_}
 use Prim.Native.Nat.{ℕ, zero, suc, _+_, _*_, _-_, _≤_, _<_}
-use mathlib.Core.Bool.{Bool, true, false, cond, _&&_}
+use mathlib.Core.Bool.{Bool, true, false, cond, _&&_, false≢true}
 use mathlib.Core.List.{List, [], _∷_}
 use native.Mathlib.Omega.{arith}
 use native.Mathlib.Numerals.{add-one}
 use lib.Dec.{leb, eqb}
-use lib.ListN.{length, getD, take, drop}
+use lib.ListN.{length, getD, take, drop, length-take, length-drop}
 use lib.Seq.{drop-drop, drop-cons, getD-drop}
 use borrow.Author.Tests.{le-leb, lt-leb, leb-true, leb-false, eq-eqb, ne-eqb}
 use Rattle.ascii.specs.Notation.{isBetween}
+use Rattle.ascii.specs.NotationLaws.{and-left, and-right, and-assoc}
 use Rattle.sorting.specs.Search.{isStrictlyAbove, isStrictlyAscending}
 use Rattle.texts.specs.declared.line.Line.{Line}
+use Rattle.texts.specs.declared.line.Line.the-variants.{Def, Value, BeginHeader, BeginTrailer, EndHeader, EndTrailer, Component, Message, Field, Group, Use, End, Member, RequiredTag, Unknown}
 use Rattle.texts.specs.declared.dictionary_order.State.{State}
 use Rattle.texts.specs.DictionaryOrder.{start, stepOf, behindTrailer, behindMessage}
 use Rattle.texts.specs.DictionaryOrderLaws.{step-depth}
-use Rattle.dictionary.specs.Records.{lineFrom}
+use Rattle.dictionary.specs.Records.{lineFrom, isKnown}
 use Rattle.dictionary.specs.LineTexts.{lengthOf}
 use Rattle.dictionary.specs.declared.line_order.Standing.{Standing}
 use Rattle.dictionary.specs.LineOrder.{stateOf, standingOf}
 use Rattle.dictionary.specs.LineOrderLaws.{state-again}
-use Rattle.dictionary.specs.declared.line_runs.Run.{Run}
-use Rattle.dictionary.specs.LineRuns.{runBehind}
-use Rattle.dictionary.specs.LineRunsLaws.{acceptsBehind, runBehind-passes, countOf-step, CountedIn}
+use Rattle.dictionary.specs.LineRuns.{PassedOver}
+use Rattle.dictionary.specs.LineRunsLaws.{countOf-step, countOf-behind}
+use Rattle.dictionary.specs.LineLengthLaws.{lineFrom-few}
 use Rattle.dictionary.specs.DictionaryWords as kinds
-use Rattle.dictionary.specs.DictionaryCheck.{isTaken, linesFrom, accepts, countOf, countOne, Counted, standsAt, standsEach, isIndex, tagsAt, componentsAt, messagesAt, sizeOf, isDictionary}
+use Rattle.dictionary.specs.DictionaryCheck.{isTaken, linesFrom, accepts, takes, textLength, AreKnown, countOf, countOne, Counted, standsAt, standsEach, isIndex, tagsAt, componentsAt, messagesAt, sizeOf, isDictionary}
 
 -- ---- linesFrom
 
@@ -32,29 +34,125 @@ pub linesFrom-step : (count : ℕ) (words : List ℕ) (at : ℕ) → linesFrom (
 unfolding linesFrom
 linesFrom-step count words at = rw (drop-drop 10 at words)
 
--- ---- accepts: the loop of `is_accepted`
+-- ---- accepts: its two halves
 
--- the first `done` lines are accepted, and those from the record at `at` on are to be read
-pub record AcceptsSoFar (words : List ℕ) (lines : ℕ) (state : State) (total done at : ℕ) : Type 0 where
+and-none : (test : Bool) → (test && false) ≡ false
+and-none true = refl
+and-none false = refl
+
+and-some : (test : Bool) → (test && true) ≡ test
+and-some true = refl
+and-some false = refl
+
+module _ (line : Line) (rest : List Line) (state : State) (number total : ℕ)
+    (halves : (state : State) (number total : ℕ) → total ≤ 65536 → accepts state number total rest ≡ (takes state number rest && leb (total + textLength rest) 65536)) where
+  abbrev all : ℕ
+  all = total + (lengthOf line + 1)
+
+  line-by : (fits : Bool) → leb all 65536 ≡ fits
+      → accepts state number total (line ∷ rest) ≡ (takes state number (line ∷ rest) && leb (total + textLength (line ∷ rest)) 65536)
+  unfolding accepts takes textLength
+  line-by true fits =
+      let step = stepOf state number line in
+      let together : all + textLength rest ≡ total + (lengthOf line + 1 + textLength rest) = omega arith in
+      rw (fits, halves (step .next) (number + 1) all (leb-true all 65536 fits), together)
+      (sym (and-assoc (isTaken (step .fault)) (takes (step .next) (number + 1) rest) (leb (total + (lengthOf line + 1 + textLength rest)) 65536)))
+  line-by false long =
+      let step = stepOf state number line in
+      let over = leb-false all 65536 long in
+      rw (long, lt-leb (total + (lengthOf line + 1 + textLength rest)) 65536 (omega arith), and-none (isTaken (step .fault)))
+      (sym (and-none (isTaken (step .fault) && takes (step .next) (number + 1) rest)))
+
+pub accepts-halves : (lines : List Line) (state : State) (number total : ℕ) → total ≤ 65536
+    → accepts state number total lines ≡ (takes state number lines && leb (total + textLength lines) 65536)
+unfolding accepts takes textLength
+accepts-halves [] state number total few = rw (le-leb (total + 0) 65536 (omega arith)) (sym (and-some (isBetween behindTrailer behindMessage (state .stage))))
+accepts-halves (line ∷ rest) state number total few =
+    line-by line rest state number total (λ state number total few. accepts-halves rest state number total few) (leb (total + (lengthOf line + 1)) 65536) refl
+
+module _ (lines : List Line) where
+  pub accepts-not-taken : takes start 1 lines ≡ false → accepts start 1 0 lines ≡ false
+  accepts-not-taken fails = accepts-halves lines start 1 0 (omega arith) ∙ rw fails
+
+  module _ (takes-all : takes start 1 lines ≡ true) where
+    pub accepts-short : textLength lines ≤ 65536 → accepts start 1 0 lines ≡ true
+    accepts-short few = accepts-halves lines start 1 0 (omega arith) ∙ rw (takes-all, le-leb (0 + textLength lines) 65536 (omega arith))
+
+    pub accepts-long : 65536 < textLength lines → accepts start 1 0 lines ≡ false
+    accepts-long over = accepts-halves lines start 1 0 (omega arith) ∙ rw (takes-all, lt-leb (0 + textLength lines) 65536 (omega arith))
+
+-- ---- takes: lines that are taken are of known forms
+
+taken-known : (state : State) (number : ℕ) (line : Line) → isTaken (stepOf state number line .fault) ≡ true → isKnown line ≡ true
+unfolding isKnown stepOf
+taken-known state number (Def tag place) taken = refl
+taken-known state number (Value value) taken = refl
+taken-known state number BeginHeader taken = refl
+taken-known state number BeginTrailer taken = refl
+taken-known state number EndHeader taken = refl
+taken-known state number EndTrailer taken = refl
+taken-known state number (Component name) taken = refl
+taken-known state number (Message letters app) taken = refl
+taken-known state number (Field tag required) taken = refl
+taken-known state number (Group count delimiter required) taken = refl
+taken-known state number (Use name required) taken = refl
+taken-known state number (End name letters) taken = refl
+taken-known state number (Member tag) taken = refl
+taken-known state number (RequiredTag tag) taken = refl
+taken-known state number Unknown taken = absurd (false≢true taken)
+
+pub takes-known : (lines : ℕ) (words : List ℕ) (state : State) (number : ℕ) → takes state number (linesFrom lines words) ≡ true → AreKnown lines words
+unfolding takes linesFrom
+takes-known zero words state number all index inside = absurd (omega arith)
+takes-known (suc lines) words state number all zero inside =
+    let step = stepOf state number (lineFrom (take 10 words)) in
+    taken-known state number (lineFrom (take 10 words)) (and-left (isTaken (step .fault)) (takes (step .next) (number + 1) (linesFrom lines (drop 10 words))) all)
+takes-known (suc lines) words state number all (suc index) inside =
+    let step = stepOf state number (lineFrom (take 10 words)) in
+    let place : 10 + 10 * index ≡ 10 * suc index = omega arith in
+    let deeper = takes-known lines (drop 10 words) (step .next) (number + 1)
+    (and-right (isTaken (step .fault)) (takes (step .next) (number + 1) (linesFrom lines (drop 10 words))) all) index (omega arith) in
+    rw (drop-drop (10 * index) 10 words, place) at deeper
+
+-- ---- takes: the loop of `take_lines`
+
+-- the first `done` lines are taken and have at most so many bytes, and those from the record at `at` on are to be taken
+pub record TakesSoFar (words : List ℕ) (lines : ℕ) (state : State) (bytes done at : ℕ) : Type 0 where
   pub within : done ≤ lines
   pub place : at ≡ 4 + 10 * done
   pub few-open : state .depth ≤ 40
-  pub few-bytes : total ≤ 65536
-  pub rest : accepts start 1 0 (linesFrom lines (drop 4 words)) ≡ accepts state (done + 1) total (linesFrom (lines - done) (drop at words))
+  pub few-bytes : bytes ≤ 271 * done
+  pub short : textLength (linesFrom done (drop 4 words)) ≤ bytes
+  pub rest : takes start 1 (linesFrom lines (drop 4 words)) ≡ takes state (done + 1) (linesFrom (lines - done) (drop at words))
 
-pub accepts-begins : (words : List ℕ) (lines : ℕ) → AcceptsSoFar words lines start 0 0 4
-accepts-begins words lines = record {
+pub takes-begins : (words : List ℕ) (lines : ℕ) → TakesSoFar words lines start 0 0 4
+unfolding linesFrom textLength
+takes-begins words lines = record {
   within = omega arith;
   place = refl;
   few-open = omega arith;
   few-bytes = omega arith;
+  short = omega arith;
   rest = let all : lines - 0 ≡ lines = omega arith in rw all;
 }
 
-module _ (words : List ℕ) (lines : ℕ) (state : State) (total done at : ℕ) (so-far : AcceptsSoFar words lines state total done at) where
-  pub accepts-ends : lines ≤ done → accepts start 1 0 (linesFrom lines (drop 4 words)) ≡ isBetween behindTrailer behindMessage (state .stage)
-  unfolding linesFrom accepts
-  accepts-ends over = let none : lines - done ≡ 0 = omega (arith, so-far .within) in so-far .rest ∙ rw none
+textLength-after : (before after : ℕ) (words : List ℕ)
+    → textLength (linesFrom (before + after) words) ≡ textLength (linesFrom before words) + textLength (linesFrom after (drop (10 * before) words))
+unfolding linesFrom textLength
+textLength-after zero after words = let all : 0 + after ≡ after = omega arith in rw all (omega arith)
+textLength-after (suc before) after words =
+    let next : suc before + after ≡ suc (before + after) = omega arith in
+    let place : 10 + 10 * before ≡ 10 * suc before = omega arith in
+    let rest = rw (drop-drop (10 * before) 10 words, place) at (textLength-after before after (drop 10 words)) in
+    ap (λ (count : ℕ). textLength (linesFrom count words)) next ∙ omega (arith, rest)
+
+module _ (words : List ℕ) (lines : ℕ) (state : State) (bytes done at : ℕ) (so-far : TakesSoFar words lines state bytes done at) where
+  pub takes-ends : lines ≤ done → takes start 1 (linesFrom lines (drop 4 words)) ≡ isBetween behindTrailer behindMessage (state .stage)
+  unfolding linesFrom takes
+  takes-ends over = let none : lines - done ≡ 0 = omega (arith, so-far .within) in so-far .rest ∙ rw none
+
+  pub takes-short : lines ≤ done → textLength (linesFrom lines (drop 4 words)) ≤ bytes
+  takes-short over = let all : lines ≡ done = omega (arith, so-far .within) in rw all (so-far .short)
 
   module _ (inside : done < lines) (line : Line) (read : line ≡ lineFrom (take 10 (drop at words))) (next : Standing) (stands : next ≡ standingOf (stepOf state (done + 1) line)) where
     next-line : linesFrom (lines - done) (drop at words) ≡ line ∷ linesFrom (lines - (done + 1)) (drop (at + 10) words)
@@ -65,61 +163,42 @@ module _ (words : List ℕ) (lines : ℕ) (state : State) (total done at : ℕ) 
     taken-same : isTaken (stepOf state (done + 1) line .fault) ≡ next .taken
     taken-same = rw stands
 
-    pub accepts-faulty : next .taken ≡ false → accepts start 1 0 (linesFrom lines (drop 4 words)) ≡ false
-    unfolding accepts
-    accepts-faulty fault = so-far .rest ∙ rw (next-line, taken-same, fault)
+    pub takes-faulty : next .taken ≡ false → takes start 1 (linesFrom lines (drop 4 words)) ≡ false
+    unfolding takes
+    takes-faulty fault = so-far .rest ∙ rw (next-line, taken-same, fault)
 
-    module _ (taken : next .taken ≡ true) (len : ℕ) (counted : len ≡ lengthOf line) where
-      line-long : 65536 < total + (len + 1) → accepts start 1 0 (linesFrom lines (drop 4 words)) ≡ false
-      unfolding accepts
-      line-long over = so-far .rest ∙ rw (next-line, taken-same, taken, ← counted, lt-leb (total + (len + 1)) 65536 over)
+    -- the line is taken, and the run behind it is passed over
+    module _ (taken : next .taken ≡ true) (tags : List ℕ) (opens : tags ≡ stepOf state (done + 1) line .next .counts)
+        (run-lines run-bytes run-tags : ℕ) (run : PassedOver next run-lines run-bytes run-tags (drop (at + 10) words))
+        (run-inside : run-lines ≤ lines - done - 1) (run-few : run-bytes ≤ 271 * run-lines) where
+      behind : stateOf next tags ≡ stepOf state (done + 1) line .next
+      behind = rw (stands, opens) (state-again (stepOf state (done + 1) line))
 
-      module _ (tags : List ℕ) (opens : tags ≡ stepOf state (done + 1) line .next .counts) where
-        line-goes-on : total + (len + 1) ≤ 65536 → AcceptsSoFar words lines (stateOf next tags) (total + (len + 1)) (done + 1) (at + 10)
-        unfolding accepts
-        line-goes-on few =
-            let behind : stateOf next tags ≡ stepOf state (done + 1) line .next = rw (stands, opens) (state-again (stepOf state (done + 1) line)) in
-            record {
-              within = omega arith;
-              place = omega (arith, so-far .place);
-              few-open = rw behind (step-depth state (done + 1) (so-far .few-open) line);
-              few-bytes = few;
-              rest = so-far .rest ∙ rw (next-line, taken-same, taken, ← counted, le-leb (total + (len + 1)) 65536 few, behind);
-            }
+      longer : at + 10 ≤ length words → textLength (linesFrom (done + (1 + run-lines)) (drop 4 words)) ≤ bytes + (39 + run-bytes)
+      unfolding linesFrom textLength
+      longer fits =
+          let here : drop (10 * done) (drop 4 words) ≡ drop at words = drop-drop (10 * done) 4 words ∙ rw (so-far .place) in
+          let next-one : 1 + run-lines ≡ suc run-lines = omega arith in
+          let parts = rw (here, next-one, drop-drop 10 at words) at (textLength-after done (1 + run-lines) (drop 4 words)) in
+          let few = lineFrom-few (take 10 (drop at words)) (simp (length-take, length-drop) (omega arith)) in
+          rw next-one (omega (arith, parts, few, so-far .short, run .short))
 
-        -- the run behind the line is passed over
-        module _ (run : Run) (runs : run ≡ runBehind next (run .lines) (drop (at + 10) words)) (inside-too : run .lines ≤ lines - done - 1) where
-          run-passed : total + (len + 1) ≤ 65536
-              → accepts start 1 0 (linesFrom lines (drop 4 words)) ≡ acceptsBehind (stateOf next tags) (done + 1 + 1) (total + (len + 1)) (lines - done - 1) (drop (at + 10) words) run
-          run-passed few =
-              let left : lines - (done + 1) ≡ lines - done - 1 = omega arith in
-              line-goes-on few .rest ∙ rw left (runBehind-passes next tags (done + 1 + 1) (total + (len + 1)) (run .lines) (lines - done - 1) (drop (at + 10) words) inside-too few ∙ rw (← runs))
-
-          bytes-together : total + (len + 1) + run .bytes ≡ total + (len + 1 + run .bytes)
-          bytes-together = omega arith
-
-          long-by : (fits : Bool) → leb (total + (len + 1)) 65536 ≡ fits → 65536 < total + (len + 1 + run .bytes) → accepts start 1 0 (linesFrom lines (drop 4 words)) ≡ false
-          long-by true fits over =
-              run-passed (leb-true (total + (len + 1)) 65536 fits) ∙ rw (bytes-together, lt-leb (total + (len + 1 + run .bytes)) 65536 over)
-          long-by false long over = line-long (leb-false (total + (len + 1)) 65536 long)
-
-          pub accepts-long : 65536 < total + (len + 1 + run .bytes) → accepts start 1 0 (linesFrom lines (drop 4 words)) ≡ false
-          accepts-long over = long-by (leb (total + (len + 1)) 65536) refl over
-
-          pub accepts-goes-on : total + (len + 1 + run .bytes) ≤ 65536
-              → AcceptsSoFar words lines (stateOf next tags) (total + (len + 1 + run .bytes)) (done + (1 + run .lines)) (at + (10 + 10 * run .lines))
-          accepts-goes-on few =
-              let one-more = line-goes-on (omega arith) in
-              let number : done + 1 + 1 + run .lines ≡ done + (1 + run .lines) + 1 = omega arith in
-              let left : lines - done - 1 - run .lines ≡ lines - (done + (1 + run .lines)) = omega arith in
-              let behind : at + 10 + 10 * run .lines ≡ at + (10 + 10 * run .lines) = omega arith in
-              record {
-                within = omega arith;
-                place = omega (arith, so-far .place);
-                few-open = one-more .few-open;
-                few-bytes = few;
-                rest = run-passed (omega arith) ∙ rw (bytes-together, le-leb (total + (len + 1 + run .bytes)) 65536 few, number, left, drop-drop (10 * run .lines) (at + 10) words, behind);
-              }
+      pub takes-goes-on : at + 10 ≤ length words
+          → TakesSoFar words lines (stateOf next tags) (bytes + (39 + run-bytes)) (done + (1 + run-lines)) (at + (10 + 10 * run-lines))
+      unfolding takes
+      takes-goes-on fits =
+          let number : done + 1 + 1 + run-lines ≡ done + (1 + run-lines) + 1 = omega arith in
+          let left : lines - (done + 1) - run-lines ≡ lines - (done + (1 + run-lines)) = omega arith in
+          let place : at + 10 + 10 * run-lines ≡ at + (10 + 10 * run-lines) = omega arith in
+          let over = run .stays tags (done + 1 + 1) (lines - (done + 1)) (omega arith) in
+          record {
+            within = omega arith;
+            place = omega (arith, so-far .place);
+            few-open = rw behind (step-depth state (done + 1) (so-far .few-open) line);
+            few-bytes = omega (arith, so-far .few-bytes);
+            short = longer fits;
+            rest = so-far .rest ∙ rw (next-line, taken-same, taken, ← behind, over, drop-drop (10 * run-lines) (at + 10) words, number, left, place);
+          }
 
 -- ---- countOf: what the lines behind define
 
@@ -127,36 +206,27 @@ few-by : (same : Bool) {rest count : ℕ} → rest ≤ count → cond same (suc 
 few-by true few = omega arith
 few-by false few = omega arith
 
-countOf-behind : (kind before after : ℕ) (words : List ℕ) → countOf kind (before + after) words ≡ countOf kind before words + countOf kind after (drop (10 * before) words)
-unfolding countOf
-countOf-behind kind zero after words = let all : 0 + after ≡ after = omega arith in rw all (omega arith)
-countOf-behind kind (suc before) after words =
-    let next : suc before + after ≡ suc (before + after) = omega arith in
-    let place : 10 + 10 * before ≡ 10 * suc before = omega arith in
-    let rest = rw (drop-drop (10 * before) 10 words, place) at (countOf-behind kind before after (drop 10 words)) in
-    ap (λ (count : ℕ). countOf kind count words) next ∙ omega (arith, countOf-step kind (before + after) words, countOf-step kind before words, rest)
-
 pub counted-begins : (words : List ℕ) → Counted 0 words 0 0 0
 unfolding countOf
 counted-begins words = record { of-tags = refl; of-components = refl; of-messages = refl }
 
-module _ (words : List ℕ) (done at : ℕ) (place : at ≡ 4 + 10 * done) (run : Run) where
+module _ (words : List ℕ) (done at : ℕ) (place : at ≡ 4 + 10 * done) (run-lines : ℕ) where
   counted-more : (kind : ℕ)
-      → countOf kind (done + (1 + run .lines)) (drop 4 words) ≡ countOf kind done (drop 4 words) + (countOne (getD words at 0) kind + countOf kind (run .lines) (drop (at + 10) words))
+      → countOf kind (done + (1 + run-lines)) (drop 4 words) ≡ countOf kind done (drop 4 words) + (countOne (getD words at 0) kind + countOf kind run-lines (drop (at + 10) words))
   counted-more kind =
-      let next : 1 + run .lines ≡ suc (run .lines) = omega arith in
+      let next : 1 + run-lines ≡ suc run-lines = omega arith in
       let here : drop (10 * done) (drop 4 words) ≡ drop at words = drop-drop (10 * done) 4 words ∙ rw place in
       let same : at + 0 ≡ at = omega arith in
       let first-word : getD (drop at words) 0 0 ≡ getD words at 0 = getD-drop at words 0 0 ∙ rw same in
-      countOf-behind kind done (1 + run .lines) (drop 4 words) ∙ rw (here, next, countOf-step kind (run .lines) (drop at words), first-word, drop-drop 10 at words)
+      countOf-behind kind done (1 + run-lines) (drop 4 words) ∙ rw (here, next, countOf-step kind run-lines (drop at words), first-word, drop-drop 10 at words)
 
-  pub counted-goes-on : (tags components messages : ℕ) → Counted done (drop 4 words) tags components messages → CountedIn run (drop (at + 10) words)
+  pub counted-goes-on : (tags components messages run-tags : ℕ) → Counted done (drop 4 words) tags components messages → Counted run-lines (drop (at + 10) words) run-tags 0 0
       → (tag component message : ℕ)
       → tag ≡ countOne (getD words at 0) kinds.definitions
       → component ≡ countOne (getD words at 0) kinds.components
       → message ≡ countOne (getD words at 0) kinds.messages
-      → Counted (done + (1 + run .lines)) (drop 4 words) (tags + (tag + run .tags)) (components + component) (messages + message)
-  counted-goes-on tags components messages counted behind tag component message of-tag of-component of-message = record {
+      → Counted (done + (1 + run-lines)) (drop 4 words) (tags + (tag + run-tags)) (components + component) (messages + message)
+  counted-goes-on tags components messages run-tags counted behind tag component message of-tag of-component of-message = record {
     of-tags = omega (arith, counted-more kinds.definitions, counted .of-tags, behind .of-tags);
     of-components = omega (arith, counted-more kinds.components, counted .of-components, behind .of-components);
     of-messages = omega (arith, counted-more kinds.messages, counted .of-messages, behind .of-messages);
@@ -210,10 +280,6 @@ order-begins kind count at words = record {
   within = omega arith;
   rest = let all : at + count - at ≡ count = omega arith in rw (all, ascending-from (take count (drop at words)));
 }
-
-and-none : (test : Bool) → (test && false) ≡ false
-and-none true = refl
-and-none false = refl
 
 module _ (kind count at : ℕ) (words : List ℕ) (place lowest : ℕ) (so-far : InOrderSoFar kind count at words place lowest) where
   abbrev InOrder : Bool → Type 0

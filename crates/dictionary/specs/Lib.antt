@@ -17,8 +17,7 @@ pub mod LineOrder
 pub mod LineOrderLaws
 pub mod LineRuns
 pub mod LineRunsLaws
-pub mod ShortRuns
-pub mod ShortRunsLaws
+pub mod LineLengthLaws
 pub mod DictionaryCheckLaws
 pub mod Definitions
 pub mod DictionaryCases

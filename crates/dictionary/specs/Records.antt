@@ -25,6 +25,7 @@
 --   holdsValue left words        the words hold `left` bytes 21 to 7E, then 0
 --   recordOf line                the ten words of a line
 --   lineFrom record              the line of ten words
+--   isKnown line                 the line is of a known form
 use Prim.Native.Nat.{ℕ, _+_, _-_, _*_, _/_, _%_}
 use mathlib.Core.Bool.{Bool, true, false, _&&_}
 use mathlib.Core.List.{List, [], _∷_}
@@ -231,3 +232,21 @@ bodyFrom words =
 
 unfoldable pub lineFrom : List ℕ → Line
 lineFrom words = if getD words 0 0 ≤ᵇ 6 then outerFrom words else bodyFrom words
+
+-- the line is of a known form
+unfoldable pub isKnown : Line → Bool
+isKnown (Def tag place) = true
+isKnown (Value value) = true
+isKnown BeginHeader = true
+isKnown BeginTrailer = true
+isKnown EndHeader = true
+isKnown EndTrailer = true
+isKnown (Component name) = true
+isKnown (Message letters app) = true
+isKnown (Field tag required) = true
+isKnown (Group count delimiter required) = true
+isKnown (Use name required) = true
+isKnown (End number letters) = true
+isKnown (Member tag) = true
+isKnown (RequiredTag tag) = true
+isKnown Unknown = false

@@ -3,9 +3,9 @@ use mathlib.Core.Path.{_≡_, refl, sym, ap}
 use Prim.Native.Nat.{ℕ, zero, suc, _<_}
 use mathlib.Core.Bool.{Bool, true, false, _&&_, false≢true}
 use native.Mathlib.Omega.{arith}
-use lib.Dec.{eqb}
+use lib.Dec.{eqb, ltb}
 use lib.ListN.{length, getD, List·getD-eq-default}
-use borrow.Author.Tests.{eqb-true, eqb-false}
+use borrow.Author.Tests.{ltb-true, ltb-false, eqb-true, eqb-false}
 use Rattle.ascii.specs.NotationLaws.{and-left, and-right}
 use Rattle.ascii.specs.Bytes.{every}
 use Rattle.formats.specs.FieldTypeLaws.{NoneBelow, none-below}
@@ -74,3 +74,13 @@ typeLengths-at known place same = ap (λ at. getD typeLengths at 0) (sym same)
 
 pub typeLengths-behind : (place : ℕ) → NoneBelow 34 place → 0 ≡ getD typeLengths place 0
 typeLengths-behind place none = sym (List·getD-eq-default typeLengths 0 (none-below 34 place none))
+
+lengths-below-20 : allBelow 34 (λ place. ltb (getD typeLengths place 0) 20) ≡ true
+lengths-below-20 = refl
+
+length-few-by : (place : ℕ) (inside : Bool) → ltb place 34 ≡ inside → getD typeLengths place 0 < 20
+length-few-by place true below = ltb-true _ _ (allBelow-at 34 (λ number. ltb (getD typeLengths number 0) 20) lengths-below-20 place (ltb-true place 34 below))
+length-few-by place false over = rw (List·getD-eq-default typeLengths 0 (ltb-false place 34 over)) (omega arith)
+
+pub typeLengths-few : (place : ℕ) → getD typeLengths place 0 < 20
+typeLengths-few place = length-few-by place (ltb place 34) refl

@@ -3,7 +3,7 @@ use crate::line_order::Standing;
 use crate::line_order::next_standing;
 use crate::line_runs::count_one;
 use crate::line_runs::run_behind;
-use crate::line_texts::length_of;
+use crate::line_texts::text_length;
 use crate::records::line_at;
 use texts::dictionary_order::BEGINNING;
 use texts::dictionary_order::BEHIND_MESSAGE;
@@ -16,7 +16,10 @@ ghost use lib.ListN.{length, getD, take, drop};
 ghost use Rattle.ascii.specs.Notation.{isBetween};
 ghost use Rattle.sorting.specs.Search.{isStrictlyAscending};
 ghost use Rattle.texts.specs.DictionaryOrder.{start, behindTrailer, behindMessage};
-ghost use Rattle.dictionary.specs.DictionaryCheck.{linesFrom, accepts, countOf, Counted, standsAt, standsEach, isIndex, isDictionary};
+ghost use Rattle.dictionary.specs.DictionaryCheck.{linesFrom, takes, textLength, accepts, countOf, Counted, standsAt, standsEach, isIndex, isDictionary};
+
+// How many bytes a line has at most, with its line feed: a value of 32 bytes has the longest.
+const LINE: usize = 39;
 
 // A text may end here: behind its trailer, and with no block open.
 fn may_end(stage: u8) -> bool
@@ -28,9 +31,10 @@ fn may_end(stage: u8) -> bool
     stage <= BEHIND_MESSAGE
 }
 
-// Whether the lines of records are those of an accepted text, but for what is defined again. If so, how many of them define a tag, a component, a message.
+// Whether lines were accepted. If so, how many bytes their text has at most, and how many of them define a tag, a component, a message.
 struct LinesRead {
     accepted: bool,
+    bytes: usize,
     tags: usize,
     components: usize,
     messages: usize,
@@ -41,16 +45,18 @@ fn not_accepted() -> LinesRead
 {
     LinesRead {
         accepted: false,
+        bytes: 0,
         tags: 0,
         components: 0,
         messages: 0,
     }
 }
 
-// Reads the lines of so many records.
-fn read_lines(words: &[u32], lines: usize) -> LinesRead
+// Takes the lines of so many records, one behind the other. A text with no block open may end behind them.
+fn take_lines(words: &[u32], lines: usize) -> LinesRead
     requires { ⌜ (lines ≤ 4294967295) × (4 + 10 * lines ≤ length (now words)) ⌝ }
-    ensures accepted { λ read. ⌜ read .accepted ≡ accepts start 1 0 (linesFrom lines (drop 4 (now (words .entry)))) ⌝ }
+    ensures accepted { λ read. ⌜ read .accepted ≡ takes start 1 (linesFrom lines (drop 4 (now (words .entry)))) ⌝ }
+    ensures bytes { λ read. ⌜ (read .accepted ≡ true → textLength (linesFrom lines (drop 4 (now (words .entry)))) ≤ read .bytes) ⌝ }
     ensures counts { λ read. ⌜ (read .accepted ≡ true → Counted lines (drop 4 (now (words .entry))) (read .tags) (read .components) (read .messages)) ⌝ }
 {
     let mut counts = [0u32; 40];
@@ -61,7 +67,8 @@ fn read_lines(words: &[u32], lines: usize) -> LinesRead
         name: 0,
         depth: 0,
     };
-    let mut total: usize = 0;
+    let mut clean = true;
+    let mut bytes: usize = 0;
     let mut tags: usize = 0;
     let mut components: usize = 0;
     let mut messages: usize = 0;
@@ -73,25 +80,43 @@ fn read_lines(words: &[u32], lines: usize) -> LinesRead
         if !next.taken {
             return not_accepted();
         }
-        let run = run_behind(next, lines - done - 1, words, at + 10);
-        total += length_of(line) + 1 + run.bytes;
-        if 65536 < total {
-            return not_accepted();
-        }
+        let run = run_behind(next, clean, lines - done - 1, words, at + 10);
         let kind = words[at];
+        bytes += LINE + run.bytes;
         tags += count_one(kind, 1) + run.tags;
         components += count_one(kind, 5);
         messages += count_one(kind, 6);
         standing = next;
+        clean = run.clean;
         done += 1 + run.lines;
         at += 10 + 10 * run.lines;
     }
     LinesRead {
         accepted: may_end(standing.stage),
+        bytes,
         tags,
         components,
         messages,
     }
+}
+
+// Whether the lines of records are those of an accepted text, but for what is defined again. The bytes of the text are counted only where it may have too many.
+fn read_lines(words: &[u32], lines: usize) -> LinesRead
+    requires { ⌜ (lines ≤ 4294967295) × (4 + 10 * lines ≤ length (now words)) ⌝ }
+    ensures accepted { λ read. ⌜ read .accepted ≡ accepts start 1 0 (linesFrom lines (drop 4 (now (words .entry)))) ⌝ }
+    ensures counts { λ read. ⌜ (read .accepted ≡ true → Counted lines (drop 4 (now (words .entry))) (read .tags) (read .components) (read .messages)) ⌝ }
+{
+    let read = take_lines(words, lines);
+    if !read.accepted {
+        return not_accepted();
+    }
+    if read.bytes <= 65536 {
+        return read;
+    }
+    if text_length(words, lines) <= 65536 {
+        return read;
+    }
+    not_accepted()
 }
 
 // The record with this number is of this kind and has this name.

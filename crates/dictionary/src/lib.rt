@@ -6,4 +6,3 @@ pub mod line_order;
 pub mod line_runs;
 pub mod line_texts;
 pub mod records;
-pub mod short_runs;

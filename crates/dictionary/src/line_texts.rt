@@ -1,12 +1,13 @@
-// How long the text of a line is.
+// How long the texts of lines are.
 use crate::records::letters_length;
-use texts::line::Line;
-use texts::line_parts::MessageType;
-use texts::line_parts::Number32;
 ghost use mathlib.Core.Path.{_≡_};
-ghost use Prim.Native.Nat.{_+_, _≤_};
-ghost use lib.ListN.{getD};
-ghost use Rattle.dictionary.specs.LineTexts.{reaches, digitCount, typeLengths, appLength, endLength, lengthOf};
+ghost use mathlib.Core.Bool.{true};
+ghost use Prim.Native.Nat.{_+_, _*_, _≤_};
+ghost use lib.ListN.{length, getD, drop};
+ghost use Rattle.ascii.specs.Notation.{_≡ᵇ_};
+ghost use Rattle.dictionary.specs.Records.{lineFrom, isKnown};
+ghost use Rattle.dictionary.specs.LineTexts.{reaches, digitCount, typeLengths, appLength, lengthOf};
+ghost use Rattle.dictionary.specs.DictionaryCheck.{linesFrom, textLength, AreKnown};
 
 // 1 where the number is at least the bound.
 fn reaches(bound: u32, n: u32) -> usize
@@ -78,46 +79,50 @@ pub fn type_length(place: u32) -> usize
     }
 }
 
-fn app_length(app: bool) -> usize
-    ensures length { λ len. ⌜ len ≡ appLength app ⌝ }
+// How long `app` is, or `admin`.
+fn app_length(app: u32) -> usize
+    ensures length { λ len. ⌜ len ≡ appLength (app ≡ᵇ 1) ⌝ }
     ensures few { λ len. ⌜ len ≤ 5 ⌝ }
 {
-    if app { 3 } else { 5 }
+    if app == 1 { 3 } else { 5 }
 }
 
-fn end_length(number: Number32, letters: MessageType) -> usize
-    ensures length { λ len. ⌜ len ≡ endLength number letters ⌝ }
-    ensures few { λ len. ⌜ len ≤ 14 ⌝ }
+// How many bytes the line of the record has, with its line feed.
+fn record_length(words: &[u32]) -> usize
+    requires { ⌜ (length (now words) ≡ 10) × (isKnown (lineFrom (now words)) ≡ true) ⌝ }
+    ensures length { λ len. ⌜ len ≡ lengthOf (lineFrom (now (words .entry))) + 1 ⌝ }
 {
-    match letters {
-        MessageType::Letters(name) => 4 + letters_length(name) as usize,
-        MessageType::NoLetters => match number {
-            Number32::Number(name) => 4 + digit_count(name),
-            Number32::NoNumber => 0,
-        },
+    match words[0] {
+        1 => 6 + digit_count(words[1]) + type_length(words[2]),
+        2 => 7 + words[1] as usize,
+        3 => 13,
+        4 => 14,
+        5 => 11 + digit_count(words[1]),
+        6 => 10 + letters_length(words[1]) as usize + app_length(words[2]),
+        7 => 9 + digit_count(words[1]),
+        8 => 10 + digit_count(words[1]) + digit_count(words[2]),
+        9 => 7 + digit_count(words[1]),
+        10 => 11,
+        11 => 12,
+        12 => 5 + letters_length(words[1]) as usize,
+        13 => 5 + digit_count(words[1]),
+        _ => 0,
     }
 }
 
-// How many bytes the line has, without its line feed.
-pub fn length_of(line: Line) -> usize
-    ensures length { λ len. ⌜ len ≡ lengthOf line ⌝ }
-    ensures few { λ len. ⌜ len ≤ 4294967301 ⌝ }
+// How many bytes the text of so many lines has.
+pub fn text_length(words: &[u32], lines: usize) -> usize
+    requires { ⌜ (lines ≤ 4294967295) × ((4 + 10 * lines ≤ length (now words)) × AreKnown lines (drop 4 (now words))) ⌝ }
+    ensures { λ len. ⌜ len ≡ textLength (linesFrom lines (drop 4 (now (words .entry)))) ⌝ }
 {
-    match line {
-        Line::Def(tag, place) => 5 + digit_count(tag) + type_length(place),
-        Line::Value(value) => 6 + value.len as usize,
-        Line::BeginHeader => 12,
-        Line::BeginTrailer => 13,
-        Line::EndHeader => 10,
-        Line::EndTrailer => 11,
-        Line::Component(name) => 10 + digit_count(name),
-        Line::Message(letters, app) => 9 + letters_length(letters) as usize + app_length(app),
-        Line::Field(tag, _) => 8 + digit_count(tag),
-        Line::Group(count, delimiter, _) => 9 + digit_count(count) + digit_count(delimiter),
-        Line::Use(name, _) => 6 + digit_count(name),
-        Line::End(number, letters) => end_length(number, letters),
-        Line::Member(_) => 0,
-        Line::RequiredTag(_) => 0,
-        Line::Unknown => 0,
+    let mut total: usize = 0;
+    let mut done: usize = 0;
+    let mut at: usize = 4;
+    while done < lines {
+        let past = at + 10;
+        total += record_length(&words[at..past]);
+        done += 1;
+        at += 10;
     }
+    total
 }

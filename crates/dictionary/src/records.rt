@@ -5,7 +5,7 @@ use texts::line_parts::MessageType;
 use texts::line_parts::Number32;
 ghost use mathlib.Core.Path.{_≡_};
 ghost use mathlib.Core.Bool.{true};
-ghost use Prim.Native.Nat.{_+_, _*_, _-_, _≤_};
+ghost use Prim.Native.Nat.{_+_, _*_, _-_, _/_, _%_, _≤_};
 ghost use lib.ListN.{length, getD, take, drop};
 ghost use Rattle.ascii.specs.Notation.{isBetween};
 ghost use Rattle.ascii.specs.Digits.{isDigit};
@@ -98,7 +98,7 @@ fn holds_one_visible(word: u32) -> bool
     is_visible(word / 0x100_0000)
 }
 
-fn holds_visible_part(left: u32, word: u32) -> bool
+pub fn holds_visible_part(left: u32, word: u32) -> bool
     ensures { λ answer. ⌜ answer ≡ holdsPart isVisible left word ⌝ }
 {
     // most values are short: one byte, and the words behind it need one look each
@@ -156,9 +156,10 @@ fn pair(low: u32, high: u32) -> u64
 }
 
 // Two words that stand side by side as one number, so that one load reads both.
-fn pair_at(words: &[u32], at: usize) -> u64
+pub fn pair_at(words: &[u32], at: usize) -> u64
     requires { ⌜ at + 2 ≤ length (now words) ⌝ }
-    ensures { λ pair. ⌜ pair ≡ pairAt (now (words .entry)) at ⌝ }
+    ensures pair { λ pair. ⌜ pair ≡ pairAt (now (words .entry)) at ⌝ }
+    ensures halves { λ pair. ⌜ (pair % 4294967296 ≡ getD (now (words .entry)) at 0) × (pair / 4294967296 ≡ getD (now (words .entry)) (at + 1) 0) ⌝ }
 {
     pair(words[at], words[at + 1])
 }

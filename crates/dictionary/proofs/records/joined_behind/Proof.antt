@@ -34,16 +34,16 @@ pair-at-requires-7 c κs = search needs
 
 -- fn joined_behind(used: usize, words: &[u32]) -> u64
 returns : tie.Need-returns
-returns c = let one : c .before .before .before .before .before .before .before .args .used ≡ 1 = omega arith in rw (one, c .before .pair-at4 .ensures, c .pair-at5 .ensures, c .before .before .before .before .before .pair-at .ensures, c .before .before .before .before .pair-at2 .ensures, c .before .before .before .pair-at3 .ensures) (behind-one (c .before .before .before .before .before .before .before .args .words .now) (c .before .before .before .before .before .before .before .pre .1) _ (behind-four (c .before .before .before .before .before .before .before .args .words .now) (c .before .before .before .before .before .before .before .pre .1)))
+returns c = let one : c .before .before .before .before .before .before .before .args .used ≡ 1 = omega arith in rw (one, c .before .pair-at4 .ensures .0, c .pair-at5 .ensures .0, c .before .before .before .before .before .pair-at .ensures .0, c .before .before .before .before .pair-at2 .ensures .0, c .before .before .before .pair-at3 .ensures .0) (behind-one (c .before .before .before .before .before .before .before .args .words .now) (c .before .before .before .before .before .before .before .pre .1) _ (behind-four (c .before .before .before .before .before .before .before .args .words .now) (c .before .before .before .before .before .before .before .pre .1)))
 
 returns-2 : tie.Need-returns-2
-returns-2 c = let two : c .before .before .before .before .before .before .args .used ≡ 2 = omega arith in rw (two, c .pair-at6 .ensures, c .before .before .before .before .pair-at .ensures, c .before .before .before .pair-at2 .ensures, c .before .before .pair-at3 .ensures) (behind-two (c .before .before .before .before .before .before .args .words .now) (c .before .before .before .before .before .before .pre .1) _ (behind-four (c .before .before .before .before .before .before .args .words .now) (c .before .before .before .before .before .before .pre .1)))
+returns-2 c = let two : c .before .before .before .before .before .before .args .used ≡ 2 = omega arith in rw (two, c .pair-at6 .ensures .0, c .before .before .before .before .pair-at .ensures .0, c .before .before .before .pair-at2 .ensures .0, c .before .before .pair-at3 .ensures .0) (behind-two (c .before .before .before .before .before .before .args .words .now) (c .before .before .before .before .before .before .pre .1) _ (behind-four (c .before .before .before .before .before .before .args .words .now) (c .before .before .before .before .before .before .pre .1)))
 
 returns-3 : tie.Need-returns-3
-returns-3 c = let three : c .before .before .before .before .before .before .args .used ≡ 3 = omega arith in rw (three, c .pair-at7 .ensures, c .before .before .before .before .pair-at .ensures, c .before .before .before .pair-at2 .ensures, c .before .before .pair-at3 .ensures) (behind-three (c .before .before .before .before .before .before .args .words .now) (c .before .before .before .before .before .before .pre .1) _ (behind-four (c .before .before .before .before .before .before .args .words .now) (c .before .before .before .before .before .before .pre .1)))
+returns-3 c = let three : c .before .before .before .before .before .before .args .used ≡ 3 = omega arith in rw (three, c .pair-at7 .ensures .0, c .before .before .before .before .pair-at .ensures .0, c .before .before .before .pair-at2 .ensures .0, c .before .before .pair-at3 .ensures .0) (behind-three (c .before .before .before .before .before .before .args .words .now) (c .before .before .before .before .before .before .pre .1) _ (behind-four (c .before .before .before .before .before .before .args .words .now) (c .before .before .before .before .before .before .pre .1)))
 
 returns-4 : tie.Need-returns-4
-returns-4 c = let last : c .before .before .before .before .before .args .used ≡ 4 = omega (arith, c .before .before .before .before .before .pre .0 .0, c .before .before .before .before .before .pre .0 .1, c .match .rest .1, c .match .rest .0 .1, c .match .rest .0 .0 .1) in rw (last, c .before .before .before .pair-at .ensures, c .before .before .pair-at2 .ensures, c .before .pair-at3 .ensures) (behind-four (c .before .before .before .before .before .args .words .now) (c .before .before .before .before .before .pre .1))
+returns-4 c = let last : c .before .before .before .before .before .args .used ≡ 4 = omega (arith, c .before .before .before .before .before .pre .0 .0, c .before .before .before .before .before .pre .0 .1, c .match .rest .1, c .match .rest .0 .1, c .match .rest .0 .0 .1) in rw (last, c .before .before .before .pair-at .ensures .0, c .before .before .pair-at2 .ensures .0, c .before .pair-at3 .ensures .0) (behind-four (c .before .before .before .before .before .args .words .now) (c .before .before .before .before .before .pre .1))
 
 pub joined-behind-spec : {M : Type 1} → statement M
 joined-behind-spec =
