@@ -20,8 +20,9 @@ use Rattle.walk.specs.declared.event.Kind.{Kind}
 use Rattle.walk.specs.declared.event.Kind.the-variants.{Twice, Foreign, Missing}
 use Rattle.walk.specs.declared.event.Event.{Event}
 use Rattle.walk.specs.Membership.{_∈ᵇ_}
+use Rattle.walk.specs.EntryTags.{insertIf}
 use Rattle.walk.specs.WalkInput.{Layout, Fields, Input}
-use Rattle.walk.specs.GroupWalk.{WalkedGroup, insertIf, walkGroup}
+use Rattle.walk.specs.GroupWalk.{WalkedGroup, walkGroup}
 
 pub record MessageLevel (Group : Type 0) : Type 0 where
   -- the dictionary defines the tag: `tags.field(tag)`

@@ -19,6 +19,7 @@ use Rattle.formats.specs.declared.count.Count.the-variants.{Number, Nothing}
 use Rattle.walk.specs.declared.event.Kind.the-variants.{Enter, BadCount, Delim, Repeat, Close, Miscount, Deep, Leave}
 use Rattle.walk.specs.declared.event.Event.{Event}
 use Rattle.walk.specs.Membership.{_∈ᵇ_}
+use Rattle.walk.specs.EntryTags.{insertIf}
 use Rattle.walk.specs.WalkInput.{Layout, Fields, Input, countAt, event}
 use Rattle.walk.specs.GroupSteps.{Opening, outside, too-deep, member-leads, entries-follow, Step, stops, plain-field, nested-group, openingAt, entryBegins, stepAt}
 
@@ -40,10 +41,6 @@ pub record ScannedEntry : Type 0 where
   pub next : ℕ
   pub unparseable : Bool
   pub seen : ℕ
-
--- the tags of an entry with one more; the Rust's `insert_rank`
-abbrev pub insertIf : Bool → ℕ → List ℕ → List ℕ
-insertIf repeated tag seen = if repeated then seen else tag ∷ seen
 
 module _ (layout : Layout) where
   open Layout layout using (Group)

@@ -22,14 +22,14 @@ use Rattle.layouts.specs.LayoutCheckFacts.{Passed}
 use Rattle.walk.specs.declared.event.Kind.the-variants.{Enter, Close, Delim, Deep}
 use Rattle.walk.specs.declared.event.Event.{Event}
 use Rattle.walk.specs.Membership.{_∈ᵇ_}
-use Rattle.walk.specs.EntryTags.{noRanks, holdsRank, insertRank, rankCount, TagsSeen}
+use Rattle.walk.specs.EntryTags.{noRanks, holdsRank, insertRank, rankCount, insertIf, TagsSeen}
 use Rattle.walk.specs.EntryTagsLaws.{seen-empty, seen-count, seen-holds, seen-insert}
 use Rattle.walk.specs.FieldTable.{rowCount, tagOf, fieldsOf}
 use Rattle.walk.specs.WalkInput.{Input, countAt, event}
 use Rattle.walk.specs.EventSpaceLaws.{Wrote, wrote-none, wrote-then}
 use Rattle.walk.specs.GroupSteps.{memberLeads, entryBegins, entryStops}
 use Rattle.walk.specs.GroupStepsLaws.{entryStops-within, entryStops-first, entryBegins-delimiter, memberLeads-taken}
-use Rattle.walk.specs.GroupWalk.{WalkedGroup, ScannedEntry, insertIf, badCount, repeatedTag, leadingEntry, walkGroup, scanEntry}
+use Rattle.walk.specs.GroupWalk.{WalkedGroup, ScannedEntry, badCount, repeatedTag, leadingEntry, walkGroup, scanEntry}
 use Rattle.walk.specs.GroupWalkLaws.Equations.{walkGroup-outside, walkGroup-too-deep}
 use Rattle.walk.specs.GroupWalkLaws.EventBound.{walkGroup-passes, walkGroup-few-events}
 use Rattle.walk.specs.GroupWalkLaws.Loops.{EntrySoFar, entry-begins, entry-ends, entry-takes-field, entry-takes-group, GroupSoFar, group-begins, group-leads, group-takes-entry, group-ends}

@@ -21,10 +21,11 @@ use Rattle.walk.specs.declared.event.Kind.the-variants.{Enter, Close, Miscount,
 use Rattle.walk.specs.declared.event.Event.{Event}
 use Rattle.walk.specs.Membership.{_∈ᵇ_}
 use Rattle.walk.specs.Events.{kindNumber}
+use Rattle.walk.specs.EntryTags.{insertIf}
 use Rattle.walk.specs.WalkInput.{Layout, Fields, Input, countAt, event}
 use Rattle.walk.specs.GroupSteps.{Opening, outside, too-deep, member-leads, entries-follow, Step, stops, plain-field, nested-group, memberLeads, entryBegins, openingAt, stepAt}
 use Rattle.walk.specs.GroupStepsLaws.{openingAt-member-leads, openingAt-entries-follow}
-use Rattle.walk.specs.GroupWalk.{WalkedGroup, WalkedEntries, ScannedEntry, insertIf, badCount, repeatedTag, endedBy, ended, wholeGroup, leadingEntry, fieldThen, entryThen, walkBy, entriesBy, scanBy, walkGroup}
+use Rattle.walk.specs.GroupWalk.{WalkedGroup, WalkedEntries, ScannedEntry, badCount, repeatedTag, endedBy, ended, wholeGroup, leadingEntry, fieldThen, entryThen, walkBy, entriesBy, scanBy, walkGroup}
 
 abbrev pub isEnter : Event → Bool
 isEnter event = kindNumber (event .kind) ≡ᵇ 1 && event .depth ≡ᵇ 0

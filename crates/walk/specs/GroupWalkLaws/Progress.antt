@@ -6,10 +6,11 @@ use mathlib.Core.List.{List, []}
 use native.Mathlib.Omega.{arith}
 use Rattle.formats.specs.declared.count.Count.{Count}
 use Rattle.walk.specs.Membership.{_∈ᵇ_}
+use Rattle.walk.specs.EntryTags.{insertIf}
 use Rattle.walk.specs.WalkInput.{Layout, Fields, Input, countAt}
 use Rattle.walk.specs.GroupSteps.{Opening, outside, too-deep, member-leads, entries-follow, Step, stops, plain-field, nested-group, entryBegins, entryStops, openingAt, stepAt}
 use Rattle.walk.specs.GroupStepsLaws.{entryStops-within, openingAt-inside, stepAt-tells}
-use Rattle.walk.specs.GroupWalk.{insertIf, walkBy, entriesBy, scanBy}
+use Rattle.walk.specs.GroupWalk.{walkBy, entriesBy, scanBy}
 
 module _ (input : Input) where
   open Input input using (layout, fields)

@@ -18,12 +18,13 @@ use Rattle.walk.specs.declared.event.Kind.the-variants.{Close, Leave}
 use Rattle.walk.specs.Membership.{_∈ᵇ_}
 use Rattle.walk.specs.Events.{NoFault}
 use Rattle.walk.specs.EventsLaws.{noFault-left, noFault-right}
+use Rattle.walk.specs.EntryTags.{insertIf}
 use Rattle.walk.specs.WalkInput.{Layout, Fields, Input, LayoutRules, countAt, event}
 use Rattle.walk.specs.GroupReading.{Reading, Entries, Items, Item, reading, no-entry, entry, no-item, item, plain, nested, readingEvents, entriesEvents, itemsEvents, itemEvents, itemCount}
 use Rattle.walk.specs.GroupReadingLaws.{no-entries}
 use Rattle.walk.specs.GroupSteps.{Opening, outside, too-deep, member-leads, entries-follow, Step, stops, plain-field, nested-group, memberLeads, entryBegins, entryStops, openingAt, stepAt}
 use Rattle.walk.specs.GroupStepsLaws.{entryStops-within, entryStops-member, entryStops-first, entryBegins-delimiter, openingAt-inside, openingAt-entries, stepAt-tells}
-use Rattle.walk.specs.GroupWalk.{WalkedGroup, WalkedEntries, ScannedEntry, insertIf, badCount, repeatedTag, endedBy, ended, wholeGroup, fieldThen, entryThen, walkBy, entriesBy, scanBy}
+use Rattle.walk.specs.GroupWalk.{WalkedGroup, WalkedEntries, ScannedEntry, badCount, repeatedTag, endedBy, ended, wholeGroup, fieldThen, entryThen, walkBy, entriesBy, scanBy}
 use Rattle.walk.specs.ReadingTheorem.Follow.{follows-behind}
 
 module _ (input : Input) where
