@@ -23,12 +23,12 @@ use Rattle.dictionary.specs.DefinedTags.{definedTags}
 use Rattle.layouts.specs.Limits.{gateLimits}
 use Rattle.layouts.specs.LayoutCheck.{isLayout}
 use Rattle.layouts.specs.LayoutCheckFacts.{Passed, isLayout-passed}
-use Rattle.walk.specs.declared.field_table.TableCheck.the-variants.{Accepted}
-use Rattle.walk.specs.declared.event.Event.{Event}
-use Rattle.walk.specs.Events.{kindNumber, eventsWords}
-use Rattle.walk.specs.EventSpaceLaws.{eventsWords-length}
-use Rattle.walk.specs.FieldTable.{tableCheckOf}
-use Rattle.walk.specs.WalkInput.{Input}
+use Rattle.walk_memory.specs.declared.field_table.TableCheck.the-variants.{Accepted}
+use Rattle.walk_memory.specs.declared.event.Event.{Event}
+use Rattle.walk_memory.specs.Events.{kindNumber, eventsWords}
+use Rattle.walk_memory.specs.EventSpaceLaws.{eventsWords-length}
+use Rattle.walk_memory.specs.FieldTable.{tableCheckOf}
+use Rattle.walk_memory.specs.WalkInput.{Input}
 use Rattle.walk.specs.GroupWalk.{walkGroup}
 use Rattle.walk.specs.ReadingTheorem.{FindsReadings, walk-finds-readings}
 use Rattle.walk.specs.WalkWords.{inputOf, topMembers}

@@ -19,14 +19,14 @@ use borrow.Author.Tests.{le-leb}
 use Rattle.layouts.specs.Limits.{gateLimits}
 use Rattle.layouts.specs.LayoutCheck.{isLayout}
 use Rattle.layouts.specs.LayoutCheckFacts.{Passed, isLayout-passed}
-use Rattle.walk.specs.declared.field_table.TableCheck.the-variants.{Accepted}
+use Rattle.walk_memory.specs.declared.field_table.TableCheck.the-variants.{Accepted}
+use Rattle.walk_memory.specs.declared.event.Event.{Event}
+use Rattle.walk_memory.specs.Membership.{_∈ᵇ_}
+use Rattle.walk_memory.specs.Events.{kindNumber, isFault, NoFault, ofGroups, eventWords, eventsWords}
+use Rattle.walk_memory.specs.EventsLaws.{noFault-ofGroups}
+use Rattle.walk_memory.specs.EventSpaceLaws.{eventsWords-length}
+use Rattle.walk_memory.specs.FieldTable.{rowCount, tableCheckOf}
 use Rattle.walk.specs.declared.walk_call.Walked.the-variants.{Done}
-use Rattle.walk.specs.declared.event.Event.{Event}
-use Rattle.walk.specs.Membership.{_∈ᵇ_}
-use Rattle.walk.specs.Events.{kindNumber, isFault, NoFault, ofGroups, eventWords, eventsWords}
-use Rattle.walk.specs.EventsLaws.{noFault-ofGroups}
-use Rattle.walk.specs.EventSpaceLaws.{eventsWords-length}
-use Rattle.walk.specs.FieldTable.{rowCount, tableCheckOf}
 use Rattle.walk.specs.GroupWalk.{WalkedGroup, walkGroup}
 use Rattle.walk.specs.GroupReading.{Reading, readingEvents}
 use Rattle.walk.specs.ReadingTheorem.{FindsReadings, walk-finds-readings}

@@ -14,9 +14,9 @@ use Rattle.ascii.specs.Bytes.{ascii, nonEmpty, every}
 use Rattle.ascii.specs.Digits.{isDigits, decimalFrom}
 use Rattle.ascii.specs.Notation.{isBetween}
 use Rattle.formats.specs.Count.{countOf}
-use Rattle.walk.specs.Membership.{_∈ᵇ_}
-use Rattle.walk.specs.Events.{eventWords}
-use Rattle.walk.specs.WalkInput.{Layout, Fields}
+use Rattle.walk_memory.specs.Membership.{_∈ᵇ_}
+use Rattle.walk_memory.specs.Events.{eventWords}
+use Rattle.walk_memory.specs.WalkInput.{Layout, Fields}
 use Rattle.walk.specs.GroupSteps.{openingAt, memberLeads, entryBegins, entryStops, stepAt}
 use Rattle.walk.specs.GroupWalk.{WalkedGroup, walkBy, walkGroup}
 

@@ -10,9 +10,9 @@ use mathlib.Core.Logic.{_↔_}
 use Prim.Native.Nat.{ℕ, _+_, _*_, _-_, _<_}
 use mathlib.Core.Bool.{Bool}
 use native.Mathlib.Omega.{arith}
-use Rattle.walk.specs.Events.{NoFault, ofGroups}
-use Rattle.walk.specs.EventsLaws.{noFault-ofGroups}
-use Rattle.walk.specs.WalkInput.{Layout, Fields, Input, LayoutRules}
+use Rattle.walk_memory.specs.Events.{NoFault, ofGroups}
+use Rattle.walk_memory.specs.EventsLaws.{noFault-ofGroups}
+use Rattle.walk_memory.specs.WalkInput.{Layout, Fields, Input, LayoutRules}
 use Rattle.walk.specs.GroupReading.{Reading, readingEvents}
 use Rattle.walk.specs.GroupReadingLaws.{readingEvents-no-fault, readingEvents-of-groups}
 use Rattle.walk.specs.GroupSteps.{openingAt}

@@ -19,14 +19,14 @@ use Rattle.formats.specs.declared.count.Count.{Count}
 use Rattle.layouts.specs.Limits.{gateLimits}
 use Rattle.layouts.specs.LayoutWords.{groupCount, levelMembers, countTagAt}
 use Rattle.layouts.specs.LayoutCheckFacts.{Passed}
-use Rattle.walk.specs.declared.event.Kind.the-variants.{Enter, Close, Delim, Deep}
-use Rattle.walk.specs.declared.event.Event.{Event}
-use Rattle.walk.specs.Membership.{_∈ᵇ_}
-use Rattle.walk.specs.EntryTags.{noRanks, holdsRank, insertRank, rankCount, insertIf, TagsSeen}
-use Rattle.walk.specs.EntryTagsLaws.{seen-empty, seen-count, seen-holds, seen-insert}
-use Rattle.walk.specs.FieldTable.{rowCount, tagOf, fieldsOf}
-use Rattle.walk.specs.WalkInput.{Input, countAt, event}
-use Rattle.walk.specs.EventSpaceLaws.{Wrote, wrote-none, wrote-then}
+use Rattle.walk_memory.specs.declared.event.Kind.the-variants.{Enter, Close, Delim, Deep}
+use Rattle.walk_memory.specs.declared.event.Event.{Event}
+use Rattle.walk_memory.specs.Membership.{_∈ᵇ_}
+use Rattle.walk_memory.specs.EntryTags.{noRanks, holdsRank, insertRank, rankCount, insertIf, TagsSeen}
+use Rattle.walk_memory.specs.EntryTagsLaws.{seen-empty, seen-count, seen-holds, seen-insert}
+use Rattle.walk_memory.specs.FieldTable.{rowCount, tagOf, fieldsOf}
+use Rattle.walk_memory.specs.WalkInput.{Input, countAt, event}
+use Rattle.walk_memory.specs.EventSpaceLaws.{Wrote, wrote-none, wrote-then}
 use Rattle.walk.specs.GroupSteps.{memberLeads, entryBegins, entryStops}
 use Rattle.walk.specs.GroupStepsLaws.{entryStops-within, entryStops-first, entryBegins-delimiter, memberLeads-taken}
 use Rattle.walk.specs.GroupWalk.{WalkedGroup, ScannedEntry, badCount, repeatedTag, leadingEntry, walkGroup, scanEntry}

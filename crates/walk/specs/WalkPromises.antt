@@ -13,8 +13,8 @@ use Rattle.sorting.specs.Search.{StrictlyAscending}
 use Rattle.layouts.specs.Limits.{gateLimits}
 use Rattle.layouts.specs.LayoutWords.{groupCount, levelMembers}
 use Rattle.layouts.specs.LayoutCheckFacts.{Passed}
-use Rattle.walk.specs.FieldTable.{rowCount, AcceptedTable}
-use Rattle.walk.specs.EventSpaceLaws.{Wrote}
+use Rattle.walk_memory.specs.FieldTable.{rowCount, AcceptedTable}
+use Rattle.walk_memory.specs.EventSpaceLaws.{Wrote}
 use Rattle.walk.specs.GroupSteps.{entryStops}
 use Rattle.walk.specs.GroupWalk.{walkGroup, scanEntry}
 use Rattle.walk.specs.WalkWords.{among, inputOf}

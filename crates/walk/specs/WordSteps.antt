@@ -14,11 +14,11 @@ use Rattle.sorting.specs.declared.search.Found.{Found}
 use Rattle.sorting.specs.declared.search.Found.the-variants.{At, Nothing}
 use Rattle.sorting.specs.Search.{rankIn}
 use Rattle.layouts.specs.LayoutRules.{_∈ᵇ_}
+use Rattle.walk_memory.specs.FieldTable.{rowCount, tagOf}
 use Rattle.walk.specs.declared.group_steps.EntryStep.{EntryStep}
 use Rattle.walk.specs.declared.group_steps.EntryStep.the-variants.{Stop, Plain, Nested}
 use Rattle.walk.specs.declared.group_steps.Turn.{Turn}
 use Rattle.walk.specs.declared.group_steps.Turn.the-variants.{Over, Entry, Lead}
-use Rattle.walk.specs.FieldTable.{rowCount, tagOf}
 use Rattle.walk.specs.GroupSteps.{endsGroup}
 use Rattle.walk.specs.WalkWords.{among, numberFound}
 

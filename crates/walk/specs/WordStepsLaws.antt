@@ -16,12 +16,12 @@ use Rattle.sorting.specs.declared.search.Found.the-variants as found
 use Rattle.sorting.specs.Search.{rankIn, isFound}
 use Rattle.layouts.specs.LayoutRules.{_∈ᵇ_}
 use Rattle.layouts.specs.LayoutWords.{levelMembers, levelCountTags, firstGroup, delimiterAt}
+use Rattle.walk_memory.specs.FieldTable.{rowCount, tagOf}
+use Rattle.walk_memory.specs.WalkInput.{Layout, Input}
 use Rattle.walk.specs.declared.group_steps.EntryStep.{EntryStep}
 use Rattle.walk.specs.declared.group_steps.EntryStep.the-variants.{Stop, Plain, Nested}
 use Rattle.walk.specs.declared.group_steps.Turn.{Turn}
 use Rattle.walk.specs.declared.group_steps.Turn.the-variants.{Over, Entry, Lead}
-use Rattle.walk.specs.FieldTable.{rowCount, tagOf}
-use Rattle.walk.specs.WalkInput.{Layout, Input}
 use Rattle.walk.specs.GroupSteps.{endsGroup, memberLeads, entryBegins, entryStops, stepAt, Step, stops, plain-field, nested-group}
 use Rattle.walk.specs.GroupStepsLaws.{stopsBy, beginsBy, leadsBy, stepAt-stops, stepAt-plain, stepAt-nested}
 use Rattle.walk.specs.WalkWords.{among, numberFound, groupOf, layoutOf, inputOf}

@@ -10,10 +10,10 @@ use native.Mathlib.Omega.{arith}
 use native.Mathlib.Numerals.{add-one}
 use lib.ListN.{length}
 use Rattle.formats.specs.declared.count.Count.{Count}
-use Rattle.walk.specs.declared.event.Kind.the-variants.{Close, Deep}
-use Rattle.walk.specs.Membership.{_∈ᵇ_}
-use Rattle.walk.specs.EntryTags.{insertIf}
-use Rattle.walk.specs.WalkInput.{Layout, Fields, Input, LayoutRules, countAt, event}
+use Rattle.walk_memory.specs.declared.event.Kind.the-variants.{Close, Deep}
+use Rattle.walk_memory.specs.Membership.{_∈ᵇ_}
+use Rattle.walk_memory.specs.EntryTags.{insertIf}
+use Rattle.walk_memory.specs.WalkInput.{Layout, Fields, Input, LayoutRules, countAt, event}
 use Rattle.walk.specs.GroupSteps.{memberLeads, entryBegins, entryStops, openingAt, stepAt}
 use Rattle.walk.specs.GroupStepsLaws.{entryStops-within, entryStops-first, entryBegins-delimiter, openingAt-outside, openingAt-too-deep, openingAt-member-leads, openingAt-entries-follow, stepAt-stops, stepAt-plain, stepAt-nested}
 use Rattle.walk.specs.GroupWalk.{WalkedGroup, ScannedEntry, repeatedTag, wholeGroup, leadingEntry, fieldThen, entryThen, walkBy, walkWith, entriesWith, scanWith, walkGroup, walkEntries, scanEntry}

@@ -9,11 +9,11 @@ use lib.Dec.{eqb}
 use lib.ListN.{length, length-append}
 use Rattle.formats.specs.declared.count.Count.{Count}
 use Rattle.formats.specs.declared.count.Count.the-variants.{Number, Nothing}
-use Rattle.walk.specs.declared.event.Kind.the-variants.{Close}
-use Rattle.walk.specs.declared.event.Event.{Event}
-use Rattle.walk.specs.Membership.{_∈ᵇ_}
-use Rattle.walk.specs.EntryTags.{insertIf}
-use Rattle.walk.specs.WalkInput.{Layout, Fields, Input, LayoutRules, countAt, event}
+use Rattle.walk_memory.specs.declared.event.Kind.the-variants.{Close}
+use Rattle.walk_memory.specs.declared.event.Event.{Event}
+use Rattle.walk_memory.specs.Membership.{_∈ᵇ_}
+use Rattle.walk_memory.specs.EntryTags.{insertIf}
+use Rattle.walk_memory.specs.WalkInput.{Layout, Fields, Input, LayoutRules, countAt, event}
 use Rattle.walk.specs.GroupSteps.{Opening, outside, too-deep, member-leads, entries-follow, Step, stops, plain-field, nested-group, entryBegins, entryStops, openingAt, stepAt}
 use Rattle.walk.specs.GroupStepsLaws.{entryStops-within, entryStops-first, entryBegins-delimiter, memberLeads-taken, openingAt-inside, openingAt-leads, stepAt-tells}
 use Rattle.walk.specs.GroupWalk.{WalkedGroup, WalkedEntries, ScannedEntry, badCount, repeatedTag, endedBy, ended, wholeGroup, leadingEntry, fieldThen, entryThen, walkBy, entriesBy, scanBy, walkGroup}

@@ -5,9 +5,9 @@ use mathlib.Core.Bool.{Bool, true, false}
 use mathlib.Core.List.{List, []}
 use native.Mathlib.Omega.{arith}
 use Rattle.formats.specs.declared.count.Count.{Count}
-use Rattle.walk.specs.Membership.{_∈ᵇ_}
-use Rattle.walk.specs.EntryTags.{insertIf}
-use Rattle.walk.specs.WalkInput.{Layout, Fields, Input, LayoutRules, countAt}
+use Rattle.walk_memory.specs.Membership.{_∈ᵇ_}
+use Rattle.walk_memory.specs.EntryTags.{insertIf}
+use Rattle.walk_memory.specs.WalkInput.{Layout, Fields, Input, LayoutRules, countAt}
 use Rattle.walk.specs.GroupSteps.{Opening, outside, too-deep, member-leads, entries-follow, Step, stops, plain-field, nested-group, entryBegins, openingAt, stepAt}
 use Rattle.walk.specs.GroupStepsLaws.{entryStops-within, entryStops-first, entryBegins-delimiter, stepAt-tells}
 use Rattle.walk.specs.GroupWalk.{walkBy, entriesBy, scanBy}

@@ -12,11 +12,11 @@ use mathlib.Core.Option.{none, some}
 use mathlib.Core.List.{List, [], _∷_, _++_, append-assoc, append-nil}
 use lib.ListN.{length}
 use Rattle.formats.specs.declared.count.Count.{Count}
-use Rattle.walk.specs.declared.event.Kind.the-variants.{Enter, Close}
-use Rattle.walk.specs.declared.event.Event.{Event}
-use Rattle.walk.specs.Membership.{_∈ᵇ_}
-use Rattle.walk.specs.EntryTags.{insertIf}
-use Rattle.walk.specs.WalkInput.{Layout, Fields, Input, LayoutRules, countAt, event}
+use Rattle.walk_memory.specs.declared.event.Kind.the-variants.{Enter, Close}
+use Rattle.walk_memory.specs.declared.event.Event.{Event}
+use Rattle.walk_memory.specs.Membership.{_∈ᵇ_}
+use Rattle.walk_memory.specs.EntryTags.{insertIf}
+use Rattle.walk_memory.specs.WalkInput.{Layout, Fields, Input, LayoutRules, countAt, event}
 use Rattle.walk.specs.GroupSteps.{memberLeads, entryBegins, entryStops}
 use Rattle.walk.specs.GroupWalk.{WalkedGroup, WalkedEntries, ScannedEntry, badCount, repeatedTag, ended, leadingEntry, walkGroup, walkEntries, scanEntry}
 use Rattle.walk.specs.GroupWalkLaws.Equations.{walkGroup-entries-follow, walkGroup-member-leads, walkEntries-ends, walkEntries-goes-on, scanEntry-stops, scanEntry-plain, scanEntry-nested}

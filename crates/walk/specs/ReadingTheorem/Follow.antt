@@ -7,7 +7,7 @@ use native.Mathlib.Omega.{arith}
 use lib.Dec.{ltb, eqb}
 use borrow.Author.Tests.{eqb-true, lt-ltb, eq-eqb, ne-eqb}
 use Rattle.formats.specs.declared.count.Count.the-variants.{Number}
-use Rattle.walk.specs.WalkInput.{Layout, Fields, Input}
+use Rattle.walk_memory.specs.WalkInput.{Layout, Fields, Input}
 use Rattle.walk.specs.GroupReading.{mayFollow, Entries, no-entry, entry}
 use Rattle.walk.specs.GroupReadingLaws.{followsBy}
 use Rattle.walk.specs.GroupSteps.{memberLeads, entryBegins, entryStops}

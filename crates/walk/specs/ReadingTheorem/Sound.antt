@@ -14,12 +14,12 @@ use lib.ListN.{length}
 use borrow.Author.Tests.{eqb-true}
 use Rattle.formats.specs.declared.count.Count.{Count}
 use Rattle.formats.specs.declared.count.Count.the-variants.{Number, Nothing}
-use Rattle.walk.specs.declared.event.Kind.the-variants.{Close, Leave}
-use Rattle.walk.specs.Membership.{_∈ᵇ_}
-use Rattle.walk.specs.Events.{NoFault}
-use Rattle.walk.specs.EventsLaws.{noFault-left, noFault-right}
-use Rattle.walk.specs.EntryTags.{insertIf}
-use Rattle.walk.specs.WalkInput.{Layout, Fields, Input, LayoutRules, countAt, event}
+use Rattle.walk_memory.specs.declared.event.Kind.the-variants.{Close, Leave}
+use Rattle.walk_memory.specs.Membership.{_∈ᵇ_}
+use Rattle.walk_memory.specs.Events.{NoFault}
+use Rattle.walk_memory.specs.EventsLaws.{noFault-left, noFault-right}
+use Rattle.walk_memory.specs.EntryTags.{insertIf}
+use Rattle.walk_memory.specs.WalkInput.{Layout, Fields, Input, LayoutRules, countAt, event}
 use Rattle.walk.specs.GroupReading.{Reading, Entries, Items, Item, reading, no-entry, entry, no-item, item, plain, nested, readingEvents, entriesEvents, itemsEvents, itemEvents, itemCount}
 use Rattle.walk.specs.GroupReadingLaws.{no-entries}
 use Rattle.walk.specs.GroupSteps.{Opening, outside, too-deep, member-leads, entries-follow, Step, stops, plain-field, nested-group, memberLeads, entryBegins, entryStops, openingAt, stepAt}

@@ -13,8 +13,8 @@ use native.Mathlib.Bridge.{le-prop}
 use native.Mathlib.Decide.{ℕ-discrete}
 use Rattle.formats.specs.declared.count.Count.{Count}
 use Rattle.formats.specs.declared.count.Count.the-variants.{Number, Nothing}
-use Rattle.walk.specs.Membership.{_∈ᵇ_}
-use Rattle.walk.specs.WalkInput.{Layout, Fields, Input, LayoutRules, countAt}
+use Rattle.walk_memory.specs.Membership.{_∈ᵇ_}
+use Rattle.walk_memory.specs.WalkInput.{Layout, Fields, Input, LayoutRules, countAt}
 use Rattle.walk.specs.GroupReading.{mayFollow, Reading, Entries, Items, Item, reading, no-entry, entry, no-item, item, plain, nested}
 use Rattle.walk.specs.GroupReadingLaws.{items-advance, item-advances}
 use Rattle.walk.specs.GroupSteps.{entryStops}
