@@ -21,7 +21,7 @@ use Rattle.walk_memory.specs.Membership.{_∈ᵇ_}
 use Rattle.walk_memory.specs.FieldTable.{rowCount, tagOf}
 use Rattle.walk_memory.specs.EntryTags.{noRanks, holdsRank, insertRank}
 use Rattle.walk_memory.specs.EventSpaceLaws.{Wrote, wrote-none, wrote-then}
-use Rattle.walk.specs.GroupWalk.{walkGroup}
+use Rattle.group_reading.specs.GroupWalk.{walkGroup}
 use Rattle.walk.specs.WrittenEvents.{tagEvent}
 use Rattle.walk.specs.WalkWords.{among, numberFound, groupOf, inputOf, topMembers}
 use Rattle.walk.specs.WalkWordsLaws.{member-found, member-nowhere, groupOf-number, layoutOf-rules, top-ascends}

@@ -22,7 +22,7 @@ use Rattle.walk_memory.specs.declared.event.Event.{Event}
 use Rattle.walk_memory.specs.Membership.{_∈ᵇ_}
 use Rattle.walk_memory.specs.EntryTags.{insertIf}
 use Rattle.walk_memory.specs.WalkInput.{Layout, Fields, Input}
-use Rattle.walk.specs.GroupWalk.{WalkedGroup, walkGroup}
+use Rattle.group_reading.specs.GroupWalk.{WalkedGroup, walkGroup}
 
 pub record MessageLevel (Group : Type 0) : Type 0 where
   -- the dictionary defines the tag: `tags.field(tag)`

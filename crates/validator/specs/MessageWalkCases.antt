@@ -32,8 +32,8 @@ use Rattle.layouts.specs.LayoutWords.{placesFrom, arrangedParts, arranged, stre
 use Rattle.layouts.specs.LayoutCheck.{neverFalls, isRun, isAhead, memberPlacesHold, requiredPlacesHold, groupPlacesHold, isLevel, levelsHold, delimitersHold, allLevelsHold, allDelimitersHold, isLayoutOf, isLayout}
 use Rattle.walk_memory.specs.Events.{eventWords, eventsWords}
 use Rattle.walk_memory.specs.FieldTable.{isBadField, badFrom, tableCheckOf}
-use Rattle.walk.specs.GroupSteps.{openingAt, memberLeads, entryBegins, entryStops, stepAt}
-use Rattle.walk.specs.GroupWalk.{walkBy, walkGroup}
+use Rattle.group_reading.specs.GroupSteps.{openingAt, memberLeads, entryBegins, entryStops, stepAt}
+use Rattle.group_reading.specs.GroupWalk.{walkBy, walkGroup}
 use Rattle.validator.specs.declared.message_call.WalkedMessage.{WalkedMessage}
 use Rattle.validator.specs.declared.message_call.WalkedMessage.the-variants.{Done, Refused}
 use Rattle.validator.specs.MessageWalk.{turnAt, turnsFrom, missingTags, missingGroups, messageEvents}

@@ -19,9 +19,9 @@ use Rattle.walk_memory.specs.declared.field_table.TableCheck.{TableCheck}
 use Rattle.walk_memory.specs.declared.field_table.TableCheck.the-variants as table
 use Rattle.walk_memory.specs.Events.{eventsWords}
 use Rattle.walk_memory.specs.FieldTable.{tableCheckOf}
+use Rattle.group_reading.specs.GroupWalk.{WalkedGroup, walkGroup}
 use Rattle.walk.specs.declared.walk_call.Walked.{Walked}
 use Rattle.walk.specs.declared.walk_call.Walked.the-variants.{Done, Refused}
-use Rattle.walk.specs.GroupWalk.{WalkedGroup, walkGroup}
 use Rattle.walk.specs.WalkWords.{groupOf, inputOf, topMembers}
 
 abbrev pub topWalk : List ℕ → List ℕ → List ℕ → ℕ → ℕ → WalkedGroup

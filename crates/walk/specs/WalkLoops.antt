@@ -1,5 +1,5 @@
--- The loops of `scan_entry`, `scan_wide` and `walk_group` on words: what is done (`GroupWalkLaws/Loops.antt`) is written, and the set stands for the tags
--- seen. Assumes nothing.
+-- The loops of `scan_entry`, `scan_wide` and `walk_group` on words: what is done (`GroupWalkLaws/Loops.antt` of group_reading) is written, and the
+-- set stands for the tags seen. Assumes nothing.
 --
 --   EntryWritten ..   the loop of `scan_entry` and `scan_wide`: the fields before the cursor are taken
 --   GroupWritten ..   the loop of `walk_group`: so many entries are taken, the last one up to the cursor
@@ -27,12 +27,12 @@ use Rattle.walk_memory.specs.EntryTagsLaws.{seen-empty, seen-count, seen-holds,
 use Rattle.walk_memory.specs.FieldTable.{rowCount, tagOf, fieldsOf}
 use Rattle.walk_memory.specs.WalkInput.{Input, countAt, event}
 use Rattle.walk_memory.specs.EventSpaceLaws.{Wrote, wrote-none, wrote-then}
-use Rattle.walk.specs.GroupSteps.{memberLeads, entryBegins, entryStops}
-use Rattle.walk.specs.GroupStepsLaws.{entryStops-within, entryStops-first, entryBegins-delimiter, memberLeads-taken}
-use Rattle.walk.specs.GroupWalk.{WalkedGroup, ScannedEntry, badCount, repeatedTag, leadingEntry, walkGroup, scanEntry}
-use Rattle.walk.specs.GroupWalkLaws.Equations.{walkGroup-outside, walkGroup-too-deep}
-use Rattle.walk.specs.GroupWalkLaws.EventBound.{walkGroup-passes, walkGroup-few-events}
-use Rattle.walk.specs.GroupWalkLaws.Loops.{EntrySoFar, entry-begins, entry-ends, entry-takes-field, entry-takes-group, GroupSoFar, group-begins, group-leads, group-takes-entry, group-ends}
+use Rattle.group_reading.specs.GroupSteps.{memberLeads, entryBegins, entryStops}
+use Rattle.group_reading.specs.GroupStepsLaws.{entryStops-within, entryStops-first, entryBegins-delimiter, memberLeads-taken}
+use Rattle.group_reading.specs.GroupWalk.{WalkedGroup, ScannedEntry, badCount, repeatedTag, leadingEntry, walkGroup, scanEntry}
+use Rattle.group_reading.specs.GroupWalkLaws.Equations.{walkGroup-outside, walkGroup-too-deep}
+use Rattle.group_reading.specs.GroupWalkLaws.EventBound.{walkGroup-passes, walkGroup-few-events}
+use Rattle.group_reading.specs.GroupWalkLaws.Loops.{EntrySoFar, entry-begins, entry-ends, entry-takes-field, entry-takes-group, GroupSoFar, group-begins, group-leads, group-takes-entry, group-ends}
 use Rattle.walk.specs.WalkWords.{among, rankOf, layoutOf, groupOf, inputOf}
 use Rattle.walk.specs.WalkWordsLaws.{member-found, rankOf-found, rankOf-low, rankOf-apart, groupOf-number, layoutOf-rules}
 use Rattle.walk.specs.WordStepsLaws.{FieldHere}

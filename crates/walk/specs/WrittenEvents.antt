@@ -1,5 +1,5 @@
 -- The events that a walk writes at one place, for a group of which the count tag is at hand: at its start, at a member met again, at its end. That they
--- are those of `GroupWalk.antt` is in the laws. Assumes nothing.
+-- are those of `GroupWalk.antt` of group_reading is in the laws. Assumes nothing.
 --
 --   tagEvent tag depth kind                        an event of the group with this count tag
 --   begunBy tag depth index declared               enter, and badcount where the field at `index` declares nothing

@@ -14,7 +14,7 @@ use Rattle.walk_memory.specs.declared.event.Kind.the-variants.{Enter, BadCount,
 use Rattle.walk_memory.specs.declared.event.Event.{Event}
 use Rattle.walk_memory.specs.WalkInput.{Layout, event}
 use Rattle.walk_memory.specs.EventSpaceLaws.{Wrote, wrote-none, wrote-then}
-use Rattle.walk.specs.GroupWalk.{badCount, repeatedTag, ended}
+use Rattle.group_reading.specs.GroupWalk.{badCount, repeatedTag, ended}
 use Rattle.walk.specs.WrittenEvents.{tagEvent, begunBy, repeatBy, leftBy}
 
 -- ---- as code writes them

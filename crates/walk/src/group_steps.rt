@@ -11,7 +11,7 @@ ghost use lib.ListN.{length};
 ghost use Rattle.sorting.specs.Search.{StrictlyAscending, rankIn};
 ghost use Rattle.layouts.specs.LayoutRules.{_∈ᵇ_};
 ghost use Rattle.walk_memory.specs.FieldTable.{rowCount};
-ghost use Rattle.walk.specs.GroupSteps.{endsGroup};
+ghost use Rattle.group_reading.specs.GroupSteps.{endsGroup};
 ghost use Rattle.walk.specs.WalkWords.{among, numberFound};
 ghost use Rattle.walk.specs.WordSteps.{memberStep, entryStep, leadBy, turnAt};
 

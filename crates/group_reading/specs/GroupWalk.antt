@@ -21,7 +21,7 @@ use Rattle.walk_memory.specs.declared.event.Event.{Event}
 use Rattle.walk_memory.specs.Membership.{_∈ᵇ_}
 use Rattle.walk_memory.specs.EntryTags.{insertIf}
 use Rattle.walk_memory.specs.WalkInput.{Layout, Fields, Input, countAt, event}
-use Rattle.walk.specs.GroupSteps.{Opening, outside, too-deep, member-leads, entries-follow, Step, stops, plain-field, nested-group, openingAt, entryBegins, stepAt}
+use Rattle.group_reading.specs.GroupSteps.{Opening, outside, too-deep, member-leads, entries-follow, Step, stops, plain-field, nested-group, openingAt, entryBegins, stepAt}
 
 -- what a walk gives: its events, and the position of the first field behind the group
 pub record WalkedGroup : Type 0 where

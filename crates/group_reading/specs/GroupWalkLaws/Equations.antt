@@ -14,11 +14,11 @@ use Rattle.walk_memory.specs.declared.event.Kind.the-variants.{Close, Deep}
 use Rattle.walk_memory.specs.Membership.{_∈ᵇ_}
 use Rattle.walk_memory.specs.EntryTags.{insertIf}
 use Rattle.walk_memory.specs.WalkInput.{Layout, Fields, Input, LayoutRules, countAt, event}
-use Rattle.walk.specs.GroupSteps.{memberLeads, entryBegins, entryStops, openingAt, stepAt}
-use Rattle.walk.specs.GroupStepsLaws.{entryStops-within, entryStops-first, entryBegins-delimiter, openingAt-outside, openingAt-too-deep, openingAt-member-leads, openingAt-entries-follow, stepAt-stops, stepAt-plain, stepAt-nested}
-use Rattle.walk.specs.GroupWalk.{WalkedGroup, ScannedEntry, repeatedTag, wholeGroup, leadingEntry, fieldThen, entryThen, walkBy, walkWith, entriesWith, scanWith, walkGroup, walkEntries, scanEntry}
-use Rattle.walk.specs.GroupWalkLaws.Progress.{scan-not-back, walk-passes, scan-passes}
-use Rattle.walk.specs.GroupWalkLaws.Fuel.{walk-fuel, entries-fuel, scan-fuel}
+use Rattle.group_reading.specs.GroupSteps.{memberLeads, entryBegins, entryStops, openingAt, stepAt}
+use Rattle.group_reading.specs.GroupStepsLaws.{entryStops-within, entryStops-first, entryBegins-delimiter, openingAt-outside, openingAt-too-deep, openingAt-member-leads, openingAt-entries-follow, stepAt-stops, stepAt-plain, stepAt-nested}
+use Rattle.group_reading.specs.GroupWalk.{WalkedGroup, ScannedEntry, repeatedTag, wholeGroup, leadingEntry, fieldThen, entryThen, walkBy, walkWith, entriesWith, scanWith, walkGroup, walkEntries, scanEntry}
+use Rattle.group_reading.specs.GroupWalkLaws.Progress.{scan-not-back, walk-passes, scan-passes}
+use Rattle.group_reading.specs.GroupWalkLaws.Fuel.{walk-fuel, entries-fuel, scan-fuel}
 
 module _ (input : Input) (rules : LayoutRules (input .layout)) where
   open Input input using (layout, fields, depthLimit)

@@ -17,8 +17,8 @@ use Rattle.formats.specs.Count.{countOf}
 use Rattle.walk_memory.specs.Membership.{_∈ᵇ_}
 use Rattle.walk_memory.specs.Events.{eventWords}
 use Rattle.walk_memory.specs.WalkInput.{Layout, Fields}
-use Rattle.walk.specs.GroupSteps.{openingAt, memberLeads, entryBegins, entryStops, stepAt}
-use Rattle.walk.specs.GroupWalk.{WalkedGroup, walkBy, walkGroup}
+use Rattle.group_reading.specs.GroupSteps.{openingAt, memberLeads, entryBegins, entryStops, stepAt}
+use Rattle.group_reading.specs.GroupWalk.{WalkedGroup, walkBy, walkGroup}
 
 record Row : Type 0 where
   pub countTag : ℕ

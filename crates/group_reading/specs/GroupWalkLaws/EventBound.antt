@@ -14,10 +14,10 @@ use Rattle.walk_memory.specs.declared.event.Event.{Event}
 use Rattle.walk_memory.specs.Membership.{_∈ᵇ_}
 use Rattle.walk_memory.specs.EntryTags.{insertIf}
 use Rattle.walk_memory.specs.WalkInput.{Layout, Fields, Input, LayoutRules, countAt, event}
-use Rattle.walk.specs.GroupSteps.{Opening, outside, too-deep, member-leads, entries-follow, Step, stops, plain-field, nested-group, entryBegins, entryStops, openingAt, stepAt}
-use Rattle.walk.specs.GroupStepsLaws.{entryStops-within, entryStops-first, entryBegins-delimiter, memberLeads-taken, openingAt-inside, openingAt-leads, stepAt-tells}
-use Rattle.walk.specs.GroupWalk.{WalkedGroup, WalkedEntries, ScannedEntry, badCount, repeatedTag, endedBy, ended, wholeGroup, leadingEntry, fieldThen, entryThen, walkBy, entriesBy, scanBy, walkGroup}
-use Rattle.walk.specs.GroupWalkLaws.Progress.{scan-not-back, walk-passes, scan-passes, walk-within}
+use Rattle.group_reading.specs.GroupSteps.{Opening, outside, too-deep, member-leads, entries-follow, Step, stops, plain-field, nested-group, entryBegins, entryStops, openingAt, stepAt}
+use Rattle.group_reading.specs.GroupStepsLaws.{entryStops-within, entryStops-first, entryBegins-delimiter, memberLeads-taken, openingAt-inside, openingAt-leads, stepAt-tells}
+use Rattle.group_reading.specs.GroupWalk.{WalkedGroup, WalkedEntries, ScannedEntry, badCount, repeatedTag, endedBy, ended, wholeGroup, leadingEntry, fieldThen, entryThen, walkBy, entriesBy, scanBy, walkGroup}
+use Rattle.group_reading.specs.GroupWalkLaws.Progress.{scan-not-back, walk-passes, scan-passes, walk-within}
 
 -- ---- how many events the parts of a walk have
 

@@ -15,11 +15,11 @@ use Rattle.formats.specs.declared.count.Count.{Count}
 use Rattle.formats.specs.declared.count.Count.the-variants.{Number, Nothing}
 use Rattle.walk_memory.specs.Membership.{_∈ᵇ_}
 use Rattle.walk_memory.specs.WalkInput.{Layout, Fields, Input, LayoutRules, countAt}
-use Rattle.walk.specs.GroupReading.{mayFollow, Reading, Entries, Items, Item, reading, no-entry, entry, no-item, item, plain, nested}
-use Rattle.walk.specs.GroupReadingLaws.{items-advance, item-advances}
-use Rattle.walk.specs.GroupSteps.{entryStops}
-use Rattle.walk.specs.ReadingTheorem.Follow.{rest-stops}
-use Rattle.walk.specs.ReadingTheorem.Complete.{reading-walked, items-walked}
+use Rattle.group_reading.specs.GroupReading.{mayFollow, Reading, Entries, Items, Item, reading, no-entry, entry, no-item, item, plain, nested}
+use Rattle.group_reading.specs.GroupReadingLaws.{items-advance, item-advances}
+use Rattle.group_reading.specs.GroupSteps.{entryStops}
+use Rattle.group_reading.specs.ReadingTheorem.Follow.{rest-stops}
+use Rattle.group_reading.specs.ReadingTheorem.Complete.{reading-walked, items-walked}
 
 -- two counts are equal in at most one way
 count-discrete : Discrete Count

@@ -8,10 +8,10 @@ use lib.Dec.{ltb, eqb}
 use borrow.Author.Tests.{eqb-true, lt-ltb, eq-eqb, ne-eqb}
 use Rattle.formats.specs.declared.count.Count.the-variants.{Number}
 use Rattle.walk_memory.specs.WalkInput.{Layout, Fields, Input}
-use Rattle.walk.specs.GroupReading.{mayFollow, Entries, no-entry, entry}
-use Rattle.walk.specs.GroupReadingLaws.{followsBy}
-use Rattle.walk.specs.GroupSteps.{memberLeads, entryBegins, entryStops}
-use Rattle.walk.specs.GroupStepsLaws.{stopsBy, beginsBy, leadsBy, entryStops-delimiter, memberLeads-delimiter}
+use Rattle.group_reading.specs.GroupReading.{mayFollow, Entries, no-entry, entry}
+use Rattle.group_reading.specs.GroupReadingLaws.{followsBy}
+use Rattle.group_reading.specs.GroupSteps.{memberLeads, entryBegins, entryStops}
+use Rattle.group_reading.specs.GroupStepsLaws.{stopsBy, beginsBy, leadsBy, entryStops-delimiter, memberLeads-delimiter}
 
 -- ---- over the outcomes of the tests
 

@@ -17,9 +17,9 @@ use Rattle.walk_memory.specs.declared.event.Event.{Event}
 use Rattle.walk_memory.specs.Membership.{_∈ᵇ_}
 use Rattle.walk_memory.specs.EntryTags.{insertIf}
 use Rattle.walk_memory.specs.WalkInput.{Layout, Fields, Input, LayoutRules, countAt, event}
-use Rattle.walk.specs.GroupSteps.{memberLeads, entryBegins, entryStops}
-use Rattle.walk.specs.GroupWalk.{WalkedGroup, WalkedEntries, ScannedEntry, badCount, repeatedTag, ended, leadingEntry, walkGroup, walkEntries, scanEntry}
-use Rattle.walk.specs.GroupWalkLaws.Equations.{walkGroup-entries-follow, walkGroup-member-leads, walkEntries-ends, walkEntries-goes-on, scanEntry-stops, scanEntry-plain, scanEntry-nested}
+use Rattle.group_reading.specs.GroupSteps.{memberLeads, entryBegins, entryStops}
+use Rattle.group_reading.specs.GroupWalk.{WalkedGroup, WalkedEntries, ScannedEntry, badCount, repeatedTag, ended, leadingEntry, walkGroup, walkEntries, scanEntry}
+use Rattle.group_reading.specs.GroupWalkLaws.Equations.{walkGroup-entries-follow, walkGroup-member-leads, walkEntries-ends, walkEntries-goes-on, scanEntry-stops, scanEntry-plain, scanEntry-nested}
 
 abbrev pub afterFields : List Event → Bool → ScannedEntry → ScannedEntry
 afterFields events unparseable rest = record {

@@ -8,9 +8,9 @@ use Rattle.formats.specs.declared.count.Count.{Count}
 use Rattle.walk_memory.specs.Membership.{_∈ᵇ_}
 use Rattle.walk_memory.specs.EntryTags.{insertIf}
 use Rattle.walk_memory.specs.WalkInput.{Layout, Fields, Input, countAt}
-use Rattle.walk.specs.GroupSteps.{Opening, outside, too-deep, member-leads, entries-follow, Step, stops, plain-field, nested-group, entryBegins, entryStops, openingAt, stepAt}
-use Rattle.walk.specs.GroupStepsLaws.{entryStops-within, openingAt-inside, stepAt-tells}
-use Rattle.walk.specs.GroupWalk.{walkBy, entriesBy, scanBy}
+use Rattle.group_reading.specs.GroupSteps.{Opening, outside, too-deep, member-leads, entries-follow, Step, stops, plain-field, nested-group, entryBegins, entryStops, openingAt, stepAt}
+use Rattle.group_reading.specs.GroupStepsLaws.{entryStops-within, openingAt-inside, stepAt-tells}
+use Rattle.group_reading.specs.GroupWalk.{walkBy, entriesBy, scanBy}
 
 module _ (input : Input) where
   open Input input using (layout, fields)

@@ -20,12 +20,12 @@ use Rattle.walk_memory.specs.Events.{NoFault}
 use Rattle.walk_memory.specs.EventsLaws.{noFault-left, noFault-right}
 use Rattle.walk_memory.specs.EntryTags.{insertIf}
 use Rattle.walk_memory.specs.WalkInput.{Layout, Fields, Input, LayoutRules, countAt, event}
-use Rattle.walk.specs.GroupReading.{Reading, Entries, Items, Item, reading, no-entry, entry, no-item, item, plain, nested, readingEvents, entriesEvents, itemsEvents, itemEvents, itemCount}
-use Rattle.walk.specs.GroupReadingLaws.{no-entries}
-use Rattle.walk.specs.GroupSteps.{Opening, outside, too-deep, member-leads, entries-follow, Step, stops, plain-field, nested-group, memberLeads, entryBegins, entryStops, openingAt, stepAt}
-use Rattle.walk.specs.GroupStepsLaws.{entryStops-within, entryStops-member, entryStops-first, entryBegins-delimiter, openingAt-inside, openingAt-entries, stepAt-tells}
-use Rattle.walk.specs.GroupWalk.{WalkedGroup, WalkedEntries, ScannedEntry, badCount, repeatedTag, endedBy, ended, wholeGroup, fieldThen, entryThen, walkBy, entriesBy, scanBy}
-use Rattle.walk.specs.ReadingTheorem.Follow.{follows-behind}
+use Rattle.group_reading.specs.GroupReading.{Reading, Entries, Items, Item, reading, no-entry, entry, no-item, item, plain, nested, readingEvents, entriesEvents, itemsEvents, itemEvents, itemCount}
+use Rattle.group_reading.specs.GroupReadingLaws.{no-entries}
+use Rattle.group_reading.specs.GroupSteps.{Opening, outside, too-deep, member-leads, entries-follow, Step, stops, plain-field, nested-group, memberLeads, entryBegins, entryStops, openingAt, stepAt}
+use Rattle.group_reading.specs.GroupStepsLaws.{entryStops-within, entryStops-member, entryStops-first, entryBegins-delimiter, openingAt-inside, openingAt-entries, stepAt-tells}
+use Rattle.group_reading.specs.GroupWalk.{WalkedGroup, WalkedEntries, ScannedEntry, badCount, repeatedTag, endedBy, ended, wholeGroup, fieldThen, entryThen, walkBy, entriesBy, scanBy}
+use Rattle.group_reading.specs.ReadingTheorem.Follow.{follows-behind}
 
 module _ (input : Input) where
   open Input input using (layout, fields, depthLimit)

@@ -8,10 +8,10 @@ use Rattle.formats.specs.declared.count.Count.{Count}
 use Rattle.walk_memory.specs.Membership.{_∈ᵇ_}
 use Rattle.walk_memory.specs.EntryTags.{insertIf}
 use Rattle.walk_memory.specs.WalkInput.{Layout, Fields, Input, LayoutRules, countAt}
-use Rattle.walk.specs.GroupSteps.{Opening, outside, too-deep, member-leads, entries-follow, Step, stops, plain-field, nested-group, entryBegins, openingAt, stepAt}
-use Rattle.walk.specs.GroupStepsLaws.{entryStops-within, entryStops-first, entryBegins-delimiter, stepAt-tells}
-use Rattle.walk.specs.GroupWalk.{walkBy, entriesBy, scanBy}
-use Rattle.walk.specs.GroupWalkLaws.Progress.{scan-not-back, walk-passes, scan-passes}
+use Rattle.group_reading.specs.GroupSteps.{Opening, outside, too-deep, member-leads, entries-follow, Step, stops, plain-field, nested-group, entryBegins, openingAt, stepAt}
+use Rattle.group_reading.specs.GroupStepsLaws.{entryStops-within, entryStops-first, entryBegins-delimiter, stepAt-tells}
+use Rattle.group_reading.specs.GroupWalk.{walkBy, entriesBy, scanBy}
+use Rattle.group_reading.specs.GroupWalkLaws.Progress.{scan-not-back, walk-passes, scan-passes}
 
 module _ (input : Input) (rules : LayoutRules (input .layout)) where
   open Input input using (layout, fields)

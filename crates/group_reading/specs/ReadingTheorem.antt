@@ -13,13 +13,13 @@ use native.Mathlib.Omega.{arith}
 use Rattle.walk_memory.specs.Events.{NoFault, ofGroups}
 use Rattle.walk_memory.specs.EventsLaws.{noFault-ofGroups}
 use Rattle.walk_memory.specs.WalkInput.{Layout, Fields, Input, LayoutRules}
-use Rattle.walk.specs.GroupReading.{Reading, readingEvents}
-use Rattle.walk.specs.GroupReadingLaws.{readingEvents-no-fault, readingEvents-of-groups}
-use Rattle.walk.specs.GroupSteps.{openingAt}
-use Rattle.walk.specs.GroupWalk.{walkGroup, walkWith}
-use Rattle.walk.specs.ReadingTheorem.Sound.{walk-sound}
-use Rattle.walk.specs.ReadingTheorem.Complete.{reading-walked}
-use Rattle.walk.specs.ReadingTheorem.Unique.{reading-ends, reading-unique}
+use Rattle.group_reading.specs.GroupReading.{Reading, readingEvents}
+use Rattle.group_reading.specs.GroupReadingLaws.{readingEvents-no-fault, readingEvents-of-groups}
+use Rattle.group_reading.specs.GroupSteps.{openingAt}
+use Rattle.group_reading.specs.GroupWalk.{walkGroup, walkWith}
+use Rattle.group_reading.specs.ReadingTheorem.Sound.{walk-sound}
+use Rattle.group_reading.specs.ReadingTheorem.Complete.{reading-walked}
+use Rattle.group_reading.specs.ReadingTheorem.Unique.{reading-ends, reading-unique}
 pub mod Follow
 pub mod Sound
 pub mod Complete

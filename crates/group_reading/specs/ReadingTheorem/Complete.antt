@@ -13,12 +13,12 @@ use Rattle.walk_memory.specs.declared.event.Kind.the-variants.{Close}
 use Rattle.walk_memory.specs.declared.event.Event.{Event}
 use Rattle.walk_memory.specs.Membership.{_∈ᵇ_}
 use Rattle.walk_memory.specs.WalkInput.{Layout, Fields, Input, LayoutRules, countAt, event}
-use Rattle.walk.specs.GroupReading.{mayFollow, Reading, Entries, Items, Item, reading, no-entry, entry, no-item, item, plain, nested, readingEvents, entriesEvents, itemsEvents, itemEvents, itemCount}
-use Rattle.walk.specs.GroupReadingLaws.{items-advance, item-advances}
-use Rattle.walk.specs.GroupSteps.{memberLeads, entryBegins, entryStops}
-use Rattle.walk.specs.GroupStepsLaws.{entryStops-goes-on, entryStops-first, openingAt-entries-follow, stepAt-stops, stepAt-plain, stepAt-nested}
-use Rattle.walk.specs.GroupWalk.{WalkedGroup, WalkedEntries, ScannedEntry, wholeGroup, fieldThen, entryThen, walkBy, walkWith, entriesWith, scanWith}
-use Rattle.walk.specs.ReadingTheorem.Follow.{follows-begins-not, declared-begins, rest-stops, entries-no-lead}
+use Rattle.group_reading.specs.GroupReading.{mayFollow, Reading, Entries, Items, Item, reading, no-entry, entry, no-item, item, plain, nested, readingEvents, entriesEvents, itemsEvents, itemEvents, itemCount}
+use Rattle.group_reading.specs.GroupReadingLaws.{items-advance, item-advances}
+use Rattle.group_reading.specs.GroupSteps.{memberLeads, entryBegins, entryStops}
+use Rattle.group_reading.specs.GroupStepsLaws.{entryStops-goes-on, entryStops-first, openingAt-entries-follow, stepAt-stops, stepAt-plain, stepAt-nested}
+use Rattle.group_reading.specs.GroupWalk.{WalkedGroup, WalkedEntries, ScannedEntry, wholeGroup, fieldThen, entryThen, walkBy, walkWith, entriesWith, scanWith}
+use Rattle.group_reading.specs.ReadingTheorem.Follow.{follows-begins-not, declared-begins, rest-stops, entries-no-lead}
 
 -- what a walk gives along a reading: nothing is unparseable
 abbrev groupBehind : List Event → ℕ → WalkedGroup

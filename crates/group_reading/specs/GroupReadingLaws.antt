@@ -13,7 +13,7 @@ use borrow.Author.Tests.{ltb-false, le-ltb, eqb-true, eq-eqb}
 use Rattle.walk_memory.specs.Events.{NoFault, ofGroups}
 use Rattle.walk_memory.specs.EventsLaws.{noFault-append, ofGroups-append}
 use Rattle.walk_memory.specs.WalkInput.{Layout, Fields, Input, event}
-use Rattle.walk.specs.GroupReading.{mayFollow, Reading, Entries, Items, Item, reading, no-entry, entry, no-item, item, plain, nested, readingEvents, entriesEvents, itemsEvents, itemEvents}
+use Rattle.group_reading.specs.GroupReading.{mayFollow, Reading, Entries, Items, Item, reading, no-entry, entry, no-item, item, plain, nested, readingEvents, entriesEvents, itemsEvents, itemEvents}
 
 -- ---- mayFollow
 
