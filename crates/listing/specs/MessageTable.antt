@@ -22,9 +22,9 @@ use Rattle.texts.specs.declared.refusal.Refusal.the-variants.{TextTooLong, Unkn
 use Rattle.texts.specs.declared.line_parts.Number32.the-variants.{Number}
 use Rattle.texts.specs.Lines.{positionOf, before, behind, Pieces, last, piece, linesOf, lineFeed}
 use Rattle.texts.specs.LineParts.{numberOf}
-use Rattle.walk.specs.declared.field_table.TableCheck.the-variants as table
-use Rattle.walk.specs.FieldTable.{rowCount, tagOf, firstOf, pastOf, tableCheckOf, AcceptedTable}
-use Rattle.walk.specs.FieldTableLaws.{tableCheckOf-accepted, tableCheckOf-many}
+use Rattle.walk_memory.specs.declared.field_table.TableCheck.the-variants as table
+use Rattle.walk_memory.specs.FieldTable.{rowCount, tagOf, firstOf, pastOf, tableCheckOf, AcceptedTable}
+use Rattle.walk_memory.specs.FieldTableLaws.{tableCheckOf-accepted, tableCheckOf-many}
 use Rattle.listing.specs.declared.message_text.FieldLine.{FieldLine}
 use Rattle.listing.specs.declared.message_text.FieldLine.the-variants.{Field, NoField}
 use Rattle.listing.specs.declared.message_text.ReadMessage.{ReadMessage}

@@ -17,11 +17,11 @@ use Rattle.dictionary.specs.DictionaryCheck.{isDictionary}
 use Rattle.layouts.specs.Limits.{gateLimits}
 use Rattle.layouts.specs.LayoutWords.{levelRequired, levelCountTags}
 use Rattle.layouts.specs.LayoutCheck.{isLayout}
-use Rattle.walk.specs.declared.field_table.TableCheck.{TableCheck}
-use Rattle.walk.specs.declared.field_table.TableCheck.the-variants as table
-use Rattle.walk.specs.declared.event.Event.{Event}
-use Rattle.walk.specs.Events.{eventsWords}
-use Rattle.walk.specs.FieldTable.{tableCheckOf}
+use Rattle.walk_memory.specs.declared.field_table.TableCheck.{TableCheck}
+use Rattle.walk_memory.specs.declared.field_table.TableCheck.the-variants as table
+use Rattle.walk_memory.specs.declared.event.Event.{Event}
+use Rattle.walk_memory.specs.Events.{eventsWords}
+use Rattle.walk_memory.specs.FieldTable.{tableCheckOf}
 use Rattle.validator.specs.declared.message_call.WalkedMessage.{WalkedMessage}
 use Rattle.validator.specs.declared.message_call.WalkedMessage.the-variants.{Done, Refused}
 use Rattle.validator.specs.MessageWords.{walkOf}

@@ -14,11 +14,11 @@ use Rattle.layouts.specs.Limits.{gateLimits}
 use Rattle.layouts.specs.LayoutWords.{levelRequired, levelCountTags}
 use Rattle.layouts.specs.LayoutCheck.{isLayout}
 use Rattle.layouts.specs.LayoutCheckFacts.{Passed}
-use Rattle.walk.specs.declared.field_table.TableCheck.the-variants as table
-use Rattle.walk.specs.declared.event.Event.{Event}
-use Rattle.walk.specs.Events.{eventsWords}
-use Rattle.walk.specs.EventSpaceLaws.{Wrote, wrote-then, putAllIn-room, putAllIn-empty}
-use Rattle.walk.specs.FieldTable.{rowCount, tableCheckOf}
+use Rattle.walk_memory.specs.declared.field_table.TableCheck.the-variants as table
+use Rattle.walk_memory.specs.declared.event.Event.{Event}
+use Rattle.walk_memory.specs.Events.{eventsWords}
+use Rattle.walk_memory.specs.EventSpaceLaws.{Wrote, wrote-then, putAllIn-room, putAllIn-empty}
+use Rattle.walk_memory.specs.FieldTable.{rowCount, tableCheckOf}
 use Rattle.walk.specs.WalkWords.{inputOf}
 use Rattle.walk.specs.WalkWordsLaws.{groupOf-number, layoutOf-rules}
 use Rattle.validator.specs.declared.message_call.WalkedMessage.{WalkedMessage}

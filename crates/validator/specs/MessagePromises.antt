@@ -19,9 +19,9 @@ use Rattle.dictionary.specs.DictionaryCheck.{isDictionary}
 use Rattle.layouts.specs.Limits.{gateLimits}
 use Rattle.layouts.specs.LayoutWords.{groupCount}
 use Rattle.layouts.specs.LayoutCheckFacts.{Passed}
-use Rattle.walk.specs.FieldTable.{rowCount, tagOf, AcceptedTable}
-use Rattle.walk.specs.EventSpaceLaws.{Wrote}
-use Rattle.walk.specs.EntryTags.{holdsRank}
+use Rattle.walk_memory.specs.FieldTable.{rowCount, tagOf, AcceptedTable}
+use Rattle.walk_memory.specs.EventSpaceLaws.{Wrote}
+use Rattle.walk_memory.specs.EntryTags.{holdsRank}
 use Rattle.walk.specs.WalkWords.{groupOf, inputOf}
 use Rattle.validator.specs.MessageWalk.{placeAt, turnAt, messageTurns}
 use Rattle.validator.specs.MessageWords.{levelOf}

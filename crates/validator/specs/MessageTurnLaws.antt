@@ -15,13 +15,13 @@ use Rattle.sorting.specs.Search.{StrictlyAscending, rankIn}
 use Rattle.layouts.specs.Limits.{gateLimits}
 use Rattle.layouts.specs.LayoutWords.{groupCount, levelMembers}
 use Rattle.layouts.specs.LayoutCheckFacts.{Passed}
-use Rattle.walk.specs.declared.event.Kind.the-variants.{Twice, Foreign}
-use Rattle.walk.specs.declared.event.Event.{Event}
-use Rattle.walk.specs.Membership.{_∈ᵇ_}
-use Rattle.walk.specs.FieldTable.{rowCount, tagOf}
-use Rattle.walk.specs.EntryTags.{noRanks, holdsRank, insertRank}
-use Rattle.walk.specs.EventSpaceLaws.{Wrote, wrote-none, wrote-then}
-use Rattle.walk.specs.GroupWalk.{walkGroup}
+use Rattle.walk_memory.specs.declared.event.Kind.the-variants.{Twice, Foreign}
+use Rattle.walk_memory.specs.declared.event.Event.{Event}
+use Rattle.walk_memory.specs.Membership.{_∈ᵇ_}
+use Rattle.walk_memory.specs.FieldTable.{rowCount, tagOf}
+use Rattle.walk_memory.specs.EntryTags.{noRanks, holdsRank, insertRank}
+use Rattle.walk_memory.specs.EventSpaceLaws.{Wrote, wrote-none, wrote-then}
+use Rattle.group_reading.specs.GroupWalk.{walkGroup}
 use Rattle.walk.specs.WrittenEvents.{tagEvent}
 use Rattle.walk.specs.WalkWords.{among, numberFound, groupOf, inputOf, topMembers}
 use Rattle.walk.specs.WalkWordsLaws.{member-found, member-nowhere, groupOf-number, layoutOf-rules, top-ascends}

@@ -16,12 +16,13 @@ use mathlib.Core.Bool.{Bool, not, _&&_}
 use mathlib.Core.Option.{Option, none, some}
 use mathlib.Core.List.{List, [], _∷_, _++_}
 use Rattle.ascii.specs.Notation.{_≡ᵇ_, _<ᵇ_, if_then_else_}
-use Rattle.walk.specs.declared.event.Kind.{Kind}
-use Rattle.walk.specs.declared.event.Kind.the-variants.{Twice, Foreign, Missing}
-use Rattle.walk.specs.declared.event.Event.{Event}
-use Rattle.walk.specs.Membership.{_∈ᵇ_}
-use Rattle.walk.specs.WalkInput.{Layout, Fields, Input}
-use Rattle.walk.specs.GroupWalk.{WalkedGroup, insertIf, walkGroup}
+use Rattle.walk_memory.specs.declared.event.Kind.{Kind}
+use Rattle.walk_memory.specs.declared.event.Kind.the-variants.{Twice, Foreign, Missing}
+use Rattle.walk_memory.specs.declared.event.Event.{Event}
+use Rattle.walk_memory.specs.Membership.{_∈ᵇ_}
+use Rattle.walk_memory.specs.EntryTags.{insertIf}
+use Rattle.walk_memory.specs.WalkInput.{Layout, Fields, Input}
+use Rattle.group_reading.specs.GroupWalk.{WalkedGroup, walkGroup}
 
 pub record MessageLevel (Group : Type 0) : Type 0 where
   -- the dictionary defines the tag: `tags.field(tag)`

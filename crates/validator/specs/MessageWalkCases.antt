@@ -30,10 +30,10 @@ use Rattle.dictionary.specs.DictionaryCheck.{linesFrom, accepts, standsAt, stan
 use Rattle.layouts.specs.Layout.{Layout, level-of, no-groups, group-and, group-of, groupsBelow, levelOrder, allGroups, joined}
 use Rattle.layouts.specs.LayoutWords.{placesFrom, arrangedParts, arranged, stretch, stretches}
 use Rattle.layouts.specs.LayoutCheck.{neverFalls, isRun, isAhead, memberPlacesHold, requiredPlacesHold, groupPlacesHold, isLevel, levelsHold, delimitersHold, allLevelsHold, allDelimitersHold, isLayoutOf, isLayout}
-use Rattle.walk.specs.Events.{eventWords, eventsWords}
-use Rattle.walk.specs.FieldTable.{isBadField, badFrom, tableCheckOf}
-use Rattle.walk.specs.GroupSteps.{openingAt, memberLeads, entryBegins, entryStops, stepAt}
-use Rattle.walk.specs.GroupWalk.{walkBy, walkGroup}
+use Rattle.walk_memory.specs.Events.{eventWords, eventsWords}
+use Rattle.walk_memory.specs.FieldTable.{isBadField, badFrom, tableCheckOf}
+use Rattle.group_reading.specs.GroupSteps.{openingAt, memberLeads, entryBegins, entryStops, stepAt}
+use Rattle.group_reading.specs.GroupWalk.{walkBy, walkGroup}
 use Rattle.validator.specs.declared.message_call.WalkedMessage.{WalkedMessage}
 use Rattle.validator.specs.declared.message_call.WalkedMessage.the-variants.{Done, Refused}
 use Rattle.validator.specs.MessageWalk.{turnAt, turnsFrom, missingTags, missingGroups, messageEvents}

@@ -12,11 +12,11 @@ use lib.Dec.{ltb}
 use lib.ListN.{length, length-append}
 use borrow.Author.Tests.{lt-ltb, le-ltb, ltb-true}
 use Rattle.ascii.specs.Notation.{_≡ᵇ_, if_then_else_}
-use Rattle.walk.specs.declared.event.Event.{Event}
-use Rattle.walk.specs.Membership.{_∈ᵇ_}
-use Rattle.walk.specs.WalkInput.{Layout, Fields, Input, LayoutRules}
-use Rattle.walk.specs.GroupWalk.{WalkedGroup}
-use Rattle.walk.specs.GroupWalkLaws.EventBound.{walkGroup-passes, walkGroup-few-events}
+use Rattle.walk_memory.specs.declared.event.Event.{Event}
+use Rattle.walk_memory.specs.Membership.{_∈ᵇ_}
+use Rattle.walk_memory.specs.WalkInput.{Layout, Fields, Input, LayoutRules}
+use Rattle.group_reading.specs.GroupWalk.{WalkedGroup}
+use Rattle.group_reading.specs.GroupWalkLaws.EventBound.{walkGroup-passes, walkGroup-few-events}
 use Rattle.validator.specs.MessageWalk.{MessageLevel, twiceIf, foreignUnless, missingIf, Turn, Turns, turnAnd, definedTurn, placeAt, turnAt, turnsFrom, messageTurns, missingTags, missingGroups}
 
 -- ---- how many events

@@ -1,7 +1,7 @@
 -- In the events of a message walk every stretch from an enter at depth 0 to its leave is, event by event, the walk of a top group from its count field on, a
--- defined field of the message level (`message-walk-stretches`). So what demand 3 says of the walk of a top group (`walk-finds-readings` of walk) holds of each
--- such stretch that `walk_message` writes (`message-call-finds-readings`): it has no fault event exactly where the fields from there on are a reading of the
--- group. The call is meant by its contract: it answers `walkedOf` and leaves `eventsIn` (`MessageCall.antt`). Assumes nothing.
+-- defined field of the message level (`message-walk-stretches`). So what demand 3 says of the walk of a top group (`walk-finds-readings` of group_reading)
+-- holds of each such stretch that `walk_message` writes (`message-call-finds-readings`): it has no fault event exactly where the fields from there on are a
+-- reading of the group. The call is meant by its contract: it answers `walkedOf` and leaves `eventsIn` (`MessageCall.antt`). Assumes nothing.
 --
 --   FromEnterToLeave stretch         the stretch begins with an enter at depth 0 and ends with the first leave at depth 0 behind it
 --   OwnWalk input level stretch      it is the walk of a top group
@@ -23,14 +23,14 @@ use Rattle.dictionary.specs.DefinedTags.{definedTags}
 use Rattle.layouts.specs.Limits.{gateLimits}
 use Rattle.layouts.specs.LayoutCheck.{isLayout}
 use Rattle.layouts.specs.LayoutCheckFacts.{Passed, isLayout-passed}
-use Rattle.walk.specs.declared.field_table.TableCheck.the-variants.{Accepted}
-use Rattle.walk.specs.declared.event.Event.{Event}
-use Rattle.walk.specs.Events.{kindNumber, eventsWords}
-use Rattle.walk.specs.EventSpaceLaws.{eventsWords-length}
-use Rattle.walk.specs.FieldTable.{tableCheckOf}
-use Rattle.walk.specs.WalkInput.{Input}
-use Rattle.walk.specs.GroupWalk.{walkGroup}
-use Rattle.walk.specs.ReadingTheorem.{FindsReadings, walk-finds-readings}
+use Rattle.walk_memory.specs.declared.field_table.TableCheck.the-variants.{Accepted}
+use Rattle.walk_memory.specs.declared.event.Event.{Event}
+use Rattle.walk_memory.specs.Events.{kindNumber, eventsWords}
+use Rattle.walk_memory.specs.EventSpaceLaws.{eventsWords-length}
+use Rattle.walk_memory.specs.FieldTable.{tableCheckOf}
+use Rattle.walk_memory.specs.WalkInput.{Input}
+use Rattle.group_reading.specs.GroupWalk.{walkGroup}
+use Rattle.group_reading.specs.ReadingTheorem.{FindsReadings, walk-finds-readings}
 use Rattle.walk.specs.WalkWords.{inputOf, topMembers}
 use Rattle.walk.specs.WalkWordsLaws.{groupOf-number, layoutOf-rules}
 use Rattle.validator.specs.declared.message_call.WalkedMessage.the-variants.{Done}

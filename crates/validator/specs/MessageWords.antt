@@ -11,7 +11,7 @@ use lib.ListN.{length}
 use Rattle.ascii.specs.Notation.{_≡ᵇ_, if_then_else_}
 use Rattle.dictionary.specs.DefinedTags.{definedTags}
 use Rattle.layouts.specs.LayoutWords.{levelRequired, levelCountTags, countTagAt, flagAt}
-use Rattle.walk.specs.declared.event.Event.{Event}
+use Rattle.walk_memory.specs.declared.event.Event.{Event}
 use Rattle.walk.specs.WalkWords.{among, groupOf, inputOf, topMembers}
 use Rattle.validator.specs.MessageWalk.{MessageLevel, messageEvents}
 

@@ -18,9 +18,9 @@ use Rattle.layouts.specs.LayoutWords.{requiredPlaces, groupCount, levelRequired
 use Rattle.layouts.specs.LayoutWordsLaws.{length-stretch}
 use Rattle.layouts.specs.LayoutCheckLaws.{required-places, required-few}
 use Rattle.layouts.specs.LayoutCheckFacts.{Passed, required-inside}
-use Rattle.walk.specs.declared.event.Kind.the-variants.{Missing}
-use Rattle.walk.specs.Membership.{_∈ᵇ_}
-use Rattle.walk.specs.EventSpaceLaws.{Wrote, wrote-none, wrote-then}
+use Rattle.walk_memory.specs.declared.event.Kind.the-variants.{Missing}
+use Rattle.walk_memory.specs.Membership.{_∈ᵇ_}
+use Rattle.walk_memory.specs.EventSpaceLaws.{Wrote, wrote-none, wrote-then}
 use Rattle.walk.specs.WalkWordsLaws.{groups-few}
 use Rattle.walk.specs.WrittenEvents.{tagEvent}
 use Rattle.validator.specs.MessageWalk.{missingIf, missingTags, missingGroups}

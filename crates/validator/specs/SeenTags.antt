@@ -1,12 +1,12 @@
 -- The tags seen at the message level (validator.rs, `seen: HashSet<u32>`), as a set of ranks among the tags that the dictionary defines: "undefined tags are
--- skipped", so that no other tag is ever seen. The set is that of the entries of a group (`EntryTags.antt` of walk), in more words. Assumes nothing.
+-- skipped", so that no other tag is ever seen. The set is that of the entries of a group (`EntryTags.antt` of walk_memory), in more words. Assumes nothing.
 --
 --   seenWords                     how many words hold the ranks of 10,922 tags
 --   SeenTags defined words seen   the words stand for the tags in `seen`
 use Prim.Native.Nat.{ℕ}
 use mathlib.Core.List.{List}
 use lib.ListN.{length}
-use Rattle.walk.specs.EntryTags.{TagsSeen}
+use Rattle.walk_memory.specs.EntryTags.{TagsSeen}
 use Rattle.walk.specs.WalkWords.{among, rankOf}
 
 abbrev pub seenWords : ℕ

@@ -10,10 +10,9 @@ use lib.ListN.{length, getD}
 use Rattle.sorting.specs.declared.search.Found.{Found}
 use Rattle.sorting.specs.declared.search.Found.the-variants.{At, Nothing}
 use Rattle.sorting.specs.Search.{StrictlyAscending, rankIn}
-use Rattle.walk.specs.Membership.{_∈ᵇ_}
-use Rattle.walk.specs.EntryTags.{noRanks, holdsRank, insertRank}
-use Rattle.walk.specs.EntryTagsLaws.{fresh-is, stands-empty, seen-empty, seen-holds, seen-insert}
-use Rattle.walk.specs.GroupWalk.{insertIf}
+use Rattle.walk_memory.specs.Membership.{_∈ᵇ_}
+use Rattle.walk_memory.specs.EntryTags.{noRanks, holdsRank, insertRank, insertIf}
+use Rattle.walk_memory.specs.EntryTagsLaws.{fresh-is, stands-empty, seen-empty, seen-holds, seen-insert}
 use Rattle.walk.specs.WalkWords.{among, rankOf}
 use Rattle.walk.specs.WalkWordsLaws.{member-found, member-nowhere, rankIn-there, rankOf-found, rankOf-low, rankOf-apart}
 use Rattle.validator.specs.SeenTags.{seenWords, SeenTags}

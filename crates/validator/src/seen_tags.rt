@@ -2,14 +2,14 @@
 // which hold the ranks of 10,922 tags.
 use sorting::search::Found;
 use sorting::search::binary_search;
-use walk::entry_tags::mask_of;
+use walk_memory::entry_tags::mask_of;
 ghost use mathlib.Core.Path.{_≡_};
 ghost use mathlib.Core.Bool.{not};
 ghost use mathlib.Core.List.{List};
 ghost use Prim.Native.Nat.{ℕ, _/_, _<_};
 ghost use lib.ListN.{length};
-ghost use Rattle.walk.specs.Membership.{_∈ᵇ_};
-ghost use Rattle.walk.specs.EntryTags.{holdsRank, insertRank};
+ghost use Rattle.walk_memory.specs.Membership.{_∈ᵇ_};
+ghost use Rattle.walk_memory.specs.EntryTags.{holdsRank, insertRank};
 ghost use Rattle.validator.specs.SeenTags.{SeenTags};
 ghost use Rattle.validator.specs.MessagePromises.{SeenWords};
 

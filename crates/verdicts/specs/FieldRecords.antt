@@ -17,7 +17,7 @@ use Rattle.formats.specs.FieldType.{typeNumbered}
 use Rattle.dictionary.specs.declared.definitions.Definition.{Definition}
 use Rattle.dictionary.specs.declared.definitions.Definition.the-variants.{Defined, Undefined}
 use Rattle.dictionary.specs.Definitions.{definitionOf}
-use Rattle.walk.specs.FieldTable.{tagOf}
+use Rattle.walk_memory.specs.FieldTable.{tagOf}
 use Rattle.verdicts.specs.declared.verdict.Verdict.{Verdict}
 use Rattle.verdicts.specs.declared.verdict.Verdict.the-variants as verdicts
 use Rattle.verdicts.specs.Verdict.{typedVerdict}

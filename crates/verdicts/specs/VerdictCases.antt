@@ -31,7 +31,7 @@ use Rattle.dictionary.specs.LineTexts.{digitCount, lengthOf}
 use Rattle.dictionary.specs.DictionaryWords.{isOf, nameOf, namesOf, placeOf, recordsOf, indexOf, dictionaryWords}
 use Rattle.dictionary.specs.DictionaryCheck.{linesFrom, accepts, countOf, standsAt, standsEach, isIndex, isDictionary}
 use Rattle.dictionary.specs.Definitions.{recordIn, definitionOf, isSameValue, isAmong, admitsValue}
-use Rattle.walk.specs.FieldTable.{isBadField, badFrom, tableCheckOf}
+use Rattle.walk_memory.specs.FieldTable.{isBadField, badFrom, tableCheckOf}
 use Rattle.verdicts.specs.declared.verdict.Verdict.the-variants.{Good, Undefined, WrongFormat, NotAdmitted}
 use Rattle.verdicts.specs.declared.verdicts_call.Judged.the-variants.{Done, Refused}
 use Rattle.verdicts.specs.Verdict.{admitsEach, checkValue}

@@ -10,9 +10,9 @@ use lib.Seq.{sets, sets-eq, getD-set-other}
 use borrow.Author.Tests.{le-leb, lt-leb}
 use Rattle.texts.specs.declared.refusal.Refusal.the-variants.{UnknownForm, BadField, SpaceShort}
 use Rattle.dictionary.specs.DictionaryCheck.{isDictionary}
-use Rattle.walk.specs.declared.field_table.TableCheck.the-variants as table
-use Rattle.walk.specs.FieldTable.{rowCount, tableCheckOf, fieldsOf}
-use Rattle.walk.specs.WalkInput.{Fields}
+use Rattle.walk_memory.specs.declared.field_table.TableCheck.the-variants as table
+use Rattle.walk_memory.specs.FieldTable.{rowCount, tableCheckOf, fieldsOf}
+use Rattle.walk_memory.specs.WalkInput.{Fields}
 use Rattle.verdicts.specs.declared.verdict.Verdict.{Verdict}
 use Rattle.verdicts.specs.declared.verdicts_call.Judged.{Judged}
 use Rattle.verdicts.specs.declared.verdicts_call.Judged.the-variants.{Done, Refused}

@@ -1,6 +1,6 @@
 -- What the call `walk_group` tells of a top group (document 01, 'Reading of a group'): for lent layout words that pass the check, an accepted field
 -- table, a position inside it, a top group, and space for the events of its walk. The call is meant by its contract: it answers `walkedOf` and leaves
--- `eventsIn` (`WalkCall.antt`). The readings are those of `GroupReading.antt` at the words' input (`WalkWords.antt`). Assumes nothing.
+-- `eventsIn` (`WalkCall.antt`). The readings are those of `GroupReading.antt` of group_reading at the words' input (`WalkWords.antt`). Assumes nothing.
 --
 --   isFaultNumber number          the number is that of a kind of fault event
 --   NoFaultWords space count      none of the first `count` events in the words is a fault event
@@ -19,18 +19,18 @@ use borrow.Author.Tests.{le-leb}
 use Rattle.layouts.specs.Limits.{gateLimits}
 use Rattle.layouts.specs.LayoutCheck.{isLayout}
 use Rattle.layouts.specs.LayoutCheckFacts.{Passed, isLayout-passed}
-use Rattle.walk.specs.declared.field_table.TableCheck.the-variants.{Accepted}
+use Rattle.walk_memory.specs.declared.field_table.TableCheck.the-variants.{Accepted}
+use Rattle.walk_memory.specs.declared.event.Event.{Event}
+use Rattle.walk_memory.specs.Membership.{_∈ᵇ_}
+use Rattle.walk_memory.specs.Events.{kindNumber, isFault, NoFault, ofGroups, eventWords, eventsWords}
+use Rattle.walk_memory.specs.EventsLaws.{noFault-ofGroups}
+use Rattle.walk_memory.specs.EventSpaceLaws.{eventsWords-length}
+use Rattle.walk_memory.specs.FieldTable.{rowCount, tableCheckOf}
+use Rattle.group_reading.specs.GroupWalk.{WalkedGroup, walkGroup}
+use Rattle.group_reading.specs.GroupReading.{Reading, readingEvents}
+use Rattle.group_reading.specs.ReadingTheorem.{FindsReadings, walk-finds-readings}
+use Rattle.group_reading.specs.ReadingTheorem.Complete.{reading-walked}
 use Rattle.walk.specs.declared.walk_call.Walked.the-variants.{Done}
-use Rattle.walk.specs.declared.event.Event.{Event}
-use Rattle.walk.specs.Membership.{_∈ᵇ_}
-use Rattle.walk.specs.Events.{kindNumber, isFault, NoFault, ofGroups, eventWords, eventsWords}
-use Rattle.walk.specs.EventsLaws.{noFault-ofGroups}
-use Rattle.walk.specs.EventSpaceLaws.{eventsWords-length}
-use Rattle.walk.specs.FieldTable.{rowCount, tableCheckOf}
-use Rattle.walk.specs.GroupWalk.{WalkedGroup, walkGroup}
-use Rattle.walk.specs.GroupReading.{Reading, readingEvents}
-use Rattle.walk.specs.ReadingTheorem.{FindsReadings, walk-finds-readings}
-use Rattle.walk.specs.ReadingTheorem.Complete.{reading-walked}
 use Rattle.walk.specs.WalkWords.{groupOf, inputOf, topMembers}
 use Rattle.walk.specs.WalkWordsLaws.{groupOf-number, layoutOf-rules}
 use Rattle.walk.specs.WalkCall.{topWalk, neededFor, walkedOf, eventsIn}

@@ -1,23 +1,5 @@
--- Definitions and laws of the crate `walk`: the events of a walk over the fields of a message, and the readings of a group. A definition's laws
--- stand in the file of its name with `Laws`, its examples in the one with `Cases`. To read: `GroupReading`, then `ReadingTheorem`, then `CallTheorem`.
-pub mod Membership
-pub mod Events
-pub mod EventsLaws
-pub mod EventSpace
-pub mod EventSpaceLaws
-pub mod FieldTable
-pub mod FieldTableLaws
-pub mod WalkInput
-pub mod GroupReading
-pub mod GroupReadingLaws
-pub mod GroupSteps
-pub mod GroupStepsLaws
-pub mod GroupWalk
-pub mod GroupWalkLaws
-pub mod GroupWalkCases
-pub mod ReadingTheorem
-pub mod EntryTags
-pub mod EntryTagsLaws
+-- Definitions and laws of the crate `walk`: the walk of a group on lent words, and that its call finds the readings of the group. A definition's laws stand
+-- in the file of its name with `Laws`. To read: `WalkWords` and `WalkCall`, then `CallTheorem`.
 pub mod WalkWords
 pub mod WalkWordsLaws
 pub mod WordSteps

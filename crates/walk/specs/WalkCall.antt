@@ -15,13 +15,13 @@ use Rattle.ascii.specs.Notation.{_≤ᵇ_, if_then_else_}
 use Rattle.texts.specs.declared.refusal.Refusal.the-variants.{RuleBroken, BadField, SpaceShort, NoSuchGroup}
 use Rattle.layouts.specs.Limits.{gateLimits}
 use Rattle.layouts.specs.LayoutCheck.{isLayout}
-use Rattle.walk.specs.declared.field_table.TableCheck.{TableCheck}
-use Rattle.walk.specs.declared.field_table.TableCheck.the-variants as table
+use Rattle.walk_memory.specs.declared.field_table.TableCheck.{TableCheck}
+use Rattle.walk_memory.specs.declared.field_table.TableCheck.the-variants as table
+use Rattle.walk_memory.specs.Events.{eventsWords}
+use Rattle.walk_memory.specs.FieldTable.{tableCheckOf}
+use Rattle.group_reading.specs.GroupWalk.{WalkedGroup, walkGroup}
 use Rattle.walk.specs.declared.walk_call.Walked.{Walked}
 use Rattle.walk.specs.declared.walk_call.Walked.the-variants.{Done, Refused}
-use Rattle.walk.specs.Events.{eventsWords}
-use Rattle.walk.specs.FieldTable.{tableCheckOf}
-use Rattle.walk.specs.GroupWalk.{WalkedGroup, walkGroup}
 use Rattle.walk.specs.WalkWords.{groupOf, inputOf, topMembers}
 
 abbrev pub topWalk : List ℕ → List ℕ → List ℕ → ℕ → ℕ → WalkedGroup

@@ -14,15 +14,15 @@ use Rattle.layouts.specs.Limits.{gateLimits}
 use Rattle.layouts.specs.LayoutCheck.{isLayout}
 use Rattle.layouts.specs.LayoutCheckFacts.{Passed}
 use Rattle.layouts.specs.LayoutWords.{groupCount, levelMembers}
-use Rattle.walk.specs.declared.field_table.TableCheck.the-variants as table
+use Rattle.walk_memory.specs.declared.field_table.TableCheck.the-variants as table
+use Rattle.walk_memory.specs.Events.{eventsWords}
+use Rattle.walk_memory.specs.EventSpaceLaws.{putAllIn-room, putAllIn-empty}
+use Rattle.walk_memory.specs.FieldTable.{rowCount, tableCheckOf}
+use Rattle.group_reading.specs.GroupWalk.{WalkedGroup, walkGroup}
+use Rattle.group_reading.specs.GroupWalkLaws.Equations.{walkGroup-outside}
+use Rattle.group_reading.specs.GroupWalkLaws.EventBound.{walkGroup-few-in-table}
 use Rattle.walk.specs.declared.walk_call.Walked.{Walked}
 use Rattle.walk.specs.declared.walk_call.Walked.the-variants.{Done, Refused}
-use Rattle.walk.specs.Events.{eventsWords}
-use Rattle.walk.specs.EventSpaceLaws.{putAllIn-room, putAllIn-empty}
-use Rattle.walk.specs.FieldTable.{rowCount, tableCheckOf}
-use Rattle.walk.specs.GroupWalk.{WalkedGroup, walkGroup}
-use Rattle.walk.specs.GroupWalkLaws.Equations.{walkGroup-outside}
-use Rattle.walk.specs.GroupWalkLaws.EventBound.{walkGroup-few-in-table}
 use Rattle.walk.specs.WalkWords.{among, numberFound, groupOf, inputOf, topMembers}
 use Rattle.walk.specs.WalkWordsLaws.{groupOf-number, layoutOf-rules}
 use Rattle.walk.specs.WalkPromises.{Walks}

@@ -1,5 +1,5 @@
--- The loops of `scan_entry`, `scan_wide` and `walk_group` on words: what is done (`GroupWalkLaws/Loops.antt`) is written, and the set stands for the tags
--- seen. Assumes nothing.
+-- The loops of `scan_entry`, `scan_wide` and `walk_group` on words: what is done (`GroupWalkLaws/Loops.antt` of group_reading) is written, and the
+-- set stands for the tags seen. Assumes nothing.
 --
 --   EntryWritten ..   the loop of `scan_entry` and `scan_wide`: the fields before the cursor are taken
 --   GroupWritten ..   the loop of `walk_group`: so many entries are taken, the last one up to the cursor
@@ -19,20 +19,20 @@ use Rattle.formats.specs.declared.count.Count.{Count}
 use Rattle.layouts.specs.Limits.{gateLimits}
 use Rattle.layouts.specs.LayoutWords.{groupCount, levelMembers, countTagAt}
 use Rattle.layouts.specs.LayoutCheckFacts.{Passed}
-use Rattle.walk.specs.declared.event.Kind.the-variants.{Enter, Close, Delim, Deep}
-use Rattle.walk.specs.declared.event.Event.{Event}
-use Rattle.walk.specs.Membership.{_∈ᵇ_}
-use Rattle.walk.specs.EntryTags.{noRanks, holdsRank, insertRank, rankCount, TagsSeen}
-use Rattle.walk.specs.EntryTagsLaws.{seen-empty, seen-count, seen-holds, seen-insert}
-use Rattle.walk.specs.FieldTable.{rowCount, tagOf, fieldsOf}
-use Rattle.walk.specs.WalkInput.{Input, countAt, event}
-use Rattle.walk.specs.EventSpaceLaws.{Wrote, wrote-none, wrote-then}
-use Rattle.walk.specs.GroupSteps.{memberLeads, entryBegins, entryStops}
-use Rattle.walk.specs.GroupStepsLaws.{entryStops-within, entryStops-first, entryBegins-delimiter, memberLeads-taken}
-use Rattle.walk.specs.GroupWalk.{WalkedGroup, ScannedEntry, insertIf, badCount, repeatedTag, leadingEntry, walkGroup, scanEntry}
-use Rattle.walk.specs.GroupWalkLaws.Equations.{walkGroup-outside, walkGroup-too-deep}
-use Rattle.walk.specs.GroupWalkLaws.EventBound.{walkGroup-passes, walkGroup-few-events}
-use Rattle.walk.specs.GroupWalkLaws.Loops.{EntrySoFar, entry-begins, entry-ends, entry-takes-field, entry-takes-group, GroupSoFar, group-begins, group-leads, group-takes-entry, group-ends}
+use Rattle.walk_memory.specs.declared.event.Kind.the-variants.{Enter, Close, Delim, Deep}
+use Rattle.walk_memory.specs.declared.event.Event.{Event}
+use Rattle.walk_memory.specs.Membership.{_∈ᵇ_}
+use Rattle.walk_memory.specs.EntryTags.{noRanks, holdsRank, insertRank, rankCount, insertIf, TagsSeen}
+use Rattle.walk_memory.specs.EntryTagsLaws.{seen-empty, seen-count, seen-holds, seen-insert}
+use Rattle.walk_memory.specs.FieldTable.{rowCount, tagOf, fieldsOf}
+use Rattle.walk_memory.specs.WalkInput.{Input, countAt, event}
+use Rattle.walk_memory.specs.EventSpaceLaws.{Wrote, wrote-none, wrote-then}
+use Rattle.group_reading.specs.GroupSteps.{memberLeads, entryBegins, entryStops}
+use Rattle.group_reading.specs.GroupStepsLaws.{entryStops-within, entryStops-first, entryBegins-delimiter, memberLeads-taken}
+use Rattle.group_reading.specs.GroupWalk.{WalkedGroup, ScannedEntry, badCount, repeatedTag, leadingEntry, walkGroup, scanEntry}
+use Rattle.group_reading.specs.GroupWalkLaws.Equations.{walkGroup-outside, walkGroup-too-deep}
+use Rattle.group_reading.specs.GroupWalkLaws.EventBound.{walkGroup-passes, walkGroup-few-events}
+use Rattle.group_reading.specs.GroupWalkLaws.Loops.{EntrySoFar, entry-begins, entry-ends, entry-takes-field, entry-takes-group, GroupSoFar, group-begins, group-leads, group-takes-entry, group-ends}
 use Rattle.walk.specs.WalkWords.{among, rankOf, layoutOf, groupOf, inputOf}
 use Rattle.walk.specs.WalkWordsLaws.{member-found, rankOf-found, rankOf-low, rankOf-apart, groupOf-number, layoutOf-rules}
 use Rattle.walk.specs.WordStepsLaws.{FieldHere}

@@ -1,4 +1,5 @@
--- What the functions of a group walk ask and promise, in terms of the walk at the words' input (`WalkWords.antt`, `GroupWalk.antt`). Assumes nothing.
+-- What the functions of a group walk ask and promise, in terms of the walk (`GroupWalk.antt` of group_reading) at the words' input (`WalkWords.antt`).
+-- Assumes nothing.
 --
 --   WalkAsks, Walks   `walk_group`: the walk's events are written from `at` on, and the positions given are the walk's
 --   ScanAsks, Scans   `scan_entry` and `scan_wide`: the same for an entry from its first field on, of a level with no more members than the limit
@@ -13,10 +14,10 @@ use Rattle.sorting.specs.Search.{StrictlyAscending}
 use Rattle.layouts.specs.Limits.{gateLimits}
 use Rattle.layouts.specs.LayoutWords.{groupCount, levelMembers}
 use Rattle.layouts.specs.LayoutCheckFacts.{Passed}
-use Rattle.walk.specs.FieldTable.{rowCount, AcceptedTable}
-use Rattle.walk.specs.EventSpaceLaws.{Wrote}
-use Rattle.walk.specs.GroupSteps.{entryStops}
-use Rattle.walk.specs.GroupWalk.{walkGroup, scanEntry}
+use Rattle.walk_memory.specs.FieldTable.{rowCount, AcceptedTable}
+use Rattle.walk_memory.specs.EventSpaceLaws.{Wrote}
+use Rattle.group_reading.specs.GroupSteps.{entryStops}
+use Rattle.group_reading.specs.GroupWalk.{walkGroup, scanEntry}
 use Rattle.walk.specs.WalkWords.{among, inputOf}
 
 -- layout words that passed the check, with a group of theirs, and an accepted field table

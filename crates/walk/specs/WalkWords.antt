@@ -18,8 +18,8 @@ use Rattle.sorting.specs.Search.{rankIn}
 use Rattle.layouts.specs.Limits.{gateLimits}
 use Rattle.layouts.specs.LayoutRules.{_∈ᵇ_}
 use Rattle.layouts.specs.LayoutWords.{levelMembers, levelCountTags, firstGroup, countTagAt, delimiterAt}
-use Rattle.walk.specs.WalkInput.{Layout, Input}
-use Rattle.walk.specs.FieldTable.{fieldsOf}
+use Rattle.walk_memory.specs.WalkInput.{Layout, Input}
+use Rattle.walk_memory.specs.FieldTable.{fieldsOf}
 
 abbrev pub among : List ℕ → ℕ → Bool
 among members tag = tag ∈ᵇ members

@@ -21,7 +21,7 @@ use Rattle.layouts.specs.LayoutWords.{memberPlaces, firstMember, groupCount, gr
 use Rattle.layouts.specs.LayoutWordsLaws.{length-stretch}
 use Rattle.layouts.specs.LayoutCheckLaws.{RunIn, member-places, members-few}
 use Rattle.layouts.specs.LayoutCheckFacts.{Passed, members-inside, members-ascending, countTags-ascending, countTags-inside, delimiter-member, groups-place, firstGroup-first, firstGroup-rises, firstGroup-within}
-use Rattle.walk.specs.WalkInput.{LayoutRules}
+use Rattle.walk_memory.specs.WalkInput.{LayoutRules}
 use Rattle.walk.specs.WalkWords.{rankOf, numberFound, groupOf, layoutOf}
 
 -- ---- a search is membership

@@ -1,5 +1,5 @@
--- The decisions of a group walk (`GroupSteps.antt`) as they are made on words: a field with its tag and the tag's rank among the members at hand.
--- `EntryStep` and `Turn` are declared in src/group_steps.rt. That they are those of `GroupSteps.antt` is in the laws. Assumes nothing.
+-- The decisions of a group walk (`GroupSteps.antt` of group_reading) as they are made on words: a field with its tag and the tag's rank among the members
+-- at hand. `EntryStep` and `Turn` are declared in src/group_steps.rt. That they are those of `GroupSteps.antt` is in the laws. Assumes nothing.
 --
 --   entryStep fields members countTags first delimiter start cursor   what `scan_entry` does at the cursor, in an entry that begins at `start`; the
 --                          groups nested in the level have these count tags, and their numbers begin with `first`
@@ -14,12 +14,12 @@ use Rattle.sorting.specs.declared.search.Found.{Found}
 use Rattle.sorting.specs.declared.search.Found.the-variants.{At, Nothing}
 use Rattle.sorting.specs.Search.{rankIn}
 use Rattle.layouts.specs.LayoutRules.{_∈ᵇ_}
+use Rattle.walk_memory.specs.FieldTable.{rowCount, tagOf}
+use Rattle.group_reading.specs.GroupSteps.{endsGroup}
 use Rattle.walk.specs.declared.group_steps.EntryStep.{EntryStep}
 use Rattle.walk.specs.declared.group_steps.EntryStep.the-variants.{Stop, Plain, Nested}
 use Rattle.walk.specs.declared.group_steps.Turn.{Turn}
 use Rattle.walk.specs.declared.group_steps.Turn.the-variants.{Over, Entry, Lead}
-use Rattle.walk.specs.FieldTable.{rowCount, tagOf}
-use Rattle.walk.specs.GroupSteps.{endsGroup}
 use Rattle.walk.specs.WalkWords.{among, numberFound}
 
 abbrev pub memberStep : ℕ → ℕ → Option ℕ → EntryStep

@@ -1,5 +1,5 @@
--- Laws of `WordSteps.antt`: what each step and turn is by the tests in the order of the code, and what it tells of the decisions of `GroupSteps.antt` at
--- the words' input. Assumes nothing.
+-- Laws of `WordSteps.antt`: what each step and turn is by the tests in the order of the code, and what it tells of the decisions of `GroupSteps.antt` of
+-- group_reading at the words' input. Assumes nothing.
 use mathlib.Core.Path.{_≡_, refl, sym, ap, _∙_}
 use Prim.Native.Nat.{ℕ, _+_, _≤_, _<_}
 use mathlib.Core.Bool.{Bool, true, false, not, _&&_, false≢true}
@@ -16,14 +16,14 @@ use Rattle.sorting.specs.declared.search.Found.the-variants as found
 use Rattle.sorting.specs.Search.{rankIn, isFound}
 use Rattle.layouts.specs.LayoutRules.{_∈ᵇ_}
 use Rattle.layouts.specs.LayoutWords.{levelMembers, levelCountTags, firstGroup, delimiterAt}
+use Rattle.walk_memory.specs.FieldTable.{rowCount, tagOf}
+use Rattle.walk_memory.specs.WalkInput.{Layout, Input}
+use Rattle.group_reading.specs.GroupSteps.{endsGroup, memberLeads, entryBegins, entryStops, stepAt, Step, stops, plain-field, nested-group}
+use Rattle.group_reading.specs.GroupStepsLaws.{stopsBy, beginsBy, leadsBy, stepAt-stops, stepAt-plain, stepAt-nested}
 use Rattle.walk.specs.declared.group_steps.EntryStep.{EntryStep}
 use Rattle.walk.specs.declared.group_steps.EntryStep.the-variants.{Stop, Plain, Nested}
 use Rattle.walk.specs.declared.group_steps.Turn.{Turn}
 use Rattle.walk.specs.declared.group_steps.Turn.the-variants.{Over, Entry, Lead}
-use Rattle.walk.specs.FieldTable.{rowCount, tagOf}
-use Rattle.walk.specs.WalkInput.{Layout, Input}
-use Rattle.walk.specs.GroupSteps.{endsGroup, memberLeads, entryBegins, entryStops, stepAt, Step, stops, plain-field, nested-group}
-use Rattle.walk.specs.GroupStepsLaws.{stopsBy, beginsBy, leadsBy, stepAt-stops, stepAt-plain, stepAt-nested}
 use Rattle.walk.specs.WalkWords.{among, numberFound, groupOf, layoutOf, inputOf}
 use Rattle.walk.specs.WalkWordsLaws.{found-member, member-found, member-nowhere}
 use Rattle.walk.specs.WordSteps.{memberStep, rankStep, entryStep, leadBy, turnBy, turnAt}

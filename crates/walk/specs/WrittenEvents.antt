@@ -1,5 +1,5 @@
 -- The events that a walk writes at one place, for a group of which the count tag is at hand: at its start, at a member met again, at its end. That they
--- are those of `GroupWalk.antt` is in the laws. Assumes nothing.
+-- are those of `GroupWalk.antt` of group_reading is in the laws. Assumes nothing.
 --
 --   tagEvent tag depth kind                        an event of the group with this count tag
 --   begunBy tag depth index declared               enter, and badcount where the field at `index` declares nothing
@@ -11,9 +11,9 @@ use mathlib.Core.List.{List, [], _∷_}
 use Rattle.ascii.specs.Notation.{_≡ᵇ_, if_then_else_}
 use Rattle.formats.specs.declared.count.Count.{Count}
 use Rattle.formats.specs.declared.count.Count.the-variants.{Number, Nothing}
-use Rattle.walk.specs.declared.event.Kind.{Kind}
-use Rattle.walk.specs.declared.event.Kind.the-variants.{Enter, BadCount, Repeat, Miscount, Leave}
-use Rattle.walk.specs.declared.event.Event.{Event}
+use Rattle.walk_memory.specs.declared.event.Kind.{Kind}
+use Rattle.walk_memory.specs.declared.event.Kind.the-variants.{Enter, BadCount, Repeat, Miscount, Leave}
+use Rattle.walk_memory.specs.declared.event.Event.{Event}
 
 abbrev pub tagEvent : ℕ → ℕ → Kind → Event
 tagEvent tag depth kind = record { «count_tag» = tag; depth = depth; kind = kind }

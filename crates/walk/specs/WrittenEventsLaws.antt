@@ -10,11 +10,11 @@ use borrow.Author.Tests.{eq-eqb, ne-eqb}
 use Rattle.ascii.specs.Notation.{if_then_else_}
 use Rattle.formats.specs.declared.count.Count.{Count}
 use Rattle.formats.specs.declared.count.Count.the-variants.{Number, Nothing}
-use Rattle.walk.specs.declared.event.Kind.the-variants.{Enter, BadCount, Repeat, Miscount, Leave}
-use Rattle.walk.specs.declared.event.Event.{Event}
-use Rattle.walk.specs.WalkInput.{Layout, event}
-use Rattle.walk.specs.EventSpaceLaws.{Wrote, wrote-none, wrote-then}
-use Rattle.walk.specs.GroupWalk.{badCount, repeatedTag, ended}
+use Rattle.walk_memory.specs.declared.event.Kind.the-variants.{Enter, BadCount, Repeat, Miscount, Leave}
+use Rattle.walk_memory.specs.declared.event.Event.{Event}
+use Rattle.walk_memory.specs.WalkInput.{Layout, event}
+use Rattle.walk_memory.specs.EventSpaceLaws.{Wrote, wrote-none, wrote-then}
+use Rattle.group_reading.specs.GroupWalk.{badCount, repeatedTag, ended}
 use Rattle.walk.specs.WrittenEvents.{tagEvent, begunBy, repeatBy, leftBy}
 
 -- ---- as code writes them

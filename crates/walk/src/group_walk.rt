@@ -1,10 +1,5 @@
 // The walk of a group and the scan of an entry, which call each other: a call falls on the fields left and the depth left. Ported from walk.rs,
 // `walk_group` and `scan_entry`; the Visitor is the event space.
-use crate::entry_tags::EntryTags;
-use crate::entry_tags::insert_wide;
-use crate::entry_tags::rank_count;
-use crate::event::Kind;
-use crate::field_table::count_at;
 use crate::group_events::either;
 use crate::group_events::put_end;
 use crate::group_events::put_event;
@@ -21,6 +16,11 @@ use layouts::layout_words::count_tag_at;
 use layouts::layout_words::count_tags_at;
 use layouts::layout_words::delimiter_at;
 use layouts::layout_words::members_at;
+use walk_memory::entry_tags::EntryTags;
+use walk_memory::entry_tags::insert_wide;
+use walk_memory::entry_tags::rank_count;
+use walk_memory::event::Kind;
+use walk_memory::field_table::count_at;
 ghost use Rattle.walk.specs.WalkPromises.{WalkAsks, Walks, ScanAsks, Scans};
 
 // The first field behind a group, and the place behind the events' words.

@@ -1,7 +1,4 @@
-// The walk over the fields of a message: groups and their entries.
-pub mod entry_tags;
-pub mod event;
-pub mod field_table;
+// The walk of a group on lent words: its steps, its events, and the call `walk_group`.
 pub mod group_events;
 pub mod group_steps;
 pub mod group_walk;

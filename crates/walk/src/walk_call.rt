@@ -1,19 +1,19 @@
 // The walk of a top group on lent words: a call that refuses what it cannot walk, and else writes the events of the walk. Ported from walk.rs,
 // `walk_group` with a recording visitor.
-use crate::field_table::TableCheck;
-use crate::field_table::check_field_table;
 use crate::group_steps::row_count;
 use crate::layout_input::top_group;
 use layouts::layout_check::is_layout;
 use layouts::layout_words::members_at;
 use sorting::search::Found;
 use texts::refusal::Refusal;
+use walk_memory::field_table::TableCheck;
+use walk_memory::field_table::check_field_table;
 ghost use mathlib.Core.Path.{_≡_};
 ghost use Prim.Native.Nat.{_≤_, _<_};
 ghost use lib.ListN.{length};
 ghost use Rattle.layouts.specs.Limits.{gateLimits};
 ghost use Rattle.layouts.specs.LayoutCheckFacts.{Passed};
-ghost use Rattle.walk.specs.FieldTable.{rowCount, AcceptedTable};
+ghost use Rattle.walk_memory.specs.FieldTable.{rowCount, AcceptedTable};
 ghost use Rattle.walk.specs.WalkPromises.{Accepted};
 ghost use Rattle.walk.specs.WalkWords.{groupOf};
 ghost use Rattle.walk.specs.WalkCall.{topWalk, mostWords, spaceAnswer, spaceWith, groupAnswer, groupSpace, walkedOf, eventsIn};

@@ -16,15 +16,16 @@ use borrow.Author.Tests.{ne-eqb}
 use Rattle.ascii.specs.Notation.{_≡ᵇ_}
 use Rattle.formats.specs.declared.count.Count.{Count}
 use Rattle.formats.specs.declared.count.Count.the-variants.{Number, Nothing}
-use Rattle.walk.specs.declared.event.Kind.{Kind}
-use Rattle.walk.specs.declared.event.Kind.the-variants.{Enter, Close, Miscount, Leave}
-use Rattle.walk.specs.declared.event.Event.{Event}
-use Rattle.walk.specs.Membership.{_∈ᵇ_}
-use Rattle.walk.specs.Events.{kindNumber}
-use Rattle.walk.specs.WalkInput.{Layout, Fields, Input, countAt, event}
-use Rattle.walk.specs.GroupSteps.{Opening, outside, too-deep, member-leads, entries-follow, Step, stops, plain-field, nested-group, memberLeads, entryBegins, openingAt, stepAt}
-use Rattle.walk.specs.GroupStepsLaws.{openingAt-member-leads, openingAt-entries-follow}
-use Rattle.walk.specs.GroupWalk.{WalkedGroup, WalkedEntries, ScannedEntry, insertIf, badCount, repeatedTag, endedBy, ended, wholeGroup, leadingEntry, fieldThen, entryThen, walkBy, entriesBy, scanBy, walkGroup}
+use Rattle.walk_memory.specs.declared.event.Kind.{Kind}
+use Rattle.walk_memory.specs.declared.event.Kind.the-variants.{Enter, Close, Miscount, Leave}
+use Rattle.walk_memory.specs.declared.event.Event.{Event}
+use Rattle.walk_memory.specs.Membership.{_∈ᵇ_}
+use Rattle.walk_memory.specs.Events.{kindNumber}
+use Rattle.walk_memory.specs.EntryTags.{insertIf}
+use Rattle.walk_memory.specs.WalkInput.{Layout, Fields, Input, countAt, event}
+use Rattle.group_reading.specs.GroupSteps.{Opening, outside, too-deep, member-leads, entries-follow, Step, stops, plain-field, nested-group, memberLeads, entryBegins, openingAt, stepAt}
+use Rattle.group_reading.specs.GroupStepsLaws.{openingAt-member-leads, openingAt-entries-follow}
+use Rattle.group_reading.specs.GroupWalk.{WalkedGroup, WalkedEntries, ScannedEntry, badCount, repeatedTag, endedBy, ended, wholeGroup, leadingEntry, fieldThen, entryThen, walkBy, entriesBy, scanBy, walkGroup}
 
 abbrev pub isEnter : Event → Bool
 isEnter event = kindNumber (event .kind) ≡ᵇ 1 && event .depth ≡ᵇ 0

@@ -14,11 +14,11 @@ use lib.Dec.{ltb, eqb}
 use borrow.Author.Tests.{ltb-true, eqb-true}
 use Rattle.ascii.specs.Notation.{_≡ᵇ_, if_then_else_}
 use Rattle.ascii.specs.NotationLaws.{and-left}
-use Rattle.walk.specs.declared.event.Event.{Event}
-use Rattle.walk.specs.Membership.{_∈ᵇ_}
-use Rattle.walk.specs.Events.{kindNumber}
-use Rattle.walk.specs.WalkInput.{Layout, Fields, Input}
-use Rattle.walk.specs.GroupWalk.{walkGroup}
+use Rattle.walk_memory.specs.declared.event.Event.{Event}
+use Rattle.walk_memory.specs.Membership.{_∈ᵇ_}
+use Rattle.walk_memory.specs.Events.{kindNumber}
+use Rattle.walk_memory.specs.WalkInput.{Layout, Fields, Input}
+use Rattle.group_reading.specs.GroupWalk.{walkGroup}
 use Rattle.validator.specs.MessageWalk.{MessageLevel, twiceIf, foreignUnless, missingIf, Turns, turnAnd, definedTurn, placeAt, turnAt, turnsFrom, messageTurns, missingTags, missingGroups, messageEvents}
 use Rattle.validator.specs.MessageWalkTheorem.GroupBounds.{isEnter, isLeave, isBound, None, Closed, Bracketed, none-append, walkGroup-bracketed}
 

@@ -4,8 +4,8 @@ use mathlib.Core.Path.{sym, ap, _∙_}
 use Prim.Native.Nat.{ℕ, _-_}
 use native.Mathlib.Omega.{arith}
 use lib.ListN.{length, length-replicate}
-use Rattle.walk.specs.FieldTable.{rowCount}
-use Rattle.walk.specs.EventSpaceLaws.{wrote-length}
+use Rattle.walk_memory.specs.FieldTable.{rowCount}
+use Rattle.walk_memory.specs.EventSpaceLaws.{wrote-length}
 use Rattle.validator.specs.SeenTags.{seenWords}
 use Rattle.validator.specs.MessageTurnLaws.{TurnsWritten, turns-start, turn-asks, turn-moves, turns-more, turns-over}
 use borrow.Author.Needs.{needs}

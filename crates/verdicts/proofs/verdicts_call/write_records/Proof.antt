@@ -3,7 +3,7 @@
 use mathlib.Core.Path.{ap, _∙_}
 use Prim.Native.Nat.{_-_}
 use native.Mathlib.Omega.{arith}
-use Rattle.walk.specs.FieldTable.{rowCount}
+use Rattle.walk_memory.specs.FieldTable.{rowCount}
 use Rattle.verdicts.specs.FieldRecords.{recordOf}
 use Rattle.verdicts.specs.FieldRecords.{fieldRecord}
 use Rattle.verdicts.specs.FieldRecordsLaws.{FilledSoFar, filled-begins, filled-goes-on, filled-ends}

@@ -6,9 +6,9 @@ use Prim.Native.Nat.{_+_, _-_, _*_, _≤_}
 use mathlib.Core.List.{List}
 use native.Mathlib.Omega.{arith}
 use lib.ListN.{length}
-use Rattle.walk.specs.EntryTags.{rankCount}
-use Rattle.walk.specs.EventSpaceLaws.{wrote-length}
-use Rattle.walk.specs.FieldTable.{rowCount}
+use Rattle.walk_memory.specs.EntryTags.{rankCount}
+use Rattle.walk_memory.specs.EventSpaceLaws.{wrote-length}
+use Rattle.walk_memory.specs.FieldTable.{rowCount}
 use Rattle.walk.specs.WalkWordsLaws.{level-searches, level-ascends, level-length, members-few-here}
 use Rattle.walk.specs.WordStepsLaws.{level-step, level-turn, entry-stops, entry-plain, entry-nested, turn-over, turn-entry, turn-lead}
 use Rattle.walk.specs.WalkLoops.{EntryWritten, entry-starts, field-inside, rank-low, repeat-room, entry-adds-plain, inner-valid, nested-moves, entry-adds-nested, entry-stopped, GroupWritten, group-starts, entry-opens, lead-opens, one-opens, group-ended, walk-outside, walk-too-deep, begun-room}
@@ -29,12 +29,6 @@ use Rattle.layouts.proofs.layout_words.count_tag_at.Reads as count-tag-at-reads
 use Rattle.layouts.proofs.layout_words.count_tags_at.Reads as count-tags-at-reads
 use Rattle.layouts.proofs.layout_words.delimiter_at.Reads as delimiter-at-reads
 use Rattle.layouts.proofs.layout_words.members_at.Reads as members-at-reads
-use Rattle.walk.proofs.entry_tags.EntryTags.close.Reads as close-reads
-use Rattle.walk.proofs.entry_tags.EntryTags.insert_rank.Reads as insert-rank-reads
-use Rattle.walk.proofs.entry_tags.EntryTags.new.Reads as new-reads
-use Rattle.walk.proofs.entry_tags.insert_wide.Reads as insert-wide-reads
-use Rattle.walk.proofs.entry_tags.rank_count.Reads as rank-count-reads
-use Rattle.walk.proofs.field_table.count_at.Reads as count-at-reads
 use Rattle.walk.proofs.group_events.either.Reads as either-reads
 use Rattle.walk.proofs.group_events.put_end.Reads as put-end-reads
 use Rattle.walk.proofs.group_events.put_event.Reads as put-event-reads
@@ -45,6 +39,12 @@ use Rattle.walk.proofs.group_steps.opening_at.Reads as opening-at-reads
 use Rattle.walk.proofs.group_steps.row_count.Reads as row-count-reads
 use Rattle.walk.proofs.group_steps.step_at.Reads as step-at-reads
 use Rattle.walk.proofs.layout_input.first_group_of.Reads as first-group-of-reads
+use Rattle.walk_memory.proofs.entry_tags.EntryTags.close.Reads as close-reads
+use Rattle.walk_memory.proofs.entry_tags.EntryTags.insert_rank.Reads as insert-rank-reads
+use Rattle.walk_memory.proofs.entry_tags.EntryTags.new.Reads as new-reads
+use Rattle.walk_memory.proofs.entry_tags.insert_wide.Reads as insert-wide-reads
+use Rattle.walk_memory.proofs.entry_tags.rank_count.Reads as rank-count-reads
+use Rattle.walk_memory.proofs.field_table.count_at.Reads as count-at-reads
 use Rattle.walk.proofs.group_walk.+scan_entry+scan_wide+walk_group.{statement}
 use Rattle.walk.proofs.group_walk.+scan_entry+scan_wide+walk_group.Tie.{close}
 
