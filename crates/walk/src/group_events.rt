@@ -3,7 +3,7 @@
 use crate::event::Event;
 use crate::event::Kind;
 use crate::event::put;
-use formats::count::Count;
+use counts::count::Count;
 ghost use mathlib.Core.Path.{_≡_};
 ghost use mathlib.Core.Bool.{not, _||_};
 ghost use mathlib.Core.List.{[], _∷_};

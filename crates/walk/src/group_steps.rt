@@ -1,7 +1,7 @@
 // The decisions of a group walk, each with an answer of its own: what a field is to an entry, and to a group. Ported from walk.rs, `walk_group` and
 // `scan_entry`.
 use crate::field_table::tag_at;
-use formats::count::Count;
+use counts::count::Count;
 use sorting::search::Found;
 use sorting::search::binary_search;
 ghost use mathlib.Core.Path.{_≡_};

@@ -4,7 +4,7 @@ use Prim.Native.Nat.{ℕ, zero, suc, _≤_, _<_}
 use mathlib.Core.Bool.{Bool, true, false, true≢false}
 use mathlib.Core.List.{List, []}
 use native.Mathlib.Omega.{arith}
-use Rattle.formats.specs.declared.count.Count.{Count}
+use Rattle.counts.specs.declared.count.Count.{Count}
 use Rattle.walk.specs.Membership.{_∈ᵇ_}
 use Rattle.walk.specs.WalkInput.{Layout, Fields, Input, countAt}
 use Rattle.walk.specs.GroupSteps.{Opening, outside, too-deep, member-leads, entries-follow, Step, stops, plain-field, nested-group, entryBegins, entryStops, openingAt, stepAt}

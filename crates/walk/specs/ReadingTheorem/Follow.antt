@@ -6,7 +6,7 @@ use mathlib.Core.Bool.{Bool, true, false, true≢false, false≢true}
 use native.Mathlib.Omega.{arith}
 use lib.Dec.{ltb, eqb}
 use borrow.Author.Tests.{eqb-true, lt-ltb, eq-eqb, ne-eqb}
-use Rattle.formats.specs.declared.count.Count.the-variants.{Number}
+use Rattle.counts.specs.declared.count.Count.the-variants.{Number}
 use Rattle.walk.specs.WalkInput.{Layout, Fields, Input}
 use Rattle.walk.specs.GroupReading.{mayFollow, Entries, no-entry, entry}
 use Rattle.walk.specs.GroupReadingLaws.{followsBy}

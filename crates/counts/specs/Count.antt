@@ -5,8 +5,8 @@
 use Prim.Native.Nat.{ℕ, _^_}
 use mathlib.Core.Bool.{_&&_}
 use mathlib.Core.List.{List}
-use Rattle.formats.specs.declared.count.Count.{Count}
-use Rattle.formats.specs.declared.count.Count.the-variants.{Number, Nothing}
+use Rattle.counts.specs.declared.count.Count.{Count}
+use Rattle.counts.specs.declared.count.Count.the-variants.{Number, Nothing}
 use Rattle.ascii.specs.Notation.{_<ᵇ_, if_then_else_}
 use Rattle.ascii.specs.Digits.{isDigits, decimal}
 

@@ -6,14 +6,14 @@ use mathlib.Core.List.{List}
 use native.Mathlib.Omega.{arith}
 use lib.ListN.{length, getD, drop}
 use borrow.Author.Tests.{lt-ltb, le-ltb}
-use Rattle.formats.specs.declared.count.Count.{Count}
-use Rattle.formats.specs.declared.count.Count.the-variants.{Number, Nothing}
+use Rattle.counts.specs.declared.count.Count.{Count}
+use Rattle.counts.specs.declared.count.Count.the-variants.{Number, Nothing}
 use Rattle.ascii.specs.NotationLaws.{and-false}
 use Rattle.ascii.specs.Bytes.{every}
 use Rattle.ascii.specs.BytesLaws.{every-step, every-stop, every-end}
 use Rattle.ascii.specs.Digits.{isDigit, isDigits, decimalFrom, decimal}
 use Rattle.ascii.specs.DigitsLaws.{isDigits-empty, isDigits-some, decimalFrom-step, decimalFrom-end, decimalFrom-grows}
-use Rattle.formats.specs.Count.{countOf}
+use Rattle.counts.specs.Count.{countOf}
 
 -- ---- what `countOf` gives
 

@@ -1,7 +1,7 @@
 // The value of a count field (FIX: NumInGroup). Ported from walk.rs, `parse_count`.
 use ascii::digits::is_ascii_digit;
 ghost use mathlib.Core.Path.{_≡_};
-ghost use Rattle.formats.specs.Count.{countOf};
+ghost use Rattle.counts.specs.Count.{countOf};
 
 // What the value of a count field says. The Rust's Option<u64>.
 pub enum Count {
