@@ -13,7 +13,7 @@ use Rattle.formats.specs.declared.field_type.Format.{Format}
 use Rattle.formats.specs.declared.field_type.Format.the-variants.{SignedInteger, UnsignedInteger, Day, Decimal, OneCharacter, YesOrNo, Tokens, Letters, YearMonth, Date, TimeOfDay, DateAndTime, Anything}
 use Rattle.ascii.specs.Notation.{_≡ᵇ_}
 use Rattle.formats.specs.Boolean.{isBoolean}
-use Rattle.formats.specs.Number.{isInteger, isDecimal, isDayOfMonth}
+use Rattle.numbers.specs.Number.{isInteger, isDecimal, isDayOfMonth}
 use Rattle.formats.specs.Characters.{characters}
 use Rattle.formats.specs.MultiValue.{isMultiValueList}
 use Rattle.ascii.specs.Letters.{isAlphaOfLen}

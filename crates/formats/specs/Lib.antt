@@ -4,9 +4,6 @@ pub mod Boolean
 pub mod BooleanLaws
 pub mod FieldType
 pub mod FieldTypeLaws
-pub mod Number
-pub mod NumberLaws
-pub mod NumberCases
 pub mod Characters
 pub mod CharactersLaws
 pub mod CharactersCases

@@ -9,7 +9,7 @@ use Rattle.ascii.specs.Notation.{isBetween}
 use Rattle.ascii.specs.Bytes.{ascii, nonEmpty, every, howMany}
 use Rattle.ascii.specs.Digits.{isDigits, isDigitsOfLen, decimalFrom}
 use Rattle.counts.specs.Count.{countOf}
-use Rattle.formats.specs.Number.{isSigned, withoutSign, isInteger, isDecimalBody, isDecimal, isDayOfMonth}
+use Rattle.numbers.specs.Number.{isSigned, withoutSign, isInteger, isDecimalBody, isDecimal, isDayOfMonth}
 use Rattle.formats.specs.Characters.{expectedAfter, continues, charactersFrom, characters}
 use Rattle.ascii.specs.Split.{withFirst, split, everyPart}
 use Rattle.formats.specs.MultiValue.{isToken, isMultiValueList}

@@ -4,4 +4,3 @@ pub mod characters;
 pub mod field_type;
 pub mod field_value;
 pub mod multi_value;
-pub mod number;

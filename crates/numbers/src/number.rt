@@ -2,7 +2,7 @@
 use ascii::digits::is_ascii_digit;
 use ascii::digits::is_digits;
 ghost use mathlib.Core.Path.{_≡_};
-ghost use Rattle.formats.specs.Number.{isSigned, isInteger, isDecimalBody, isDecimal, isDayOfMonth};
+ghost use Rattle.numbers.specs.Number.{isSigned, isInteger, isDecimalBody, isDecimal, isDayOfMonth};
 
 // Returns true where strip_prefix('-') of the Rust strips a sign.
 fn is_signed(value: &[u8]) -> bool

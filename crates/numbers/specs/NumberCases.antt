@@ -4,7 +4,7 @@ use mathlib.Core.Bool.{true, false}
 use Rattle.ascii.specs.Notation.{isBetween}
 use Rattle.ascii.specs.Bytes.{ascii, nonEmpty, every, howMany}
 use Rattle.ascii.specs.Digits.{isDigits, decimalFrom}
-use Rattle.formats.specs.Number.{isSigned, withoutSign, isInteger, isDecimalBody, isDecimal, isDayOfMonth}
+use Rattle.numbers.specs.Number.{isSigned, withoutSign, isInteger, isDecimalBody, isDecimal, isDayOfMonth}
 
 pub record Integers : Type 0 where
   pub minus-zero : isInteger true (ascii "-0") ≡ true

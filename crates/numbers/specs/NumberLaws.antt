@@ -13,7 +13,7 @@ use Rattle.ascii.specs.Bytes.{every, howMany}
 use Rattle.ascii.specs.BytesLaws.{every-step, every-stop, every-end, howMany-counts, howMany-skips, howMany-end}
 use Rattle.ascii.specs.Digits.{isDigit, isDigits, decimalFrom, decimal}
 use Rattle.ascii.specs.DigitsLaws.{isDigit-range, isDigits-empty, isDigits-some, decimalFrom-step, decimalFrom-end, decimalFrom-grows}
-use Rattle.formats.specs.Number.{isSigned, withoutSign, isInteger, isPoint, isDigitOrPoint, isDecimalBody, isDecimal, isDayOfMonth}
+use Rattle.numbers.specs.Number.{isSigned, withoutSign, isInteger, isPoint, isDigitOrPoint, isDecimalBody, isDecimal, isDayOfMonth}
 
 -- ---- isSigned
 
