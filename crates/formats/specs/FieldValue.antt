@@ -14,7 +14,7 @@ use Rattle.formats.specs.declared.field_type.Format.the-variants.{Signed
 use Rattle.ascii.specs.Notation.{_≡ᵇ_}
 use Rattle.formats.specs.Boolean.{isBoolean}
 use Rattle.numbers.specs.Number.{isInteger, isDecimal, isDayOfMonth}
-use Rattle.formats.specs.Characters.{characters}
+use Rattle.unicode.specs.Characters.{characters}
 use Rattle.formats.specs.MultiValue.{isMultiValueList}
 use Rattle.ascii.specs.Letters.{isAlphaOfLen}
 use Rattle.dates.specs.Date.{isMonthYear, isDate, isTimeOfDay, isUtcTimestamp}

@@ -4,9 +4,6 @@ pub mod Boolean
 pub mod BooleanLaws
 pub mod FieldType
 pub mod FieldTypeLaws
-pub mod Characters
-pub mod CharactersLaws
-pub mod CharactersCases
 pub mod MultiValue
 pub mod MultiValueLaws
 pub mod FieldValue

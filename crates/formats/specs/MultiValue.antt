@@ -5,8 +5,8 @@
 -- The Rust cuts the value at its spaces after `from_utf8_lossy`; here the bytes are cut at 20 (hexadecimal) and the characters of each
 -- token are counted by themselves. That is the same: 20 stands in no row of table 3-7 behind the first byte, so a space is inside no
 -- character of several bytes and inside no maximal invalid part. The replacement joins nothing across a space, makes no space and takes
--- none away, and what it makes of a token depends on the token's bytes alone. Proved: `characters-parted` (CharactersLaws.antt) of the
--- numbers, `cut-before-or-behind` (MultiValueOrder.antt) of the answer.
+-- none away, and what it makes of a token depends on the token's bytes alone. Proved: `characters-parted` (unicode,
+-- CharactersLaws.antt) of the numbers, `cut-before-or-behind` (MultiValueOrder.antt) of the answer.
 --
 --   TokenLen                        the code's enum: `Any`, or `Exactly len` characters
 --   isToken tokenLen token          the token is non-empty and of this length
@@ -19,7 +19,7 @@ use Rattle.formats.specs.declared.multi_value.TokenLen.{TokenLen}
 use Rattle.formats.specs.declared.multi_value.TokenLen.the-variants.{Any, Exactly}
 use Rattle.ascii.specs.Notation.{_≡ᵇ_}
 use Rattle.ascii.specs.Bytes.{nonEmpty}
-use Rattle.formats.specs.Characters.{characters}
+use Rattle.unicode.specs.Characters.{characters}
 use Rattle.ascii.specs.Split.{split, everyPart}
 
 unfoldable pub isToken : TokenLen → List ℕ → Bool

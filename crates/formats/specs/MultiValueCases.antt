@@ -5,7 +5,7 @@ use mathlib.Core.List.{[], _∷_}
 use Rattle.formats.specs.declared.multi_value.TokenLen.the-variants.{Any, Exactly}
 use Rattle.ascii.specs.Notation.{isBetween}
 use Rattle.ascii.specs.Bytes.{ascii, nonEmpty}
-use Rattle.formats.specs.Characters.{expectedAfter, continues, charactersFrom, characters}
+use Rattle.unicode.specs.Characters.{expectedAfter, continues, charactersFrom, characters}
 use Rattle.ascii.specs.Split.{withFirst, split, everyPart}
 use Rattle.formats.specs.MultiValue.{isToken, isMultiValueList}
 

@@ -13,13 +13,13 @@ use native.Mathlib.Omega.{arith}
 use lib.Dec.{eqb}
 use lib.ListN.{length}
 use borrow.Author.Tests.{eqb-true}
-use Rattle.formats.specs.declared.characters.Expected.{Expected}
+use Rattle.unicode.specs.declared.characters.Expected.{Expected}
 use Rattle.formats.specs.declared.multi_value.TokenLen.{TokenLen}
 use Rattle.formats.specs.declared.multi_value.TokenLen.the-variants.{Any, Exactly}
 use Rattle.ascii.specs.Notation.{_≡ᵇ_}
 use Rattle.ascii.specs.Bytes.{nonEmpty}
-use Rattle.formats.specs.Characters.{nothingExpected, expectedAfter, continues, next, leadsFrom, leads}
-use Rattle.formats.specs.CharactersLaws.{
+use Rattle.unicode.specs.Characters.{nothingExpected, expectedAfter, continues, next, leadsFrom, leads}
+use Rattle.unicode.specs.CharactersLaws.{
   BehindAscii,
   expectedAfter-below,
   expectedAfter-behind,

@@ -10,7 +10,7 @@ use Rattle.ascii.specs.Bytes.{ascii, nonEmpty, every, howMany}
 use Rattle.ascii.specs.Digits.{isDigits, isDigitsOfLen, decimalFrom}
 use Rattle.counts.specs.Count.{countOf}
 use Rattle.numbers.specs.Number.{isSigned, withoutSign, isInteger, isDecimalBody, isDecimal, isDayOfMonth}
-use Rattle.formats.specs.Characters.{expectedAfter, continues, charactersFrom, characters}
+use Rattle.unicode.specs.Characters.{expectedAfter, continues, charactersFrom, characters}
 use Rattle.ascii.specs.Split.{withFirst, split, everyPart}
 use Rattle.formats.specs.MultiValue.{isToken, isMultiValueList}
 use Rattle.dates.specs.Date.{standsFor, hasPicture, isMonthYear}

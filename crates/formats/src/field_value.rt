@@ -1,6 +1,5 @@
 // The values that a field of each data type may have. Ported from schema.rs, `FieldType::is_valid_value`.
 use crate::boolean::is_boolean;
-use crate::characters::count_chars;
 use crate::field_type::FieldType;
 use crate::field_type::Format;
 use crate::multi_value::is_multi_value_list;
@@ -16,6 +15,7 @@ use dates::strict_date::is_strict_utc_timestamp;
 use numbers::number::is_day_of_month;
 use numbers::number::is_decimal;
 use numbers::number::is_integer;
+use unicode::characters::count_chars;
 ghost use mathlib.Core.Path.{_≡_};
 ghost use Rattle.formats.specs.FieldValue.{isOfFormat, isValidValue, isInRanges, isStrictValue};
 

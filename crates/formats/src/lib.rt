@@ -1,6 +1,5 @@
 // Values of FIX fields: which bytes a value of each data type may have. Ported from schema.rs.
 pub mod boolean;
-pub mod characters;
 pub mod field_type;
 pub mod field_value;
 pub mod multi_value;

@@ -1,6 +1,6 @@
 // Lists of values in one field (FIX: MultipleValueString). Ported from schema.rs, `is_multi_value_list`.
-use crate::characters::count_chars;
 use ascii::split::find;
+use unicode::characters::count_chars;
 ghost use mathlib.Core.Path.{_≡_};
 ghost use Rattle.formats.specs.MultiValue.{isToken, isMultiValueList};
 

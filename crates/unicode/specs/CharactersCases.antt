@@ -3,7 +3,7 @@ use mathlib.Core.Path.{_≡_, refl}
 use mathlib.Core.List.{[], _∷_}
 use Rattle.ascii.specs.Notation.{isBetween}
 use Rattle.ascii.specs.Bytes.{ascii}
-use Rattle.formats.specs.Characters.{expectedAfter, continues, charactersFrom, characters}
+use Rattle.unicode.specs.Characters.{expectedAfter, continues, charactersFrom, characters}
 
 pub record CharactersCases : Type 0 where
   pub empty : characters [] ≡ 0

@@ -1,6 +1,6 @@
 // The characters of a value after the Rust's String::from_utf8_lossy.
 ghost use mathlib.Core.Path.{_≡_};
-ghost use Rattle.formats.specs.Characters.{expects, expectedAfter, continues, characters};
+ghost use Rattle.unicode.specs.Characters.{expects, expectedAfter, continues, characters};
 
 // What the open character still expects: `more` bytes, the next of them from `low` to `high`.
 pub struct Expected {

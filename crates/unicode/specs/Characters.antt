@@ -18,7 +18,7 @@
 use Prim.Native.Nat.{ℕ, suc, _-_}
 use mathlib.Core.Bool.{Bool, _&&_}
 use mathlib.Core.List.{List, [], _∷_}
-use Rattle.formats.specs.declared.characters.Expected.{Expected}
+use Rattle.unicode.specs.declared.characters.Expected.{Expected}
 use Rattle.ascii.specs.Notation.{_<ᵇ_, isBetween, if_then_else_}
 
 abbrev pub expects : ℕ → ℕ → ℕ → Expected

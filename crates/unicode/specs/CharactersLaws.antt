@@ -7,12 +7,12 @@ use native.Mathlib.Omega.{arith}
 use lib.Dec.{ltb, leb}
 use lib.ListN.{length, getD, drop, drop-of-length-le}
 use borrow.Author.Tests.{ltb-true, le-leb, lt-leb, lt-ltb, le-ltb}
-use Rattle.formats.specs.declared.characters.Expected.{Expected}
+use Rattle.unicode.specs.declared.characters.Expected.{Expected}
 use Rattle.ascii.specs.Notation.{isBetween}
 use Rattle.ascii.specs.NotationLaws.{and-left, and-right, and-false, isBetween-below, isBetween-from}
 use Rattle.ascii.specs.Bytes.{nonEmpty, every}
 use Rattle.ascii.specs.BytesLaws.{drop-step}
-use Rattle.formats.specs.Characters.{expects, nothingExpected, expectedAfter, continues, next, charactersFrom, characters, leadsFrom, leads}
+use Rattle.unicode.specs.Characters.{expects, nothingExpected, expectedAfter, continues, next, charactersFrom, characters, leadsFrom, leads}
 
 -- ---- expectedAfter, row by row
 
