@@ -15,7 +15,7 @@ use Rattle.formats.specs.declared.field_type.FieldType.{FieldType}
 use Rattle.formats.specs.declared.field_type.FieldType.the-variants.{Int, Length, SeqNum, NumInGroup, TagNum, DayOfMonth, Float, Qty, Price, PriceOffset, Amt, Percentage, Char, Boolean, String, MultipleCharValue, MultipleStringValue, Country, Currency, Exchange, MonthYear, UtcTimestamp, UtcTimeOnly, UtcDateOnly, LocalMktDate, LocalMktTime, TzTimeOnly, TzTimestamp, Data, XmlData, Language, Pattern, Tenor, Reserved}
 use Rattle.formats.specs.declared.field_type.Format.{Format}
 use Rattle.formats.specs.declared.field_type.Format.the-variants.{SignedInteger, UnsignedInteger, Day, Decimal, OneCharacter, YesOrNo, Tokens, Letters, YearMonth, Date, TimeOfDay, DateAndTime, Anything}
-use Rattle.formats.specs.declared.multi_value.TokenLen.the-variants.{Any, Exactly}
+use Rattle.multi_values.specs.declared.multi_value.TokenLen.the-variants.{Any, Exactly}
 use Rattle.formats.specs.declared.field_type.NumberedType.{NumberedType}
 use Rattle.formats.specs.declared.field_type.NumberedType.the-variants.{Numbered, Nothing}
 use Rattle.ascii.specs.Notation.{_<ᵇ_, if_then_else_}

@@ -15,7 +15,7 @@ use Rattle.ascii.specs.Notation.{_≡ᵇ_}
 use Rattle.formats.specs.Boolean.{isBoolean}
 use Rattle.numbers.specs.Number.{isInteger, isDecimal, isDayOfMonth}
 use Rattle.unicode.specs.Characters.{characters}
-use Rattle.formats.specs.MultiValue.{isMultiValueList}
+use Rattle.multi_values.specs.MultiValue.{isMultiValueList}
 use Rattle.ascii.specs.Letters.{isAlphaOfLen}
 use Rattle.dates.specs.Date.{isMonthYear, isDate, isTimeOfDay, isUtcTimestamp}
 use Rattle.dates.specs.StrictDate.{isStrictMonthYear, isStrictDate, isStrictTimeOfDay, isStrictUtcTimestamp}

@@ -4,10 +4,6 @@ pub mod Boolean
 pub mod BooleanLaws
 pub mod FieldType
 pub mod FieldTypeLaws
-pub mod MultiValue
-pub mod MultiValueLaws
 pub mod FieldValue
 pub mod FieldValueLaws
 pub mod StarredCases
-pub mod MultiValueOrder
-pub mod MultiValueCases

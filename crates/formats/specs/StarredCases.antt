@@ -12,7 +12,7 @@ use Rattle.counts.specs.Count.{countOf}
 use Rattle.numbers.specs.Number.{isSigned, withoutSign, isInteger, isDecimalBody, isDecimal, isDayOfMonth}
 use Rattle.unicode.specs.Characters.{expectedAfter, continues, charactersFrom, characters}
 use Rattle.ascii.specs.Split.{withFirst, split, everyPart}
-use Rattle.formats.specs.MultiValue.{isToken, isMultiValueList}
+use Rattle.multi_values.specs.MultiValue.{isToken, isMultiValueList}
 use Rattle.dates.specs.Date.{standsFor, hasPicture, isMonthYear}
 use Rattle.dates.specs.StrictDate.{isInRange, isStrictMonthYear}
 use Rattle.formats.specs.FieldValue.{isOfFormat, isValidValue, isInRanges, isStrictValue}

@@ -1,5 +1,5 @@
 // The data types of FIX fields. Ported from schema.rs, `FieldType`.
-use crate::multi_value::TokenLen;
+use multi_values::multi_value::TokenLen;
 ghost use mathlib.Core.Path.{_≡_};
 ghost use Rattle.formats.specs.FieldType.{formatOf, isMultiValue, typeNumbered};
 

@@ -2,7 +2,6 @@
 use crate::boolean::is_boolean;
 use crate::field_type::FieldType;
 use crate::field_type::Format;
-use crate::multi_value::is_multi_value_list;
 use ascii::digits::is_digits_of_len;
 use ascii::letters::is_alpha_of_len;
 use dates::date::is_month_year;
@@ -12,6 +11,7 @@ use dates::strict_date::is_strict_date;
 use dates::strict_date::is_strict_month_year;
 use dates::strict_date::is_strict_time_of_day;
 use dates::strict_date::is_strict_utc_timestamp;
+use multi_values::multi_value::is_multi_value_list;
 use numbers::number::is_day_of_month;
 use numbers::number::is_decimal;
 use numbers::number::is_integer;

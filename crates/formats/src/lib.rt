@@ -2,4 +2,3 @@
 pub mod boolean;
 pub mod field_type;
 pub mod field_value;
-pub mod multi_value;

@@ -3,7 +3,7 @@
 -- in src/verdict.rt. The dictionary is given by its words, in which definition and admitted values are looked up (dictionary, Definitions.antt). Assumes nothing.
 --
 -- The Rust looks at the text that `from_utf8_lossy` makes of the value; here the raw bytes are judged. That is the same: of the format see docs/DIFFERENCES.md and
--- `cut-before-or-behind` (formats, MultiValueOrder.antt); of the admitted values `admitted-by-characters` (AdmittedCharacters.antt).
+-- `cut-before-or-behind` (multi_values, MultiValueOrder.antt); of the admitted values `admitted-by-characters` (AdmittedCharacters.antt).
 --
 --   verdictWord verdict                        document 01's number of the verdict
 --   hasFormat strict type value                the value has the form of its type, and in strict mode its ranges

@@ -16,7 +16,7 @@ use Rattle.dates.specs.Date.{standsFor, hasPicture, isMonthYear}
 use Rattle.dates.specs.StrictDate.{isInRange, isStrictMonthYear}
 use Rattle.numbers.specs.Number.{isSigned, withoutSign, isInteger, isDecimalBody, isDecimal}
 use Rattle.unicode.specs.Characters.{expectedAfter, continues, charactersFrom, characters}
-use Rattle.formats.specs.MultiValue.{isToken, isMultiValueList}
+use Rattle.multi_values.specs.MultiValue.{isToken, isMultiValueList}
 use Rattle.formats.specs.FieldType.{typeNumbered}
 use Rattle.formats.specs.FieldValue.{isOfFormat, isInRanges}
 use Rattle.sorting.specs.Sort.{inserted, sorted}

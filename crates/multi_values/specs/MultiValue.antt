@@ -15,8 +15,8 @@ use Prim.Native.Nat.{ℕ}
 use Prim.Native.Char.{code}
 use mathlib.Core.Bool.{Bool, _&&_}
 use mathlib.Core.List.{List}
-use Rattle.formats.specs.declared.multi_value.TokenLen.{TokenLen}
-use Rattle.formats.specs.declared.multi_value.TokenLen.the-variants.{Any, Exactly}
+use Rattle.multi_values.specs.declared.multi_value.TokenLen.{TokenLen}
+use Rattle.multi_values.specs.declared.multi_value.TokenLen.the-variants.{Any, Exactly}
 use Rattle.ascii.specs.Notation.{_≡ᵇ_}
 use Rattle.ascii.specs.Bytes.{nonEmpty}
 use Rattle.unicode.specs.Characters.{characters}

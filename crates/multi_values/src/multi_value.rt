@@ -2,7 +2,7 @@
 use ascii::split::find;
 use unicode::characters::count_chars;
 ghost use mathlib.Core.Path.{_≡_};
-ghost use Rattle.formats.specs.MultiValue.{isToken, isMultiValueList};
+ghost use Rattle.multi_values.specs.MultiValue.{isToken, isMultiValueList};
 
 // How many characters each token has. The Rust's Option<usize>.
 pub enum TokenLen {

@@ -6,13 +6,13 @@ use mathlib.Core.List.{List}
 use native.Mathlib.Omega.{arith}
 use lib.Dec.{eqb}
 use lib.ListN.{length, take, drop}
-use Rattle.formats.specs.declared.multi_value.TokenLen.{TokenLen}
-use Rattle.formats.specs.declared.multi_value.TokenLen.the-variants.{Any, Exactly}
+use Rattle.multi_values.specs.declared.multi_value.TokenLen.{TokenLen}
+use Rattle.multi_values.specs.declared.multi_value.TokenLen.the-variants.{Any, Exactly}
 use Rattle.ascii.specs.BytesLaws.{nonEmpty-none, nonEmpty-some, part-to-end}
 use Rattle.unicode.specs.Characters.{characters}
 use Rattle.ascii.specs.Split.{indexOf, split, everyPart}
 use Rattle.ascii.specs.SplitLaws.{found-within, everyPart-last, everyPart-goes-on, everyPart-fails}
-use Rattle.formats.specs.MultiValue.{isToken, isMultiValueList}
+use Rattle.multi_values.specs.MultiValue.{isToken, isMultiValueList}
 
 -- ---- isToken
 

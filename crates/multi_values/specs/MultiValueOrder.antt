@@ -14,8 +14,8 @@ use lib.Dec.{eqb}
 use lib.ListN.{length}
 use borrow.Author.Tests.{eqb-true}
 use Rattle.unicode.specs.declared.characters.Expected.{Expected}
-use Rattle.formats.specs.declared.multi_value.TokenLen.{TokenLen}
-use Rattle.formats.specs.declared.multi_value.TokenLen.the-variants.{Any, Exactly}
+use Rattle.multi_values.specs.declared.multi_value.TokenLen.{TokenLen}
+use Rattle.multi_values.specs.declared.multi_value.TokenLen.the-variants.{Any, Exactly}
 use Rattle.ascii.specs.Notation.{_≡ᵇ_}
 use Rattle.ascii.specs.Bytes.{nonEmpty}
 use Rattle.unicode.specs.Characters.{nothingExpected, expectedAfter, continues, next, leadsFrom, leads}
@@ -30,7 +30,7 @@ use Rattle.unicode.specs.CharactersLaws.{
   nonEmpty-leads,
 }
 use Rattle.ascii.specs.Split.{Parts, last, part, withFirst, split, everyPart}
-use Rattle.formats.specs.MultiValue.{isToken, isMultiValueList}
+use Rattle.multi_values.specs.MultiValue.{isToken, isMultiValueList}
 
 unfoldable pub isTokenOf : TokenLen → List ℕ → Bool
 isTokenOf Any token = nonEmpty token
