@@ -2,8 +2,6 @@
 -- its examples in the one with `Cases`.
 pub mod Boolean
 pub mod BooleanLaws
-pub mod FieldType
-pub mod FieldTypeLaws
 pub mod FieldValue
 pub mod FieldValueLaws
 pub mod StarredCases

@@ -4,7 +4,7 @@ use mathlib.Core.Path.{_≡_, refl}
 use Prim.Native.Nat.{ℕ}
 use mathlib.Core.Bool.{Bool, true, false}
 use Rattle.counts.specs.declared.count.Count.the-variants.{Number, Nothing}
-use Rattle.formats.specs.declared.field_type.FieldType.the-variants.{Int, Price, DayOfMonth, MultipleCharValue, MonthYear}
+use Rattle.field_types.specs.declared.field_type.FieldType.the-variants.{Int, Price, DayOfMonth, MultipleCharValue, MonthYear}
 use Rattle.ascii.specs.Notation.{isBetween}
 use Rattle.ascii.specs.Bytes.{ascii, nonEmpty, every, howMany}
 use Rattle.ascii.specs.Digits.{isDigits, isDigitsOfLen, decimalFrom}

@@ -1,7 +1,5 @@
 // The values that a field of each data type may have. Ported from schema.rs, `FieldType::is_valid_value`.
 use crate::boolean::is_boolean;
-use crate::field_type::FieldType;
-use crate::field_type::Format;
 use ascii::digits::is_digits_of_len;
 use ascii::letters::is_alpha_of_len;
 use dates::date::is_month_year;
@@ -11,6 +9,8 @@ use dates::strict_date::is_strict_date;
 use dates::strict_date::is_strict_month_year;
 use dates::strict_date::is_strict_time_of_day;
 use dates::strict_date::is_strict_utc_timestamp;
+use field_types::field_type::FieldType;
+use field_types::field_type::Format;
 use multi_values::multi_value::is_multi_value_list;
 use numbers::number::is_day_of_month;
 use numbers::number::is_decimal;

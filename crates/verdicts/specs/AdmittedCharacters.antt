@@ -15,7 +15,7 @@ use Rattle.ascii.specs.Notation.{isBetween}
 use Rattle.ascii.specs.NotationLaws.{and-left, and-right, and-false, isBetween-range}
 use Rattle.ascii.specs.Bytes.{every}
 use Rattle.ascii.specs.Split.{Parts, last, part, split, everyPart}
-use Rattle.formats.specs.declared.field_type.FieldType.{FieldType}
+use Rattle.field_types.specs.declared.field_type.FieldType.{FieldType}
 use Rattle.unicode.specs.Characters.{nothingExpected, expectedAfter, leadsFrom, leads}
 use Rattle.unicode.specs.CharactersLaws.{expectedAfter-below, continues-none, leadsFrom-begins}
 use Rattle.multi_values.specs.MultiValueOrder.{leadsOfParts, split-leads}

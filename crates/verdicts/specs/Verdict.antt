@@ -18,10 +18,10 @@ use mathlib.Core.Bool.{Bool}
 use mathlib.Core.List.{List}
 use Rattle.ascii.specs.Notation.{if_then_else_}
 use Rattle.ascii.specs.Split.{split, everyPart}
-use Rattle.formats.specs.declared.field_type.FieldType.{FieldType}
-use Rattle.formats.specs.declared.field_type.NumberedType.{NumberedType}
-use Rattle.formats.specs.declared.field_type.NumberedType.the-variants as types
-use Rattle.formats.specs.FieldType.{typeNumbered, isMultiValue}
+use Rattle.field_types.specs.declared.field_type.FieldType.{FieldType}
+use Rattle.field_types.specs.declared.field_type.NumberedType.{NumberedType}
+use Rattle.field_types.specs.declared.field_type.NumberedType.the-variants as types
+use Rattle.field_types.specs.FieldType.{typeNumbered, isMultiValue}
 use Rattle.formats.specs.FieldValue.{isValidValue, isStrictValue}
 use Rattle.dictionary.specs.declared.definitions.Definition.{Definition}
 use Rattle.dictionary.specs.declared.definitions.Definition.the-variants as definitions

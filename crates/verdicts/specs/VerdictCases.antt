@@ -17,7 +17,7 @@ use Rattle.dates.specs.StrictDate.{isInRange, isStrictMonthYear}
 use Rattle.numbers.specs.Number.{isSigned, withoutSign, isInteger, isDecimalBody, isDecimal}
 use Rattle.unicode.specs.Characters.{expectedAfter, continues, charactersFrom, characters}
 use Rattle.multi_values.specs.MultiValue.{isToken, isMultiValueList}
-use Rattle.formats.specs.FieldType.{typeNumbered}
+use Rattle.field_types.specs.FieldType.{typeNumbered}
 use Rattle.formats.specs.FieldValue.{isOfFormat, isInRanges}
 use Rattle.sorting.specs.Sort.{inserted, sorted}
 use Rattle.sorting.specs.Search.{isStrictlyAbove, isStrictlyAscending, rankFrom, rankIn}

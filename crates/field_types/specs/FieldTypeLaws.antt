@@ -5,8 +5,8 @@ use mathlib.Core.Path.{_≡_, ap, sym}
 use Prim.Native.Nat.{ℕ, zero, suc, _≤_}
 use native.Mathlib.Omega.{arith}
 use borrow.Author.Tests.{le-ltb}
-use Rattle.formats.specs.declared.field_type.NumberedType.the-variants.{Nothing}
-use Rattle.formats.specs.FieldType.{typeNumbered}
+use Rattle.field_types.specs.declared.field_type.NumberedType.the-variants.{Nothing}
+use Rattle.field_types.specs.FieldType.{typeNumbered}
 
 -- the type of a number that is known
 pub typeNumbered-at : (known number : ℕ) → number ≡ known → typeNumbered known ≡ typeNumbered number

@@ -1,7 +1,7 @@
 // The data types of FIX fields. Ported from schema.rs, `FieldType`.
 use multi_values::multi_value::TokenLen;
 ghost use mathlib.Core.Path.{_≡_};
-ghost use Rattle.formats.specs.FieldType.{formatOf, isMultiValue, typeNumbered};
+ghost use Rattle.field_types.specs.FieldType.{formatOf, isMultiValue, typeNumbered};
 
 // FIX field data type.
 pub enum FieldType {
