@@ -66,11 +66,11 @@ enum-told-14 c = search needs
 enum-told-15 : tie.Need-enum-told-15
 enum-told-15 c = search needs
 
--- FieldType::MultipleCharValue => Format::CharacterTokens,
+-- FieldType::MultipleCharValue => Format::Tokens(TokenLen::Exactly(1)),
 enum-told-16 : tie.Need-enum-told-16
 enum-told-16 c = search needs
 
--- FieldType::MultipleStringValue => Format::Tokens,
+-- FieldType::MultipleStringValue => Format::Tokens(TokenLen::Any),
 enum-told-17 : tie.Need-enum-told-17
 enum-told-17 c = search needs
 
