@@ -8,7 +8,7 @@ use lib.ListN.{length, getD, List·getD-eq-default}
 use borrow.Author.Tests.{ltb-true, ltb-false, eqb-true, eqb-false}
 use Rattle.ascii.specs.NotationLaws.{and-left, and-right}
 use Rattle.ascii.specs.Bytes.{every}
-use Rattle.formats.specs.FieldTypeLaws.{NoneBelow, none-below}
+use Rattle.field_types.specs.FieldTypeLaws.{NoneBelow, none-below}
 use Rattle.texts.specs.declared.line_parts.TypeName.{TypeName}
 use Rattle.texts.specs.declared.line_parts.TypeName.the-variants.{TypeAt, NoType}
 use Rattle.texts.specs.Lines.{startsWith, isSame, longer, cut}

@@ -1,5 +1,5 @@
 -- Which values a field of each data type may have: schema.rs, `FieldType::is_valid_value`, whose arms are the forms of `formatOf`
--- (FieldType.antt); and document 01's strict mode, which asks more of dates and times. Assumes nothing.
+-- (field_types, FieldType.antt); and document 01's strict mode, which asks more of dates and times. Assumes nothing.
 --
 --   isOfFormat format value    the value has this form
 --   isValidValue type value    "`value` has the on-the-wire form this type admits"
@@ -8,18 +8,18 @@
 use Prim.Native.Nat.{ℕ}
 use mathlib.Core.Bool.{Bool, true, false, _&&_}
 use mathlib.Core.List.{List}
-use Rattle.formats.specs.declared.field_type.FieldType.{FieldType}
-use Rattle.formats.specs.declared.field_type.Format.{Format}
-use Rattle.formats.specs.declared.field_type.Format.the-variants.{SignedInteger, UnsignedInteger, Day, Decimal, OneCharacter, YesOrNo, Tokens, Letters, YearMonth, Date, TimeOfDay, DateAndTime, Anything}
+use Rattle.field_types.specs.declared.field_type.FieldType.{FieldType}
+use Rattle.field_types.specs.declared.field_type.Format.{Format}
+use Rattle.field_types.specs.declared.field_type.Format.the-variants.{SignedInteger, UnsignedInteger, Day, Decimal, OneCharacter, YesOrNo, Tokens, Letters, YearMonth, Date, TimeOfDay, DateAndTime, Anything}
 use Rattle.ascii.specs.Notation.{_≡ᵇ_}
 use Rattle.formats.specs.Boolean.{isBoolean}
-use Rattle.formats.specs.Number.{isInteger, isDecimal, isDayOfMonth}
-use Rattle.formats.specs.Characters.{characters}
-use Rattle.formats.specs.MultiValue.{isMultiValueList}
+use Rattle.numbers.specs.Number.{isInteger, isDecimal, isDayOfMonth}
+use Rattle.unicode.specs.Characters.{characters}
+use Rattle.multi_values.specs.MultiValue.{isMultiValueList}
 use Rattle.ascii.specs.Letters.{isAlphaOfLen}
 use Rattle.dates.specs.Date.{isMonthYear, isDate, isTimeOfDay, isUtcTimestamp}
 use Rattle.dates.specs.StrictDate.{isStrictMonthYear, isStrictDate, isStrictTimeOfDay, isStrictUtcTimestamp}
-use Rattle.formats.specs.FieldType.{formatOf}
+use Rattle.field_types.specs.FieldType.{formatOf}
 
 unfoldable pub isOfFormat : Format → List ℕ → Bool
 isOfFormat SignedInteger value = isInteger true value

@@ -3,9 +3,9 @@ use mathlib.Core.Path.{_≡_, refl, sym, ap, _∙_}
 use Prim.Native.Nat.{ℕ}
 use mathlib.Core.Bool.{Bool, true, false, _&&_}
 use mathlib.Core.List.{List}
-use Rattle.formats.specs.declared.field_type.FieldType.{FieldType}
-use Rattle.formats.specs.declared.field_type.Format.{Format}
-use Rattle.formats.specs.FieldType.{formatOf}
+use Rattle.field_types.specs.declared.field_type.FieldType.{FieldType}
+use Rattle.field_types.specs.declared.field_type.Format.{Format}
+use Rattle.field_types.specs.FieldType.{formatOf}
 use Rattle.formats.specs.FieldValue.{isOfFormat, isInRanges, isStrictValue}
 
 module _ (type : FieldType) (value : List ℕ) (format : Format) (form : format ≡ formatOf type) where

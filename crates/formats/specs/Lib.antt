@@ -1,21 +1,7 @@
 -- Definitions and laws of the crate `formats`: the values of FIX fields. A definition's laws stand in the file of its name with `Laws`,
 -- its examples in the one with `Cases`.
-pub mod Count
-pub mod CountLaws
 pub mod Boolean
 pub mod BooleanLaws
-pub mod FieldType
-pub mod FieldTypeLaws
-pub mod Number
-pub mod NumberLaws
-pub mod NumberCases
-pub mod Characters
-pub mod CharactersLaws
-pub mod CharactersCases
-pub mod MultiValue
-pub mod MultiValueLaws
 pub mod FieldValue
 pub mod FieldValueLaws
 pub mod StarredCases
-pub mod MultiValueOrder
-pub mod MultiValueCases

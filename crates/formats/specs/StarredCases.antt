@@ -3,16 +3,16 @@
 use mathlib.Core.Path.{_≡_, refl}
 use Prim.Native.Nat.{ℕ}
 use mathlib.Core.Bool.{Bool, true, false}
-use Rattle.formats.specs.declared.count.Count.the-variants.{Number, Nothing}
-use Rattle.formats.specs.declared.field_type.FieldType.the-variants.{Int, Price, DayOfMonth, MultipleCharValue, MonthYear}
+use Rattle.counts.specs.declared.count.Count.the-variants.{Number, Nothing}
+use Rattle.field_types.specs.declared.field_type.FieldType.the-variants.{Int, Price, DayOfMonth, MultipleCharValue, MonthYear}
 use Rattle.ascii.specs.Notation.{isBetween}
 use Rattle.ascii.specs.Bytes.{ascii, nonEmpty, every, howMany}
 use Rattle.ascii.specs.Digits.{isDigits, isDigitsOfLen, decimalFrom}
-use Rattle.formats.specs.Count.{countOf}
-use Rattle.formats.specs.Number.{isSigned, withoutSign, isInteger, isDecimalBody, isDecimal, isDayOfMonth}
-use Rattle.formats.specs.Characters.{expectedAfter, continues, charactersFrom, characters}
+use Rattle.counts.specs.Count.{countOf}
+use Rattle.numbers.specs.Number.{isSigned, withoutSign, isInteger, isDecimalBody, isDecimal, isDayOfMonth}
+use Rattle.unicode.specs.Characters.{expectedAfter, continues, charactersFrom, characters}
 use Rattle.ascii.specs.Split.{withFirst, split, everyPart}
-use Rattle.formats.specs.MultiValue.{isToken, isMultiValueList}
+use Rattle.multi_values.specs.MultiValue.{isToken, isMultiValueList}
 use Rattle.dates.specs.Date.{standsFor, hasPicture, isMonthYear}
 use Rattle.dates.specs.StrictDate.{isInRange, isStrictMonthYear}
 use Rattle.formats.specs.FieldValue.{isOfFormat, isValidValue, isInRanges, isStrictValue}

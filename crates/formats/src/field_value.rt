@@ -1,12 +1,5 @@
 // The values that a field of each data type may have. Ported from schema.rs, `FieldType::is_valid_value`.
 use crate::boolean::is_boolean;
-use crate::characters::count_chars;
-use crate::field_type::FieldType;
-use crate::field_type::Format;
-use crate::multi_value::is_multi_value_list;
-use crate::number::is_day_of_month;
-use crate::number::is_decimal;
-use crate::number::is_integer;
 use ascii::digits::is_digits_of_len;
 use ascii::letters::is_alpha_of_len;
 use dates::date::is_month_year;
@@ -16,6 +9,13 @@ use dates::strict_date::is_strict_date;
 use dates::strict_date::is_strict_month_year;
 use dates::strict_date::is_strict_time_of_day;
 use dates::strict_date::is_strict_utc_timestamp;
+use field_types::field_type::FieldType;
+use field_types::field_type::Format;
+use multi_values::multi_value::is_multi_value_list;
+use numbers::number::is_day_of_month;
+use numbers::number::is_decimal;
+use numbers::number::is_integer;
+use unicode::characters::count_chars;
 ghost use mathlib.Core.Path.{_≡_};
 ghost use Rattle.formats.specs.FieldValue.{isOfFormat, isValidValue, isInRanges, isStrictValue};
 

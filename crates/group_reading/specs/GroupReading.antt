@@ -18,7 +18,7 @@ use mathlib.Core.Bool.{Bool, true, false, not, _&&_, _||_}
 use mathlib.Core.Option.{none, some}
 use mathlib.Core.List.{List, [], _∷_, _++_}
 use Rattle.ascii.specs.Notation.{_<ᵇ_, _≡ᵇ_}
-use Rattle.formats.specs.declared.count.Count.the-variants.{Number}
+use Rattle.counts.specs.declared.count.Count.the-variants.{Number}
 use Rattle.walk_memory.specs.declared.event.Kind.the-variants.{Enter, Close, Leave}
 use Rattle.walk_memory.specs.declared.event.Event.{Event}
 use Rattle.walk_memory.specs.Membership.{_∈ᵇ_}

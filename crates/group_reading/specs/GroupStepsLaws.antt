@@ -8,7 +8,7 @@ use native.Mathlib.Omega.{arith}
 use lib.Dec.{ltb, leb, eqb}
 use borrow.Author.Tests.{ltb-true, leb-true, eqb-true, eqb-false, lt-ltb, le-ltb, le-leb, lt-leb, eq-eqb, ne-eqb}
 use Rattle.ascii.specs.Notation.{if_then_else_}
-use Rattle.formats.specs.declared.count.Count.{Count}
+use Rattle.counts.specs.declared.count.Count.{Count}
 use Rattle.walk_memory.specs.WalkInput.{Layout, Fields, Input, countAt}
 use Rattle.group_reading.specs.GroupSteps.{endsGroup, Opening, outside, too-deep, member-leads, entries-follow, Step, stops, plain-field, nested-group, fieldStep, memberLeads, entryBegins, entryStops, openingAt, stepAt}
 

@@ -13,7 +13,7 @@ use Rattle.ascii.specs.Notation.{_<ᵇ_, _≡ᵇ_, if_then_else_}
 use Rattle.ascii.specs.Bytes.{ascii, nonEmpty, every}
 use Rattle.ascii.specs.Digits.{isDigits, decimalFrom}
 use Rattle.ascii.specs.Notation.{isBetween}
-use Rattle.formats.specs.Count.{countOf}
+use Rattle.counts.specs.Count.{countOf}
 use Rattle.walk_memory.specs.Membership.{_∈ᵇ_}
 use Rattle.walk_memory.specs.Events.{eventWords}
 use Rattle.walk_memory.specs.WalkInput.{Layout, Fields}

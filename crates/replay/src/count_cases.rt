@@ -2,8 +2,8 @@
 use crate::cases::Replayed;
 use crate::hex::decode;
 use ascii::split::find;
-use formats::count::Count;
-use formats::count::parse_count;
+use counts::count::Count;
+use counts::count::parse_count;
 
 pub fn replay(line: &[u8]) -> Replayed {
     let space = find(line, 0, b' ');

@@ -1,7 +1,7 @@
 // Numbers in the recorded lists: decimal, with single spaces between them.
 use ascii::split::find;
-use formats::count::Count;
-use formats::count::parse_count;
+use counts::count::Count;
+use counts::count::parse_count;
 
 // More than any buffer has room for: an answer where the text is of another form.
 const NO_FORM: usize = 0xffff_ffff;

@@ -5,9 +5,9 @@ use crate::cases::Replayed;
 use crate::hex::decode;
 use ascii::digits::is_ascii_digit;
 use ascii::split::find;
-use formats::field_type::FieldType;
-use formats::field_type::NumberedType;
-use formats::field_type::type_numbered;
+use field_types::field_type::FieldType;
+use field_types::field_type::NumberedType;
+use field_types::field_type::type_numbered;
 use formats::field_value::is_strict_value;
 use formats::field_value::is_valid_value;
 

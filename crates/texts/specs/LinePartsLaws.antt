@@ -8,13 +8,13 @@ use lib.Dec.{leb, ltb, eqb}
 use lib.ListN.{length, getD, take, drop, length-drop}
 use lib.Seq.{take-all}
 use borrow.Author.Tests.{le-ltb, ltb-false, eqb-true, eqb-false, le-leb, lt-leb}
-use Rattle.formats.specs.declared.count.Count.{Count}
-use Rattle.formats.specs.declared.count.Count.the-variants as counted
+use Rattle.counts.specs.declared.count.Count.{Count}
+use Rattle.counts.specs.declared.count.Count.the-variants as counted
 use Rattle.ascii.specs.Notation.{isBetween}
 use Rattle.ascii.specs.NotationLaws.{and-false, isBetween-below}
 use Rattle.ascii.specs.Bytes.{every}
 use Rattle.ascii.specs.Digits.{isDigits, decimal}
-use Rattle.formats.specs.Count.{countOf}
+use Rattle.counts.specs.Count.{countOf}
 use Rattle.texts.specs.declared.line_parts.Number32.{Number32}
 use Rattle.texts.specs.declared.line_parts.Number32.the-variants.{Number, NoNumber}
 use Rattle.texts.specs.declared.line_parts.Flag.the-variants.{Required, Optional, NoFlag}

@@ -1,8 +1,8 @@
 // The parts of a line: TAG, COUNT, DELIMITER and N; R; TYPE; T; V.
 use crate::lines::is_same;
 use crate::lines::position_of;
-use formats::count::Count;
-use formats::count::parse_count;
+use counts::count::Count;
+use counts::count::parse_count;
 ghost use mathlib.Core.Path.{_≡_};
 ghost use Prim.Native.Nat.{_≤_, _<_};
 ghost use lib.ListN.{length, getD};

@@ -11,7 +11,7 @@ use lib.ListN.{length, replicate}
 use Rattle.ascii.specs.Notation.{isBetween}
 use Rattle.ascii.specs.Bytes.{ascii, nonEmpty, every}
 use Rattle.ascii.specs.Digits.{isDigits, decimalFrom}
-use Rattle.formats.specs.Count.{countOf}
+use Rattle.counts.specs.Count.{countOf}
 use Rattle.sorting.specs.Sort.{isIn, inserted, sorted}
 use Rattle.sorting.specs.Search.{isStrictlyAbove, isStrictlyAscending, rankFrom, rankIn}
 use Rattle.texts.specs.declared.refusal.Refusal.the-variants.{UnknownForm, RuleBroken, BadField, SpaceShort}

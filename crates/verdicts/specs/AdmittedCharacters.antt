@@ -1,5 +1,5 @@
 -- A value compared with the admitted ones by its bytes, as `isAdmitted` does, or by its characters after `from_utf8_lossy`, as the Rust does: the answer is the
--- same. Characters stand here by their first bytes, `leads` (formats, Characters.antt): an ASCII character is its own first byte, that of any other is 80 or
+-- same. Characters stand here by their first bytes, `leads` (unicode, Characters.antt): an ASCII character is its own first byte, that of any other is 80 or
 -- above, and so is what is left of a maximal invalid part. An admitted value has the bytes 21 to 7E alone (`isVisible`), so it is the text of the same characters
 -- exactly where these bytes are the first bytes of the text's characters. Assumes nothing.
 --
@@ -15,10 +15,10 @@ use Rattle.ascii.specs.Notation.{isBetween}
 use Rattle.ascii.specs.NotationLaws.{and-left, and-right, and-false, isBetween-range}
 use Rattle.ascii.specs.Bytes.{every}
 use Rattle.ascii.specs.Split.{Parts, last, part, split, everyPart}
-use Rattle.formats.specs.declared.field_type.FieldType.{FieldType}
-use Rattle.formats.specs.Characters.{nothingExpected, expectedAfter, leadsFrom, leads}
-use Rattle.formats.specs.CharactersLaws.{expectedAfter-below, continues-none, leadsFrom-begins}
-use Rattle.formats.specs.MultiValueOrder.{leadsOfParts, split-leads}
+use Rattle.field_types.specs.declared.field_type.FieldType.{FieldType}
+use Rattle.unicode.specs.Characters.{nothingExpected, expectedAfter, leadsFrom, leads}
+use Rattle.unicode.specs.CharactersLaws.{expectedAfter-below, continues-none, leadsFrom-begins}
+use Rattle.multi_values.specs.MultiValueOrder.{leadsOfParts, split-leads}
 use Rattle.texts.specs.LineParts.{isVisible, valueOf}
 use Rattle.dictionary.specs.Definitions.{admitsValue}
 use Rattle.verdicts.specs.Verdict.{admitsEach, isAdmitted}

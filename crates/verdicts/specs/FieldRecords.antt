@@ -13,7 +13,7 @@ use mathlib.Core.Bool.{Bool}
 use mathlib.Core.List.{List, [], _∷_, _++_}
 use lib.ListN.{getD, drop}
 use Rattle.ascii.specs.Notation.{_<ᵇ_, if_then_else_}
-use Rattle.formats.specs.FieldType.{typeNumbered}
+use Rattle.field_types.specs.FieldType.{typeNumbered}
 use Rattle.dictionary.specs.declared.definitions.Definition.{Definition}
 use Rattle.dictionary.specs.declared.definitions.Definition.the-variants.{Defined, Undefined}
 use Rattle.dictionary.specs.Definitions.{definitionOf}

@@ -3,7 +3,7 @@
 -- in src/verdict.rt. The dictionary is given by its words, in which definition and admitted values are looked up (dictionary, Definitions.antt). Assumes nothing.
 --
 -- The Rust looks at the text that `from_utf8_lossy` makes of the value; here the raw bytes are judged. That is the same: of the format see docs/DIFFERENCES.md and
--- `cut-before-or-behind` (formats, MultiValueOrder.antt); of the admitted values `admitted-by-characters` (AdmittedCharacters.antt).
+-- `cut-before-or-behind` (multi_values, MultiValueOrder.antt); of the admitted values `admitted-by-characters` (AdmittedCharacters.antt).
 --
 --   verdictWord verdict                        document 01's number of the verdict
 --   hasFormat strict type value                the value has the form of its type, and in strict mode its ranges
@@ -18,10 +18,10 @@ use mathlib.Core.Bool.{Bool}
 use mathlib.Core.List.{List}
 use Rattle.ascii.specs.Notation.{if_then_else_}
 use Rattle.ascii.specs.Split.{split, everyPart}
-use Rattle.formats.specs.declared.field_type.FieldType.{FieldType}
-use Rattle.formats.specs.declared.field_type.NumberedType.{NumberedType}
-use Rattle.formats.specs.declared.field_type.NumberedType.the-variants as types
-use Rattle.formats.specs.FieldType.{typeNumbered, isMultiValue}
+use Rattle.field_types.specs.declared.field_type.FieldType.{FieldType}
+use Rattle.field_types.specs.declared.field_type.NumberedType.{NumberedType}
+use Rattle.field_types.specs.declared.field_type.NumberedType.the-variants as types
+use Rattle.field_types.specs.FieldType.{typeNumbered, isMultiValue}
 use Rattle.formats.specs.FieldValue.{isValidValue, isStrictValue}
 use Rattle.dictionary.specs.declared.definitions.Definition.{Definition}
 use Rattle.dictionary.specs.declared.definitions.Definition.the-variants as definitions

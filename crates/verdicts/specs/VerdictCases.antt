@@ -14,10 +14,10 @@ use Rattle.ascii.specs.Digits.{isDigits, isDigitsOfLen, decimalFrom}
 use Rattle.ascii.specs.Split.{withFirst, split, everyPart}
 use Rattle.dates.specs.Date.{standsFor, hasPicture, isMonthYear}
 use Rattle.dates.specs.StrictDate.{isInRange, isStrictMonthYear}
-use Rattle.formats.specs.Number.{isSigned, withoutSign, isInteger, isDecimalBody, isDecimal}
-use Rattle.formats.specs.Characters.{expectedAfter, continues, charactersFrom, characters}
-use Rattle.formats.specs.MultiValue.{isToken, isMultiValueList}
-use Rattle.formats.specs.FieldType.{typeNumbered}
+use Rattle.numbers.specs.Number.{isSigned, withoutSign, isInteger, isDecimalBody, isDecimal}
+use Rattle.unicode.specs.Characters.{expectedAfter, continues, charactersFrom, characters}
+use Rattle.multi_values.specs.MultiValue.{isToken, isMultiValueList}
+use Rattle.field_types.specs.FieldType.{typeNumbered}
 use Rattle.formats.specs.FieldValue.{isOfFormat, isInRanges}
 use Rattle.sorting.specs.Sort.{inserted, sorted}
 use Rattle.sorting.specs.Search.{isStrictlyAbove, isStrictlyAscending, rankFrom, rankIn}

@@ -8,9 +8,9 @@ use lib.ListN.{length, getD, take, drop}
 use Rattle.ascii.specs.BytesLaws.{part-to-end}
 use Rattle.ascii.specs.Split.{indexOf, split, everyPart}
 use Rattle.ascii.specs.SplitLaws.{found-within, everyPart-last, everyPart-goes-on, everyPart-fails}
-use Rattle.formats.specs.declared.field_type.FieldType.{FieldType}
-use Rattle.formats.specs.declared.field_type.Format.{Format}
-use Rattle.formats.specs.FieldType.{formatOf}
+use Rattle.field_types.specs.declared.field_type.FieldType.{FieldType}
+use Rattle.field_types.specs.declared.field_type.Format.{Format}
+use Rattle.field_types.specs.FieldType.{formatOf}
 use Rattle.formats.specs.FieldValue.{isOfFormat, isValidValue, isInRanges}
 use Rattle.dictionary.specs.Definitions.{admitsValue}
 use Rattle.verdicts.specs.Verdict.{hasFormat, admitsEach}

@@ -9,7 +9,7 @@ use mathlib.Core.Bool.{Bool, not, _&&_}
 use mathlib.Core.Option.{Option, none, some}
 use mathlib.Core.List.{List}
 use Rattle.ascii.specs.Notation.{_<ᵇ_, _≡ᵇ_, if_then_else_}
-use Rattle.formats.specs.declared.count.Count.{Count}
+use Rattle.counts.specs.declared.count.Count.{Count}
 use Rattle.sorting.specs.declared.search.Found.{Found}
 use Rattle.sorting.specs.declared.search.Found.the-variants.{At, Nothing}
 use Rattle.sorting.specs.Search.{rankIn}

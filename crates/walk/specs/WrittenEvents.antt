@@ -9,8 +9,8 @@ use Prim.Native.Nat.{ℕ}
 use mathlib.Core.Bool.{Bool, false, not}
 use mathlib.Core.List.{List, [], _∷_}
 use Rattle.ascii.specs.Notation.{_≡ᵇ_, if_then_else_}
-use Rattle.formats.specs.declared.count.Count.{Count}
-use Rattle.formats.specs.declared.count.Count.the-variants.{Number, Nothing}
+use Rattle.counts.specs.declared.count.Count.{Count}
+use Rattle.counts.specs.declared.count.Count.the-variants.{Number, Nothing}
 use Rattle.walk_memory.specs.declared.event.Kind.{Kind}
 use Rattle.walk_memory.specs.declared.event.Kind.the-variants.{Enter, BadCount, Repeat, Miscount, Leave}
 use Rattle.walk_memory.specs.declared.event.Event.{Event}

@@ -1,6 +1,6 @@
 // The events that a walk writes at one place: at the start of a group, at a member of an entry, at the ends. Ported from walk.rs, the calls of the
 // Visitor in `walk_group` and `scan_entry`.
-use formats::count::Count;
+use counts::count::Count;
 use walk_memory::event::Event;
 use walk_memory::event::Kind;
 use walk_memory::event::put;

@@ -1,6 +1,6 @@
 // The decisions of a group walk, each with an answer of its own: what a field is to an entry, and to a group. Ported from walk.rs, `walk_group` and
 // `scan_entry`.
-use formats::count::Count;
+use counts::count::Count;
 use sorting::search::Found;
 use sorting::search::binary_search;
 use walk_memory::field_table::tag_at;

@@ -12,8 +12,8 @@ use Prim.Native.Nat.{ℕ}
 use mathlib.Core.Bool.{Bool, true}
 use mathlib.Core.Option.{Option, some}
 use mathlib.Core.List.{List}
-use Rattle.formats.specs.declared.count.Count.{Count}
-use Rattle.formats.specs.Count.{countOf}
+use Rattle.counts.specs.declared.count.Count.{Count}
+use Rattle.counts.specs.Count.{countOf}
 use Rattle.walk_memory.specs.declared.event.Kind.{Kind}
 use Rattle.walk_memory.specs.declared.event.Event.{Event}
 

@@ -1,6 +1,6 @@
 // The field table: three words a field, tag, first byte, byte after the last, in the message (document 01, 'The events of a walk'). The Rust's
 // slice of FieldRef.
-use formats::count::Count;
+use counts::count::Count;
 ghost use mathlib.Core.Path.{_≡_};
 ghost use Prim.Native.Nat.{_<_};
 ghost use lib.ListN.{length};
@@ -77,5 +77,5 @@ pub fn count_at(fields: &[u32], message: &[u8], index: usize) -> Count
 {
     let first = first_at(fields, index);
     let past = past_at(fields, index);
-    formats::count::parse_count(&message[first..past])
+    counts::count::parse_count(&message[first..past])
 }

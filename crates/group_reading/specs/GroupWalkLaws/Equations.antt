@@ -9,7 +9,7 @@ use mathlib.Core.List.{List, [], _∷_}
 use native.Mathlib.Omega.{arith}
 use native.Mathlib.Numerals.{add-one}
 use lib.ListN.{length}
-use Rattle.formats.specs.declared.count.Count.{Count}
+use Rattle.counts.specs.declared.count.Count.{Count}
 use Rattle.walk_memory.specs.declared.event.Kind.the-variants.{Close, Deep}
 use Rattle.walk_memory.specs.Membership.{_∈ᵇ_}
 use Rattle.walk_memory.specs.EntryTags.{insertIf}

@@ -7,8 +7,8 @@ use mathlib.Core.List.{List, [], _∷_}
 use native.Mathlib.Omega.{arith}
 use lib.Dec.{eqb}
 use lib.ListN.{length, length-append}
-use Rattle.formats.specs.declared.count.Count.{Count}
-use Rattle.formats.specs.declared.count.Count.the-variants.{Number, Nothing}
+use Rattle.counts.specs.declared.count.Count.{Count}
+use Rattle.counts.specs.declared.count.Count.the-variants.{Number, Nothing}
 use Rattle.walk_memory.specs.declared.event.Kind.the-variants.{Close}
 use Rattle.walk_memory.specs.declared.event.Event.{Event}
 use Rattle.walk_memory.specs.Membership.{_∈ᵇ_}

@@ -4,7 +4,7 @@ use Prim.Native.Nat.{ℕ, zero, suc, _+_, _*_, _-_, _≤_, _<_}
 use mathlib.Core.Bool.{Bool, true, false}
 use mathlib.Core.List.{List, []}
 use native.Mathlib.Omega.{arith}
-use Rattle.formats.specs.declared.count.Count.{Count}
+use Rattle.counts.specs.declared.count.Count.{Count}
 use Rattle.walk_memory.specs.Membership.{_∈ᵇ_}
 use Rattle.walk_memory.specs.EntryTags.{insertIf}
 use Rattle.walk_memory.specs.WalkInput.{Layout, Fields, Input, LayoutRules, countAt}

@@ -7,8 +7,8 @@ use mathlib.Core.List.{List, [], _∷_, _++_, append-assoc}
 use native.Mathlib.Omega.{arith}
 use lib.ListN.{length}
 use borrow.Author.Tests.{eq-eqb}
-use Rattle.formats.specs.declared.count.Count.{Count}
-use Rattle.formats.specs.declared.count.Count.the-variants.{Number}
+use Rattle.counts.specs.declared.count.Count.{Count}
+use Rattle.counts.specs.declared.count.Count.the-variants.{Number}
 use Rattle.walk_memory.specs.declared.event.Kind.the-variants.{Close}
 use Rattle.walk_memory.specs.declared.event.Event.{Event}
 use Rattle.walk_memory.specs.Membership.{_∈ᵇ_}

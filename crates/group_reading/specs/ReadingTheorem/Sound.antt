@@ -12,8 +12,8 @@ use native.Mathlib.Omega.{arith}
 use lib.Dec.{eqb}
 use lib.ListN.{length}
 use borrow.Author.Tests.{eqb-true}
-use Rattle.formats.specs.declared.count.Count.{Count}
-use Rattle.formats.specs.declared.count.Count.the-variants.{Number, Nothing}
+use Rattle.counts.specs.declared.count.Count.{Count}
+use Rattle.counts.specs.declared.count.Count.the-variants.{Number, Nothing}
 use Rattle.walk_memory.specs.declared.event.Kind.the-variants.{Close, Leave}
 use Rattle.walk_memory.specs.Membership.{_∈ᵇ_}
 use Rattle.walk_memory.specs.Events.{NoFault}

@@ -11,8 +11,8 @@ use native.Mathlib.Omega.{arith}
 use native.Mathlib.Nat.{ℕ-set}
 use native.Mathlib.Bridge.{le-prop}
 use native.Mathlib.Decide.{ℕ-discrete}
-use Rattle.formats.specs.declared.count.Count.{Count}
-use Rattle.formats.specs.declared.count.Count.the-variants.{Number, Nothing}
+use Rattle.counts.specs.declared.count.Count.{Count}
+use Rattle.counts.specs.declared.count.Count.the-variants.{Number, Nothing}
 use Rattle.walk_memory.specs.Membership.{_∈ᵇ_}
 use Rattle.walk_memory.specs.WalkInput.{Layout, Fields, Input, LayoutRules, countAt}
 use Rattle.group_reading.specs.GroupReading.{mayFollow, Reading, Entries, Items, Item, reading, no-entry, entry, no-item, item, plain, nested}

@@ -14,8 +14,8 @@ use native.Mathlib.Numerals.{add-one}
 use lib.Dec.{eqb}
 use borrow.Author.Tests.{ne-eqb}
 use Rattle.ascii.specs.Notation.{_≡ᵇ_}
-use Rattle.formats.specs.declared.count.Count.{Count}
-use Rattle.formats.specs.declared.count.Count.the-variants.{Number, Nothing}
+use Rattle.counts.specs.declared.count.Count.{Count}
+use Rattle.counts.specs.declared.count.Count.the-variants.{Number, Nothing}
 use Rattle.walk_memory.specs.declared.event.Kind.{Kind}
 use Rattle.walk_memory.specs.declared.event.Kind.the-variants.{Enter, Close, Miscount, Leave}
 use Rattle.walk_memory.specs.declared.event.Event.{Event}

@@ -2,7 +2,7 @@
 -- `walk_memory::field_table::count_at` meets its contract: the part lent is the field's value (specs/FieldTableLaws.antt).
 use mathlib.Core.Path.{ap, _∙_}
 use native.Mathlib.Omega.{arith}
-use Rattle.formats.specs.Count.{countOf}
+use Rattle.counts.specs.Count.{countOf}
 use Rattle.walk_memory.specs.FieldTableLaws.{valueAt-part}
 use borrow.Author.Needs.{needs}
 use Rattle.walk_memory.proofs.field_table.count_at.Statement.{statement}
@@ -16,7 +16,7 @@ first-at-requires c κs = search needs
 past-at-requires : tie.Need-past-at-requires
 past-at-requires c κs = search needs
 
--- formats::count::parse_count(&message[first..past])
+-- counts::count::parse_count(&message[first..past])
 sub-parse-count : tie.Need-sub-parse-count
 sub-parse-count c = omega (arith, c .before .before .before .before .pre .0 .ordered (c .before .before .before .before .args .index) (c .before .before .before .before .pre .1), c .before .first-at .ensures, c .past-at .ensures)
 
