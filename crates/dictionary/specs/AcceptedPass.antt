@@ -39,18 +39,18 @@ use Rattle.texts.specs.Lines.{Pieces, last, piece, longer, cut, linesOf, lineFe
 use Rattle.texts.specs.LineForms.{lineOf}
 use Rattle.texts.specs.DictionaryOrder.{start, stepOf, behindTrailer, behindMessage}
 use Rattle.texts.specs.DictionaryText.{counted, counts, definedBy, orderFrom, orderOf, onFault, keyOf, isIn, onKey, againFrom, againOf, firstOf, dictionaryTextOf}
-use Rattle.dictionary.specs.Records.{recordOf}
-use Rattle.dictionary.specs.RecordsLaws.{Held, HeldEnd, lineFrom-recordOf, recordOf-length}
-use Rattle.dictionary.specs.LineTexts.{digitCountFrom, digitCount, endLength, lengthOf}
-use Rattle.dictionary.specs.WordTextLaws.{lettersLength-range}
-use Rattle.dictionary.specs.LineTextsLaws.{some-digit-by}
+use Rattle.records.specs.Records.{recordOf, linesFrom}
+use Rattle.records.specs.RecordsLaws.{Held, HeldEnd, lineFrom-recordOf, recordOf-length}
+use Rattle.records.specs.LineTexts.{digitCountFrom, digitCount, endLength, lengthOf}
+use Rattle.records.specs.WordTextLaws.{lettersLength-range}
+use Rattle.records.specs.LineTextsLaws.{some-digit-by}
 use Rattle.texts.specs.declared.line_parts.Number32.{Number32}
 use Rattle.texts.specs.declared.line_parts.Number32.the-variants.{Number, NoNumber}
 use Rattle.texts.specs.declared.line_parts.MessageType.{MessageType}
 use Rattle.texts.specs.declared.line_parts.MessageType.the-variants.{Letters, NoLetters}
-use Rattle.dictionary.specs.LineReadLaws.{Usable, lineOf-fits}
+use Rattle.records.specs.LineReadLaws.{Usable, lineOf-fits}
 use Rattle.dictionary.specs.DictionaryWords.{isOf, nameOf, namesOf, placeOf, recordsOf, indexOf, dictionaryWords}
-use Rattle.dictionary.specs.DictionaryCheck.{linesFrom, isTaken, accepts, countOf, standsAt, standsEach, isIndex, tagsAt, componentsAt, sizeOf, isDictionary}
+use Rattle.dictionary.specs.DictionaryCheck.{isTaken, accepts, countOf, standsAt, standsEach, isIndex, tagsAt, componentsAt, sizeOf, isDictionary}
 use Rattle.dictionary.specs.IndexLaws.{once-same, often-at, record-word, record-drop, record-behind, getD-any, countOf-names, Stands}
 use Rattle.dictionary.specs.PassAccepted.{linesIn, AllHeld, counted-lines, keyIn, keysOf, tag-keys, component-keys, message-keys, tags-step, components-step, messages-step, held-small, tagIn, componentIn, messageIn, SmallNames, once-other, howOften-append}
 

@@ -18,7 +18,7 @@ use Rattle.sorting.specs.SearchLaws.{isFound-rank}
 use Rattle.dictionary.specs.declared.definitions.Definition.{Definition}
 use Rattle.dictionary.specs.declared.definitions.Definition.the-variants.{Defined, Undefined}
 use Rattle.dictionary.specs.DictionaryCheck.{countOf, standsEach, isIndex, tagsAt, sizeOf, isDictionary}
-use Rattle.dictionary.specs.RecordsLaws.{Words32}
+use Rattle.records.specs.RecordsLaws.{Words32}
 use Rattle.dictionary.specs.Definitions.{recordIn, definitionOf}
 use Rattle.dictionary.specs.DefinitionsLaws.{Dictionary, isDictionary-parts, index-ascends}
 use Rattle.dictionary.specs.PassAccepted.{pass-accepted}

@@ -26,7 +26,7 @@ use Rattle.texts.specs.declared.line_parts.ValueText.the-variants.{Bytes, NoByt
 use Rattle.texts.specs.LineParts.{messageTypeOf, valueOf}
 use Rattle.dictionary.specs.declared.definitions.Definition.{Definition}
 use Rattle.dictionary.specs.declared.definitions.Definition.the-variants.{Defined, Undefined}
-use Rattle.dictionary.specs.Records.{admittedFrom, lineFrom}
+use Rattle.records.specs.Records.{admittedFrom, lineFrom}
 use Rattle.dictionary.specs.DictionaryCheck.{tagsAt, componentsAt, messagesAt}
 
 -- the number of the record stands as far behind the index's names as the name stands among them

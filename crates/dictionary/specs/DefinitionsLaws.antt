@@ -15,9 +15,9 @@ use Rattle.sorting.specs.declared.search.Found.the-variants.{At, Nothing}
 use Rattle.sorting.specs.Search.{StrictlyAscending, isStrictlyAscending, rankIn, Holds}
 use Rattle.sorting.specs.SearchLaws.{isStrictlyAscending-true, holds-at}
 use Rattle.texts.specs.DictionaryOrder.{start}
-use Rattle.dictionary.specs.DictionaryCheck.{linesFrom, accepts, countOf, standsAt, standsEach, isIndex, tagsAt, componentsAt, messagesAt, sizeOf, isDictionary}
+use Rattle.dictionary.specs.DictionaryCheck.{accepts, countOf, standsAt, standsEach, isIndex, tagsAt, componentsAt, messagesAt, sizeOf, isDictionary}
 use Rattle.dictionary.specs.Definitions.{recordIn, isSameValue, isAmong, isEnumerated, admitsValue}
-use Rattle.dictionary.specs.Records.{admittedFrom}
+use Rattle.records.specs.Records.{admittedFrom, linesFrom}
 use Rattle.texts.specs.declared.line_parts.Admitted.{Admitted}
 
 -- the number of what was found is below the number of lines

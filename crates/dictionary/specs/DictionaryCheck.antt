@@ -2,10 +2,8 @@
 -- The words say how many lines they have; their records are read as lines, the steps of the dictionary text (texts, `stepOf`) run over these, the lengths of
 -- their texts are added up ("text over 65,536 bytes"), and each index names what the records define, each name once. Assumes nothing.
 --
---   linesFrom count words        the lines of so many records
 --   accepts state number total lines   lines from this number on, read in this state behind so many bytes, are those of an accepted text, but for row 5
 --   takes state number lines     lines from this number on, read in this state, are taken, each
---   textLength lines             how many bytes the text of these lines has
 --   isIndex kind at count words  the index at this place has the names of all records of this kind, each once, and where they stand
 --   isDictionary words           the words begin with the arrangement of an accepted dictionary
 use mathlib.Core.Path.{_≡_}
@@ -20,15 +18,11 @@ use Rattle.texts.specs.declared.dictionary_order.State.{State}
 use Rattle.texts.specs.declared.dictionary_order.Fault.{Fault}
 use Rattle.texts.specs.declared.dictionary_order.Fault.the-variants.{NoFault, Faulty}
 use Rattle.texts.specs.DictionaryOrder.{start, stepOf, behindTrailer, behindMessage}
-use Rattle.dictionary.specs.Records.{lineFrom, isKnown}
-use Rattle.dictionary.specs.LineTexts.{lengthOf}
+use Rattle.records.specs.Records.{linesFrom}
+use Rattle.records.specs.LineTexts.{lengthOf}
 use Rattle.dictionary.specs.DictionaryWords as kinds
 
 -- ---- the lines
-
-unfoldable pub linesFrom : ℕ → List ℕ → List Line
-linesFrom zero words = []
-linesFrom (suc count) words = lineFrom (take 10 words) ∷ linesFrom count (drop 10 words)
 
 abbrev pub isTaken : Fault → Bool
 isTaken NoFault = true
@@ -41,21 +35,12 @@ accepts state number total (line ∷ rest) =
     isTaken (step .fault)
     && (total + (lengthOf line + 1) ≤ᵇ 65536 && accepts (step .next) (number + 1) (total + (lengthOf line + 1)) rest)
 
--- ---- its two halves: lines that are taken, and the bytes of their text
+-- ---- lines that are taken, whatever their lengths
 
 -- every line is taken, and the text may end behind the last
 unfoldable pub takes : State → ℕ → List Line → Bool
 takes state number [] = isBetween behindTrailer behindMessage (state .stage)
 takes state number (line ∷ rest) = let step = stepOf state number line in isTaken (step .fault) && takes (step .next) (number + 1) rest
-
--- each line ends with a line feed
-unfoldable pub textLength : List Line → ℕ
-textLength [] = 0
-textLength (line ∷ rest) = lengthOf line + 1 + textLength rest
-
--- so many records are of known forms
-abbrev pub AreKnown : ℕ → List ℕ → Type 0
-AreKnown lines words = (index : ℕ) → index < lines → isKnown (lineFrom (take 10 (drop (10 * index) words))) ≡ true
 
 -- ---- an index
 

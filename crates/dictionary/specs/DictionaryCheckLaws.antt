@@ -17,16 +17,16 @@ use Rattle.texts.specs.declared.line.Line.the-variants.{Def, Value, BeginHeader
 use Rattle.texts.specs.declared.dictionary_order.State.{State}
 use Rattle.texts.specs.DictionaryOrder.{start, stepOf, behindTrailer, behindMessage}
 use Rattle.texts.specs.DictionaryOrderLaws.{step-depth}
-use Rattle.dictionary.specs.Records.{lineFrom, isKnown}
-use Rattle.dictionary.specs.LineTexts.{lengthOf}
+use Rattle.records.specs.Records.{lineFrom, isKnown, linesFrom, AreKnown}
+use Rattle.records.specs.LineTexts.{lengthOf, textLength}
 use Rattle.dictionary.specs.declared.line_order.Standing.{Standing}
 use Rattle.dictionary.specs.LineOrder.{stateOf, standingOf}
 use Rattle.dictionary.specs.LineOrderLaws.{state-again}
 use Rattle.dictionary.specs.LineRuns.{PassedOver}
 use Rattle.dictionary.specs.LineRunsLaws.{countOf-step, countOf-behind}
-use Rattle.dictionary.specs.LineLengthLaws.{lineFrom-few}
+use Rattle.records.specs.LineLengthLaws.{lineFrom-few}
 use Rattle.dictionary.specs.DictionaryWords as kinds
-use Rattle.dictionary.specs.DictionaryCheck.{isTaken, linesFrom, accepts, takes, textLength, AreKnown, countOf, countOne, Counted, standsAt, standsEach, isIndex, tagsAt, componentsAt, messagesAt, sizeOf, isDictionary}
+use Rattle.dictionary.specs.DictionaryCheck.{isTaken, accepts, takes, countOf, countOne, Counted, standsAt, standsEach, isIndex, tagsAt, componentsAt, messagesAt, sizeOf, isDictionary}
 
 -- ---- linesFrom
 

@@ -21,7 +21,7 @@ use lib.ListN.{length, getD}
 use Rattle.ascii.specs.Notation.{_≡ᵇ_, if_then_else_}
 use Rattle.sorting.specs.Sort.{sorted}
 use Rattle.texts.specs.declared.line.Line.{Line}
-use Rattle.dictionary.specs.Records.{recordOf}
+use Rattle.records.specs.Records.{recordOf}
 
 -- ---- kinds that an index has
 

@@ -19,8 +19,8 @@ use Rattle.sorting.specs.SortLaws.{howOften-below, sorted-unique}
 use Rattle.sorting.specs.Search.{StrictlyAbove, StrictlyAscending, isStrictlyAscending}
 use Rattle.sorting.specs.SearchLaws.{isStrictlyAscending-true}
 use Rattle.texts.specs.declared.line.Line.{Line}
-use Rattle.dictionary.specs.Records.{recordOf}
-use Rattle.dictionary.specs.RecordsLaws.{recordOf-length}
+use Rattle.records.specs.Records.{recordOf}
+use Rattle.records.specs.RecordsLaws.{recordOf-length}
 use Rattle.dictionary.specs.DictionaryWords.{isOf, nameOf, namesOf, placeOf, recordsOf, indexOf}
 use Rattle.dictionary.specs.DictionaryCheck.{countOf, standsAt, standsEach, isIndex}
 use Rattle.dictionary.specs.DefinitionsLaws.{stands-nth}

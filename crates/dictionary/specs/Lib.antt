@@ -1,23 +1,11 @@
 -- Definitions and laws of the crate `dictionary`: the words of a dictionary. A definition's laws stand in the file of its name with `Laws`, its
 -- examples in the one with `Cases`.
-pub mod Records
-pub mod RecordsLaws
-pub mod LettersLaws
-pub mod RecordsCases
-pub mod LineTexts
-pub mod NumeralLaws
-pub mod TypeTextLaws
-pub mod WordTextLaws
-pub mod LineTextsLaws
-pub mod LinePartReadLaws
-pub mod LineReadLaws
 pub mod DictionaryWords
 pub mod DictionaryCheck
 pub mod LineOrder
 pub mod LineOrderLaws
 pub mod LineRuns
 pub mod LineRunsLaws
-pub mod LineLengthLaws
 pub mod DictionaryCheckLaws
 pub mod Definitions
 pub mod DictionaryCases

@@ -14,9 +14,9 @@ use lib.ListN.{getD, take, drop}
 use Rattle.ascii.specs.Notation.{_≡ᵇ_, if_then_else_}
 use Rattle.texts.specs.DictionaryOrder as order
 use Rattle.texts.specs.LineParts.{isVisible}
-use Rattle.dictionary.specs.Records.{holdsPart, defFrom, valueFrom, fieldFrom}
-use Rattle.dictionary.specs.LineTexts.{digitCount, lengthOf}
-use Rattle.dictionary.specs.DictionaryCheck.{linesFrom, takes, textLength, Counted}
+use Rattle.records.specs.Records.{holdsPart, defFrom, valueFrom, fieldFrom, linesFrom}
+use Rattle.records.specs.LineTexts.{digitCount, lengthOf, textLength}
+use Rattle.dictionary.specs.DictionaryCheck.{takes, Counted}
 use Rattle.dictionary.specs.LineOrder.{stateOf}
 use Rattle.dictionary.specs.declared.line_order.Standing.{Standing}
 

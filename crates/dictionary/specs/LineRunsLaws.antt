@@ -6,7 +6,7 @@ use mathlib.Core.Bool.{Bool, true, false, cond, _&&_}
 use mathlib.Core.List.{List}
 use native.Mathlib.Nat.{suc-mul, mul-le-mul-left}
 use native.Mathlib.Omega.{arith}
-use lib.Bits.{bitOr, bitAnd, or-add-and, and-le-l, and-le-r}
+use lib.Bits.{bitOr, or-add-and, and-le-l, and-le-r}
 use lib.Dec.{eqb, ltb, leb}
 use lib.ListN.{length, getD, take, drop, length-take, length-drop}
 use lib.Seq.{drop-drop, getD-take, getD-drop}
@@ -18,43 +18,23 @@ use Rattle.texts.specs.declared.line.Line.the-variants.{Def, Value, Field, Unkn
 use Rattle.texts.specs.declared.dictionary_order.State.{State}
 use Rattle.texts.specs.DictionaryOrder as order
 use Rattle.texts.specs.DictionaryOrder.{taken, closedBlock, stepOf}
-use Rattle.dictionary.specs.Records.{byte0, holdsPart, holdsValue, isUnused, pairAt, admittedFrom, defFrom, valueFrom, fieldFrom, outerFrom, bodyFrom, lineFrom}
-use Rattle.dictionary.specs.RecordsLaws.{isUnused-short}
-use Rattle.dictionary.specs.WordTextLaws.{part-one, short-value}
-use Rattle.dictionary.specs.LineTexts.{digitCountFrom, digitCount, typeLengths, lengthOf}
+use Rattle.records.specs.Records.{holdsPart, holdsValue, isUnused, pairAt, admittedFrom, defFrom, valueFrom, fieldFrom, outerFrom, bodyFrom, lineFrom, linesFrom}
+use Rattle.records.specs.RecordsLaws.{isUnused-short}
+use Rattle.records.specs.WordTextLaws.{part-one, short-value}
+use Rattle.records.specs.LineTexts.{digitCount, typeLengths, lengthOf, textLength}
+use Rattle.records.specs.NumeralLaws.{scaled, digits-from}
+use Rattle.records.specs.LineLengthLaws.{textLength-behind}
 use Rattle.dictionary.specs.DictionaryWords as kinds
-use Rattle.dictionary.specs.DictionaryCheck.{linesFrom, takes, textLength, countOf, countOne, Counted}
+use Rattle.dictionary.specs.DictionaryCheck.{takes, countOf, countOne}
 use Rattle.dictionary.specs.declared.line_order.Standing.{Standing}
 use Rattle.dictionary.specs.LineOrder.{stateOf}
 use Rattle.dictionary.specs.LineRuns.{HoldsShort, FewDigits, runLength, IsRun, isAmongDefinitions, PassedOver}
 
 -- ---- FewDigits
 
--- the bound multiplied by ten so many times
-abbrev pub scaled : ℕ → ℕ → ℕ
-scaled zero bound = bound
-scaled (suc steps) bound = scaled steps (10 * bound)
-
-one-digit-more : (test : Bool) {rest digits : ℕ} → rest ≤ digits → cond test 1 (suc rest) ≤ suc digits
-one-digit-more true few = omega arith
-one-digit-more false few = omega arith
-
-digits-from : (digits steps bound n : ℕ) → n < scaled steps bound → digitCountFrom digits bound n ≤ suc steps
-digits-from zero steps bound n below = omega arith
-digits-from (suc digits) zero bound n below = rw (lt-ltb n bound below) (omega arith)
-digits-from (suc digits) (suc steps) bound n below = one-digit-more (ltb n bound) (digits-from digits steps (10 * bound) n below)
-
-all-digits : (digits bound n : ℕ) → digitCountFrom digits bound n ≤ digits
-all-digits zero bound n = omega arith
-all-digits (suc digits) bound n = one-digit-more (ltb n bound) (all-digits digits (10 * bound) n)
-
 pub digits-below : (steps names : ℕ) → names / 4294967296 < scaled steps 10 → FewDigits (suc steps) names
 unfolding digitCount
 digits-below steps names below tag upto = digits-from 10 steps 10 tag (omega arith)
-
-pub digitCount-few : (n : ℕ) → digitCount n ≤ 10
-unfolding digitCount
-digitCount-few n = all-digits 10 10 n
 
 -- ---- what is joined
 
@@ -213,7 +193,7 @@ unfolding runLength
 no-name true words some = definition-name words (eqb (getD words 0 0) 2) (eqb (getD words 0 0) 1) (lengthOf (valueFrom words)) (lengthOf (defFrom words)) refl refl some
 no-name false words some = field-name words (eqb (getD words 0 0) 7) (lengthOf (fieldFrom words)) refl some
 
--- ---- countOf, textLength: a record more
+-- ---- countOf: a record more
 
 one-or-none : (same : Bool) (rest : ℕ) → cond same (suc rest) rest ≡ cond same 1 0 + rest
 one-or-none true rest = omega arith
@@ -235,19 +215,6 @@ countOf-behind kind (suc before) after words =
 countOf-more : (kind lines : ℕ) (words : List ℕ) → countOf kind (lines + 1) words ≡ countOf kind lines words + countOne (getD (drop (10 * lines) words) 0 0) kind
 unfolding countOf
 countOf-more kind lines words = omega (arith, countOf-behind kind lines 1 words, countOf-step kind 0 (drop (10 * lines) words))
-
-textLength-more : (lines : ℕ) (words : List ℕ)
-    → textLength (linesFrom (suc lines) words) ≡ textLength (linesFrom lines words) + (lengthOf (lineFrom (take 10 (drop (10 * lines) words))) + 1)
-unfolding linesFrom textLength
-textLength-more zero words = omega arith
-textLength-more (suc lines) words =
-    let place : 10 + 10 * lines ≡ 10 * suc lines = omega arith in
-    let rest = rw (drop-drop (10 * lines) 10 words, place) at (textLength-more lines (drop 10 words)) in
-    omega (arith, rest)
-
-pub textLength-behind : (lines : ℕ) (words : List ℕ)
-    → textLength (linesFrom (lines + 1) words) ≡ textLength (linesFrom lines words) + (lengthOf (lineFrom (take 10 (drop (10 * lines) words))) + 1)
-textLength-behind lines words = let next : lines + 1 ≡ suc lines = omega arith in rw next (textLength-more lines words)
 
 -- ---- IsRun: a record more
 

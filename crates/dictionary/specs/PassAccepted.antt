@@ -42,17 +42,17 @@ use Rattle.texts.specs.LineParts.{isVisible}
 use Rattle.texts.specs.LineForms.{lineOf}
 use Rattle.texts.specs.DictionaryOrder.{start, stepOf}
 use Rattle.texts.specs.DictionaryText.{counted, counts, definedBy, orderFrom, keyOf, isIn, onKey, againFrom, againOf, orderOf, dictionaryTextOf}
-use Rattle.dictionary.specs.Records.{recordOf, lineFrom, lettersText}
-use Rattle.dictionary.specs.RecordsLaws.{Held, HeldEnd, Words32, recordOf-lineFrom, lineFrom-held}
-use Rattle.dictionary.specs.LineTexts.{numeral, typeText, valueText, flagText, appText, endText, textOf, lengthOf}
-use Rattle.dictionary.specs.NumeralLaws.{every-append, every-weaker, isAbove, visible-above, above-above, positionOf-behind, numeral-above}
-use Rattle.dictionary.specs.TypeTextLaws.{typeText-above}
-use Rattle.dictionary.specs.WordTextLaws.{lettersText-above, valueText-visible}
-use Rattle.dictionary.specs.LineTextsLaws.{lineOf-textOf, textOf-length}
+use Rattle.records.specs.Records.{recordOf, lineFrom, lettersText, linesFrom}
+use Rattle.records.specs.RecordsLaws.{Held, HeldEnd, Words32, recordOf-lineFrom, lineFrom-held}
+use Rattle.records.specs.LineTexts.{numeral, typeText, valueText, flagText, appText, endText, textOf, lengthOf}
+use Rattle.records.specs.NumeralLaws.{every-append, every-weaker, isAbove, visible-above, above-above, positionOf-behind, numeral-above}
+use Rattle.records.specs.TypeTextLaws.{typeText-above}
+use Rattle.records.specs.WordTextLaws.{lettersText-above, valueText-visible}
+use Rattle.records.specs.LineTextsLaws.{lineOf-textOf, textOf-length}
 use Rattle.dictionary.specs.DictionaryWords.{isOf, nameOf, namesOf, recordsOf, indexOf, dictionaryWords}
 use Rattle.dictionary.specs.IndexLaws.{once-same, index-count, index-once, index-words}
 use Rattle.dictionary.specs.DefinitionsLaws.{Dictionary, isDictionary-parts}
-use Rattle.dictionary.specs.DictionaryCheck.{linesFrom, isTaken, accepts, tagsAt, componentsAt, messagesAt, sizeOf, isDictionary}
+use Rattle.dictionary.specs.DictionaryCheck.{isTaken, accepts, tagsAt, componentsAt, messagesAt, sizeOf, isDictionary}
 
 unfoldable pub textsOf : List Line → List ℕ
 textsOf [] = []

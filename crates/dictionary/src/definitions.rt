@@ -13,7 +13,7 @@ ghost use lib.ListN.{length, getD};
 ghost use Rattle.dictionary.specs.DictionaryCheck.{isIndex, messagesAt, isDictionary};
 ghost use Rattle.dictionary.specs.Definitions.{recordIn, definitionOf, componentOf, messageOf, isSameValue, isAmong, isEnumerated, admitsValue};
 ghost use Rattle.dictionary.specs.DefinitionsLaws.{Below};
-ghost use Rattle.dictionary.specs.Records.{admittedFrom};
+ghost use Rattle.records.specs.Records.{admittedFrom};
 
 // The definition of a tag.
 pub enum Definition {

@@ -3,8 +3,8 @@ use crate::line_order::Standing;
 use crate::line_order::next_standing;
 use crate::line_runs::count_one;
 use crate::line_runs::run_behind;
-use crate::line_texts::text_length;
-use crate::records::line_at;
+use records::line_texts::text_length;
+use records::records::line_at;
 use texts::dictionary_order::BEGINNING;
 use texts::dictionary_order::BEHIND_MESSAGE;
 use texts::dictionary_order::BEHIND_TRAILER;
@@ -16,7 +16,9 @@ ghost use lib.ListN.{length, getD, take, drop};
 ghost use Rattle.ascii.specs.Notation.{isBetween};
 ghost use Rattle.sorting.specs.Search.{isStrictlyAscending};
 ghost use Rattle.texts.specs.DictionaryOrder.{start, behindTrailer, behindMessage};
-ghost use Rattle.dictionary.specs.DictionaryCheck.{linesFrom, takes, textLength, accepts, countOf, Counted, standsAt, standsEach, isIndex, isDictionary};
+ghost use Rattle.dictionary.specs.DictionaryCheck.{takes, accepts, countOf, Counted, standsAt, standsEach, isIndex, isDictionary};
+ghost use Rattle.records.specs.Records.{linesFrom};
+ghost use Rattle.records.specs.LineTexts.{textLength};
 
 // How many bytes a line has at most, with its line feed: a value of 32 bytes has the longest.
 const LINE: usize = 39;

@@ -4,9 +4,9 @@
 // Two words of a record are read as one number, `head` the first two and `next` those behind them. What the records of a run must not have is joined over the
 // run and tested once: a test of each record takes longer.
 use crate::line_order::Standing;
-use crate::line_texts::type_length;
-use crate::records::holds_visible_part;
-use crate::records::pair_at;
+use records::line_texts::type_length;
+use records::records::holds_visible_part;
+use records::records::pair_at;
 use texts::dictionary_order::DEFINITIONS;
 use texts::dictionary_order::FIELDS;
 use texts::dictionary_order::NO_BODY;

@@ -17,8 +17,8 @@ use Rattle.texts.specs.declared.line_parts.Number32.{Number32}
 use Rattle.texts.specs.declared.line_parts.Number32.the-variants.{Number, NoNumber}
 use Rattle.texts.specs.declared.line_parts.MessageType.{MessageType}
 use Rattle.texts.specs.declared.line_parts.MessageType.the-variants.{Letters, NoLetters}
-use Rattle.dictionary.specs.Records.{recordOf}
-use Rattle.dictionary.specs.RecordsLaws.{Words32}
+use Rattle.records.specs.Records.{recordOf}
+use Rattle.records.specs.RecordsLaws.{Words32}
 use Rattle.dictionary.specs.DictionaryCheck.{isDictionary}
 use Rattle.dictionary.specs.Definitions.{lineNumbered}
 use Rattle.expansion.specs.declared.body_line.BodyLine.{BodyLine}

@@ -19,7 +19,7 @@ use Rattle.texts.specs.LineParts.{messageTypeOf}
 use Rattle.layouts.specs.Limits.{gateLimits}
 use Rattle.sorting.specs.declared.search.Found.{Found}
 use Rattle.sorting.specs.declared.search.Found.the-variants.{At, Nothing}
-use Rattle.dictionary.specs.RecordsLaws.{Words32}
+use Rattle.records.specs.RecordsLaws.{Words32}
 use Rattle.dictionary.specs.DictionaryWords.{isOf, nameOf, placeOf}
 use Rattle.dictionary.specs.DictionaryCheck.{standsAt, messagesAt, isDictionary}
 use Rattle.dictionary.specs.Definitions as Words

@@ -33,10 +33,10 @@ use Rattle.texts.specs.declared.line_parts.Number32.the-variants.{Number, NoNum
 use Rattle.texts.specs.declared.line_parts.MessageType.{MessageType}
 use Rattle.texts.specs.declared.line_parts.MessageType.the-variants.{Letters, NoLetters}
 use Rattle.texts.specs.DictionaryOrder.{start}
-use Rattle.dictionary.specs.Records.{recordOf, lineFrom}
-use Rattle.dictionary.specs.RecordsLaws.{Words32}
+use Rattle.records.specs.Records.{recordOf, lineFrom, linesFrom}
+use Rattle.records.specs.RecordsLaws.{Words32}
 use Rattle.dictionary.specs.DictionaryWords.{isOf, nameOf, namesOf, placeOf, recordsOf, indexOf}
-use Rattle.dictionary.specs.DictionaryCheck.{linesFrom, standsAt, isIndex, tagsAt, componentsAt, messagesAt, sizeOf, isDictionary}
+use Rattle.dictionary.specs.DictionaryCheck.{standsAt, isIndex, tagsAt, componentsAt, messagesAt, sizeOf, isDictionary}
 use Rattle.dictionary.specs.Definitions as Words
 use Rattle.dictionary.specs.DefinitionsLaws.{isDictionary-parts}
 use Rattle.dictionary.specs.DefinitionsLaws as Passed

@@ -16,7 +16,7 @@ use Rattle.texts.specs.declared.line.Line.{Line}
 use Rattle.texts.specs.declared.line.Line.the-variants.{Def, Value, BeginHeader, BeginTrailer, EndHeader, EndTrailer, Component, Message, Field, Group, Use, End, Member, RequiredTag, Unknown}
 use Rattle.layouts.specs.Limits.{gateLimits}
 use Rattle.sorting.specs.Sort.{isIn}
-use Rattle.dictionary.specs.RecordsLaws.{Words32}
+use Rattle.records.specs.RecordsLaws.{Words32}
 use Rattle.dictionary.specs.DictionaryCheck.{isDictionary}
 use Rattle.expansion.specs.declared.builder.Builder as Code
 use Rattle.expansion.specs.declared.builder.Added.{Added}

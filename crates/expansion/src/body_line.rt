@@ -1,5 +1,5 @@
 // A line of a body, read from its record: words that passed their check need no second one.
-use dictionary::records::RECORD;
+use records::records::RECORD;
 ghost use mathlib.Core.Path.{_≡_};
 ghost use mathlib.Core.Bool.{true};
 ghost use Prim.Native.Nat.{_<_};

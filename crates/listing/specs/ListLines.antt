@@ -15,7 +15,7 @@ use Rattle.ascii.specs.Bytes.{ascii}
 use Rattle.texts.specs.declared.refusal.Refusal.{Refusal}
 use Rattle.texts.specs.Refusal.{refusalNumber, refusalPlace}
 use Rattle.texts.specs.Lines.{lineFeed}
-use Rattle.dictionary.specs.LineTexts.{digitsOf}
+use Rattle.records.specs.LineTexts.{digitsOf}
 
 abbrev pub feed : List ℕ
 feed = lineFeed ∷ []

@@ -16,8 +16,8 @@ use Rattle.ascii.specs.Digits.{decimal}
 use Rattle.texts.specs.declared.refusal.Refusal.{Refusal}
 use Rattle.texts.specs.Refusal.{refusalNumber, refusalPlace}
 use Rattle.texts.specs.LineParts.{noLeadingZero}
-use Rattle.dictionary.specs.LineTexts.{digitsOf}
-use Rattle.dictionary.specs.NumeralLaws.{bound, digitsOf-makes, digitsOf-plain}
+use Rattle.records.specs.LineTexts.{digitsOf}
+use Rattle.records.specs.NumeralLaws.{bound, digitsOf-makes, digitsOf-plain}
 use Rattle.listing.specs.ListLines.{feed, numeralOf, labelled, typeLine, kindName, eventLine, verdictDigits, verdictLine, refusedLine}
 
 -- ---- bytes written from `at` on, up to before `past`

@@ -14,7 +14,7 @@ use Rattle.texts.specs.LineForms.{defOf, beginOf, messageOf, fieldOf, groupRest
 use Rattle.texts.specs.DictionaryOrder.{stepOf}
 use Rattle.texts.specs.DictionaryText.{orderFrom, orderOf, isIn, againFrom, againOf, dictionaryTextOf}
 use Rattle.read_dictionary.specs.declared.read_dictionary.Read.the-variants.{Written, Refused}
-use Rattle.dictionary.specs.Records.{recordOf}
+use Rattle.records.specs.Records.{recordOf}
 use Rattle.dictionary.specs.DictionaryWords.{isOf, nameOf, namesOf, placeOf, recordsOf, indexOf, dictionaryWords}
 use Rattle.dictionary.specs.DictionaryCases.{four, smallWords}
 use Rattle.dictionary.specs.PassAccepted.{linesIn}

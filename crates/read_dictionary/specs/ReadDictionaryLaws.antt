@@ -29,8 +29,8 @@ use Rattle.texts.specs.DictionaryOrder.{start, stepOf, behindTrailer, behindMes
 use Rattle.texts.specs.DictionaryText.{counts, counted, definedBy, orderFrom, orderOf, dictionaryTextOf}
 use Rattle.read_dictionary.specs.declared.read_dictionary.Read.{Read}
 use Rattle.read_dictionary.specs.declared.read_dictionary.Read.the-variants.{Written, Refused}
-use Rattle.dictionary.specs.Records.{recordOf}
-use Rattle.dictionary.specs.RecordsLaws.{recordOf-length}
+use Rattle.records.specs.Records.{recordOf}
+use Rattle.records.specs.RecordsLaws.{recordOf-length}
 use Rattle.dictionary.specs.DictionaryWords.{namesOf, recordsOf, indexOf, dictionaryWords}
 use Rattle.dictionary.specs.DictionaryCheck.{isDictionary}
 use Rattle.dictionary.specs.PassAccepted.{linesIn, tagIn, componentIn, messageIn, tags-step, components-step, messages-step}

@@ -38,8 +38,8 @@ use Rattle.texts.specs.DictionaryOrder as order
 use Rattle.texts.specs.DictionaryOrder.{start, stepOf, taken, refused, notAllowed, closedBlock, openedBlock, usedIn, isNumber, isLetters, closeGroup, closeComponent, closeMessage, openGroup, endStep, openBlock, closeBlock}
 use Rattle.texts.specs.DictionaryText.{counts, counted, definedBy, keyOf, isIn, onKey, againFrom, againOf, orderOf, refusedEarlier, firstOf}
 use Rattle.texts.specs.DictionaryTextLaws.{OrderSoFar, order-begins, order-faulty, order-turns, again-ends, again-unended, again-no-key, again-new, defines-length}
-use Rattle.dictionary.specs.RecordsLaws.{Held}
-use Rattle.dictionary.specs.LineReadLaws.{lineOf-fits}
+use Rattle.records.specs.RecordsLaws.{Held}
+use Rattle.records.specs.LineReadLaws.{lineOf-fits}
 use Rattle.dictionary.specs.DictionaryWords.{namesOf}
 use Rattle.dictionary.specs.DictionaryCheck.{isTaken}
 use Rattle.dictionary.specs.IndexLaws.{strictly-distinct, distinct-often, once-same}

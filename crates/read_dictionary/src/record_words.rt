@@ -7,7 +7,7 @@ ghost use mathlib.Core.Path.{_≡_};
 ghost use Prim.Native.Nat.{_+_, _≤_};
 ghost use lib.ListN.{length};
 ghost use lib.Seq.{sets};
-ghost use Rattle.dictionary.specs.Records.{flagWord, record4, valueRecord, endRecord, recordOf};
+ghost use Rattle.records.specs.Records.{flagWord, record4, valueRecord, endRecord, recordOf};
 
 // A kind and three words, and 0 in the six words behind them.
 fn put_words(words: &mut [u32], at: usize, kind: u32, first: u32, second: u32, third: u32)

@@ -22,11 +22,11 @@ use Rattle.texts.specs.declared.line_parts.Number32.the-variants.{Number, NoNum
 use Rattle.texts.specs.declared.line_parts.MessageType.the-variants.{Letters}
 use Rattle.texts.specs.LineParts.{noLeadingZero, numberOf, isAlphanumeric}
 use Rattle.texts.specs.DictionaryOrder.{stepOf}
-use Rattle.dictionary.specs.Records.{holdsByte, holdsPart, lettersLength, lettersText, holdsLetters, holdsValue, recordOf, isUnused, outerFrom, bodyFrom, lineFrom}
-use Rattle.dictionary.specs.LineTexts.{digitCount, lengthOf}
+use Rattle.records.specs.Records.{holdsByte, holdsPart, lettersLength, lettersText, holdsLetters, holdsValue, recordOf, isUnused, outerFrom, bodyFrom, lineFrom, linesFrom}
+use Rattle.records.specs.LineTexts.{digitCount, lengthOf}
 use Rattle.dictionary.specs.DictionaryWords.{isOf, nameOf, namesOf, placeOf, recordsOf, indexOf, dictionaryWords}
 use Rattle.dictionary.specs.DictionaryCheck as check
-use Rattle.dictionary.specs.DictionaryCheck.{linesFrom, accepts, standsAt, standsEach, isIndex, isDictionary}
+use Rattle.dictionary.specs.DictionaryCheck.{accepts, standsAt, standsEach, isIndex, isDictionary}
 use Rattle.layouts.specs.Layout.{Layout, level-of, no-groups, group-and, group-of, groupsBelow, levelOrder, allGroups, joined}
 use Rattle.layouts.specs.LayoutWords.{placesFrom, arrangedParts, arranged, stretch, stretches}
 use Rattle.layouts.specs.LayoutCheck.{neverFalls, isRun, isAhead, memberPlacesHold, requiredPlacesHold, groupPlacesHold, isLevel, levelsHold, delimitersHold, allLevelsHold, allDelimitersHold, isLayoutOf, isLayout}

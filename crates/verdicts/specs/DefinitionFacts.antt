@@ -18,9 +18,9 @@ use Rattle.texts.specs.declared.line.Line.the-variants.{Unknown}
 use Rattle.texts.specs.declared.dictionary_order.State.{State}
 use Rattle.texts.specs.DictionaryOrder.{start, stepOf}
 use Rattle.dictionary.specs.declared.definitions.Definition.the-variants.{Defined}
-use Rattle.dictionary.specs.Records.{lineFrom, outerFrom}
-use Rattle.dictionary.specs.LineTexts.{lengthOf}
-use Rattle.dictionary.specs.DictionaryCheck.{isTaken, linesFrom, accepts, countOf, standsAt, standsEach, isIndex, tagsAt, isDictionary}
+use Rattle.records.specs.Records.{lineFrom, outerFrom, linesFrom}
+use Rattle.records.specs.LineTexts.{lengthOf}
+use Rattle.dictionary.specs.DictionaryCheck.{isTaken, accepts, countOf, standsAt, standsEach, isIndex, tagsAt, isDictionary}
 use Rattle.dictionary.specs.Definitions.{numberAt, recordIn, definitionAt, definitionOf}
 use Rattle.dictionary.specs.DefinitionsLaws.{stands-nth, isDictionary-parts}
 use Rattle.layouts.specs.MembersLaws.{rankIn-inside}

@@ -26,10 +26,10 @@ use Rattle.texts.specs.declared.line.Line.the-variants.{Def, Value, BeginHeader
 use Rattle.texts.specs.declared.refusal.Refusal.the-variants.{UnknownForm, BadField, SpaceShort}
 use Rattle.texts.specs.LineParts.{wordAt, admittedBytes, valueOf}
 use Rattle.texts.specs.DictionaryOrder.{stepOf}
-use Rattle.dictionary.specs.Records.{holdsByte, holdsPart, holdsValue, recordOf, isUnused, outerFrom, bodyFrom, lineFrom}
-use Rattle.dictionary.specs.LineTexts.{digitCount, lengthOf}
+use Rattle.records.specs.Records.{holdsByte, holdsPart, holdsValue, recordOf, isUnused, outerFrom, bodyFrom, lineFrom, linesFrom}
+use Rattle.records.specs.LineTexts.{digitCount, lengthOf}
 use Rattle.dictionary.specs.DictionaryWords.{isOf, nameOf, namesOf, placeOf, recordsOf, indexOf, dictionaryWords}
-use Rattle.dictionary.specs.DictionaryCheck.{linesFrom, accepts, countOf, standsAt, standsEach, isIndex, isDictionary}
+use Rattle.dictionary.specs.DictionaryCheck.{accepts, countOf, standsAt, standsEach, isIndex, isDictionary}
 use Rattle.dictionary.specs.Definitions.{recordIn, definitionOf, isSameValue, isAmong, admitsValue}
 use Rattle.walk_memory.specs.FieldTable.{isBadField, badFrom, tableCheckOf}
 use Rattle.verdicts.specs.declared.verdict.Verdict.the-variants.{Good, Undefined, WrongFormat, NotAdmitted}

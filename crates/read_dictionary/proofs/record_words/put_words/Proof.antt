@@ -3,7 +3,7 @@
 use native.Mathlib.Omega.{arith}
 use native.Mathlib.Numerals.{towards-suc}
 use lib.ListN.{length-set}
-use Rattle.dictionary.specs.RecordsLaws.{add-nine}
+use Rattle.records.specs.RecordsLaws.{add-nine}
 use borrow.Author.Needs.{needs}
 use Rattle.read_dictionary.proofs.record_words.put_words.Statement.{statement}
 use Rattle.read_dictionary.proofs.record_words.put_words.Tie as tie
