@@ -7,7 +7,7 @@
 --   isIndex kind at count words  the index at this place has the names of all records of this kind, each once, and where they stand
 --   isDictionary words           the words begin with the arrangement of an accepted dictionary
 use mathlib.Core.Path.{_≡_}
-use Prim.Native.Nat.{ℕ, zero, suc, _+_, _*_, _<_}
+use Prim.Native.Nat.{ℕ, zero, suc, _+_, _*_}
 use mathlib.Core.Bool.{Bool, true, false, _&&_}
 use mathlib.Core.List.{List, [], _∷_}
 use lib.ListN.{length, getD, take, drop}
