@@ -21,7 +21,7 @@ ghost use Rattle.records.specs.Records.{linesFrom};
 ghost use Rattle.records.specs.LineTexts.{textLength};
 
 // How many bytes a line has at most, with its line feed: a value of 32 bytes has the longest.
-const LINE: usize = 39;
+const LONGEST_LINE: usize = 39;
 
 // A text may end here: behind its trailer, and with no block open.
 fn may_end(stage: u8) -> bool
@@ -84,7 +84,7 @@ fn take_lines(words: &[u32], lines: usize) -> LinesRead
         }
         let run = run_behind(next, clean, lines - done - 1, words, at + 10);
         let kind = words[at];
-        bytes += LINE + run.bytes;
+        bytes += LONGEST_LINE + run.bytes;
         tags += count_one(kind, 1) + run.tags;
         components += count_one(kind, 5);
         messages += count_one(kind, 6);

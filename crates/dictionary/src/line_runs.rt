@@ -104,7 +104,8 @@ fn no_clean_run() -> Run
     }
 }
 
-// A run of definitions with values of at most four bytes.
+// A run of definitions with values of at most four bytes. `bytes` counts those of the type names and what longer values have beside those of one byte; the
+// other bytes follow from the number of lines, of tags and of the digits that a tag has at most.
 fn definitions_run(count: usize, words: &[u32], first: usize) -> Run
     requires { ⌜ (count ≤ 4294967295) × (first + 10 * count ≤ length (now words)) ⌝ }
     ensures run { λ run. ⌜ IsRun true (run .lines) (run .bytes) (run .tags) (drop first (now (words .entry))) ⌝ }

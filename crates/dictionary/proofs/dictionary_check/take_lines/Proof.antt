@@ -58,7 +58,7 @@ mul-kind c = search needs
 shared-slice-read-kind : tie.Need-shared-slice-read-kind Inv-loop μ-loop
 shared-slice-read-kind c = omega (arith, c .before .before .before .before .before .before .before .before .loop .inv .0 .place, c .before .before .before .before .before .before .before .loop-test .taken, c .before .before .before .before .before .before .before .before .before .before .pre)
 
--- bytes += LINE + run.bytes;
+-- bytes += LONGEST_LINE + run.bytes;
 add-bytes : tie.Need-add-bytes Inv-loop μ-loop
 add-bytes c = omega (arith, c .before .before .run-behind .ensures .1, c .before .before .before .before .before .before .before .before .before .before .before .pre)
 
