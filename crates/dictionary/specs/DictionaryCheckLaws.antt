@@ -1,5 +1,5 @@
 -- Laws of `DictionaryCheck.antt`: its loops, turn by turn, and its tests, one by one. Assumes nothing.
-use mathlib.Core.Path.{_≡_, refl, sym, ap, _∙_}
+use mathlib.Core.Path.{_≡_, refl, sym, _∙_}
 use Prim.Native.Nat.{ℕ, zero, suc, _+_, _*_, _-_, _≤_, _<_}
 use mathlib.Core.Bool.{Bool, true, false, cond, _&&_, false≢true}
 use mathlib.Core.List.{List, [], _∷_}
@@ -10,7 +10,7 @@ use lib.ListN.{length, getD, take, drop, length-take, length-drop}
 use lib.Seq.{drop-drop, drop-cons, getD-drop}
 use borrow.Author.Tests.{le-leb, lt-leb, leb-true, leb-false, eq-eqb, ne-eqb}
 use Rattle.ascii.specs.Notation.{isBetween}
-use Rattle.ascii.specs.NotationLaws.{and-left, and-right, and-assoc}
+use Rattle.ascii.specs.NotationLaws.{and-left, and-right, and-true, and-false, and-assoc}
 use Rattle.sorting.specs.Search.{isStrictlyAbove, isStrictlyAscending}
 use Rattle.texts.specs.declared.line.Line.{Line}
 use Rattle.texts.specs.declared.line.Line.the-variants.{Def, Value, BeginHeader, BeginTrailer, EndHeader, EndTrailer, Component, Message, Field, Group, Use, End, Member, RequiredTag, Unknown}
@@ -24,7 +24,7 @@ use Rattle.dictionary.specs.LineOrder.{stateOf, standingOf}
 use Rattle.dictionary.specs.LineOrderLaws.{state-again}
 use Rattle.dictionary.specs.LineRuns.{PassedOver}
 use Rattle.dictionary.specs.LineRunsLaws.{countOf-step, countOf-behind}
-use Rattle.records.specs.LineLengthLaws.{lineFrom-few}
+use Rattle.records.specs.LineLengthLaws.{lineFrom-few, textLength-after}
 use Rattle.dictionary.specs.DictionaryWords as kinds
 use Rattle.dictionary.specs.DictionaryCheck.{isTaken, accepts, takes, countOf, countOne, Counted, standsAt, standsEach, isIndex, tagsAt, componentsAt, messagesAt, sizeOf, isDictionary}
 
@@ -35,14 +35,6 @@ unfolding linesFrom
 linesFrom-step count words at = rw (drop-drop 10 at words)
 
 -- ---- accepts: its two halves
-
-and-none : (test : Bool) → (test && false) ≡ false
-and-none true = refl
-and-none false = refl
-
-and-some : (test : Bool) → (test && true) ≡ test
-and-some true = refl
-and-some false = refl
 
 module _ (line : Line) (rest : List Line) (state : State) (number total : ℕ)
     (halves : (state : State) (number total : ℕ) → total ≤ 65536 → accepts state number total rest ≡ (takes state number rest && leb (total + textLength rest) 65536)) where
@@ -60,13 +52,13 @@ module _ (line : Line) (rest : List Line) (state : State) (number total : ℕ)
   line-by false long =
       let step = stepOf state number line in
       let over = leb-false all 65536 long in
-      rw (long, lt-leb (total + (lengthOf line + 1 + textLength rest)) 65536 (omega arith), and-none (isTaken (step .fault)))
-      (sym (and-none (isTaken (step .fault) && takes (step .next) (number + 1) rest)))
+      rw (long, lt-leb (total + (lengthOf line + 1 + textLength rest)) 65536 (omega arith), and-false (isTaken (step .fault)))
+      (sym (and-false (isTaken (step .fault) && takes (step .next) (number + 1) rest)))
 
 pub accepts-halves : (lines : List Line) (state : State) (number total : ℕ) → total ≤ 65536
     → accepts state number total lines ≡ (takes state number lines && leb (total + textLength lines) 65536)
 unfolding accepts takes textLength
-accepts-halves [] state number total few = rw (le-leb (total + 0) 65536 (omega arith)) (sym (and-some (isBetween behindTrailer behindMessage (state .stage))))
+accepts-halves [] state number total few = rw (le-leb (total + 0) 65536 (omega arith)) (sym (and-true (isBetween behindTrailer behindMessage (state .stage))))
 accepts-halves (line ∷ rest) state number total few =
     line-by line rest state number total (λ state number total few. accepts-halves rest state number total few) (leb (total + (lengthOf line + 1)) 65536) refl
 
@@ -135,16 +127,6 @@ takes-begins words lines = record {
   short = omega arith;
   rest = let all : lines - 0 ≡ lines = omega arith in rw all;
 }
-
-textLength-after : (before after : ℕ) (words : List ℕ)
-    → textLength (linesFrom (before + after) words) ≡ textLength (linesFrom before words) + textLength (linesFrom after (drop (10 * before) words))
-unfolding linesFrom textLength
-textLength-after zero after words = let all : 0 + after ≡ after = omega arith in rw all (omega arith)
-textLength-after (suc before) after words =
-    let next : suc before + after ≡ suc (before + after) = omega arith in
-    let place : 10 + 10 * before ≡ 10 * suc before = omega arith in
-    let rest = rw (drop-drop (10 * before) 10 words, place) at (textLength-after before after (drop 10 words)) in
-    ap (λ (count : ℕ). textLength (linesFrom count words)) next ∙ omega (arith, rest)
 
 module _ (words : List ℕ) (lines : ℕ) (state : State) (bytes done at : ℕ) (so-far : TakesSoFar words lines state bytes done at) where
   pub takes-ends : lines ≤ done → takes start 1 (linesFrom lines (drop 4 words)) ≡ isBetween behindTrailer behindMessage (state .stage)
@@ -312,7 +294,7 @@ module _ (kind count at : ℕ) (words : List ℕ) (place lowest : ℕ) (so-far :
 
     pub order-fails : stands ≡ false → InOrder false
     order-fails fails =
-        sym (next-name ∙ rw fails (and-none (leb lowest name && ascendsFrom (name + 1) (take left (drop (place + 1) words)))))
+        sym (next-name ∙ rw fails (and-false (leb lowest name && ascendsFrom (name + 1) (take left (drop (place + 1) words)))))
 
     pub order-goes-on : (next : ℕ) → next ≡ name + 1 → lowest < next → stands ≡ true → InOrderSoFar kind count at words (place + 1) next
     order-goes-on next is above holds = record {

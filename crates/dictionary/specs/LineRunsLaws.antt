@@ -6,7 +6,7 @@ use mathlib.Core.Bool.{Bool, true, false, cond, _&&_}
 use mathlib.Core.List.{List}
 use native.Mathlib.Nat.{suc-mul, mul-le-mul-left}
 use native.Mathlib.Omega.{arith}
-use lib.Bits.{bitOr, or-add-and, and-le-l, and-le-r}
+use lib.Bits.{bitOr}
 use lib.Dec.{eqb, ltb, leb}
 use lib.ListN.{length, getD, take, drop, length-take, length-drop}
 use lib.Seq.{drop-drop, getD-take, getD-drop}
@@ -19,7 +19,7 @@ use Rattle.texts.specs.declared.dictionary_order.State.{State}
 use Rattle.texts.specs.DictionaryOrder as order
 use Rattle.texts.specs.DictionaryOrder.{taken, closedBlock, stepOf}
 use Rattle.records.specs.Records.{holdsPart, holdsValue, isUnused, pairAt, admittedFrom, defFrom, valueFrom, fieldFrom, outerFrom, bodyFrom, lineFrom, linesFrom}
-use Rattle.records.specs.RecordsLaws.{isUnused-short}
+use Rattle.records.specs.RecordsLaws.{or-least, or-none, isUnused-short}
 use Rattle.records.specs.WordTextLaws.{part-one, short-value}
 use Rattle.records.specs.LineTexts.{digitCount, typeLengths, lengthOf, textLength}
 use Rattle.records.specs.NumeralLaws.{scaled, digits-from}
@@ -37,16 +37,6 @@ unfolding digitCount
 digits-below steps names below tag upto = digits-from 10 steps 10 tag (omega arith)
 
 -- ---- what is joined
-
-or-least : (a b : ℕ) → (a ≤ bitOr a b) × (b ≤ bitOr a b)
-or-least a b =
-    let together = or-add-and a b in
-    let first = and-le-l a b in
-    let second = and-le-r a b in
-    (omega arith, omega arith)
-
-or-none : (a b : ℕ) → bitOr a b ≡ 0 → (a ≡ 0) × (b ≡ 0)
-or-none a b none = let least = or-least a b in (omega arith, omega arith)
 
 digits-joined : (digits names head : ℕ) → FewDigits digits (bitOr names head) → FewDigits digits names × (digitCount (head / 4294967296) ≤ digits)
 digits-joined digits names head few =

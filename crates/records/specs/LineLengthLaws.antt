@@ -1,6 +1,6 @@
 -- Laws of the lengths of records' lines: a line of a known form is given by its kind, no line has more than 38 bytes (`lineFrom-few`), and the loop of
 -- `text_length`. Assumes nothing.
-use mathlib.Core.Path.{_≡_, refl, sym, _∙_}
+use mathlib.Core.Path.{_≡_, refl, sym, ap, _∙_}
 use Prim.Native.Nat.{ℕ, zero, suc, _+_, _*_, _-_, _≤_, _<_}
 use mathlib.Core.Bool.{Bool, true, false, cond, false≢true}
 use mathlib.Core.List.{List}
@@ -224,18 +224,20 @@ module _ (words : List ℕ) (ten : length words ≡ 10) where
 
 -- ---- textLength: a record more, and the loop of `text_length`
 
-textLength-more : (lines : ℕ) (words : List ℕ)
-    → textLength (linesFrom (suc lines) words) ≡ textLength (linesFrom lines words) + (lengthOf (lineFrom (take 10 (drop (10 * lines) words))) + 1)
+pub textLength-after : (before after : ℕ) (words : List ℕ)
+    → textLength (linesFrom (before + after) words) ≡ textLength (linesFrom before words) + textLength (linesFrom after (drop (10 * before) words))
 unfolding linesFrom textLength
-textLength-more zero words = omega arith
-textLength-more (suc lines) words =
-    let place : 10 + 10 * lines ≡ 10 * suc lines = omega arith in
-    let rest = rw (drop-drop (10 * lines) 10 words, place) at (textLength-more lines (drop 10 words)) in
-    omega (arith, rest)
+textLength-after zero after words = let all : 0 + after ≡ after = omega arith in rw all (omega arith)
+textLength-after (suc before) after words =
+    let next : suc before + after ≡ suc (before + after) = omega arith in
+    let place : 10 + 10 * before ≡ 10 * suc before = omega arith in
+    let rest = rw (drop-drop (10 * before) 10 words, place) at (textLength-after before after (drop 10 words)) in
+    ap (λ (count : ℕ). textLength (linesFrom count words)) next ∙ omega (arith, rest)
 
 pub textLength-behind : (lines : ℕ) (words : List ℕ)
     → textLength (linesFrom (lines + 1) words) ≡ textLength (linesFrom lines words) + (lengthOf (lineFrom (take 10 (drop (10 * lines) words))) + 1)
-textLength-behind lines words = let next : lines + 1 ≡ suc lines = omega arith in rw next (textLength-more lines words)
+unfolding linesFrom textLength
+textLength-behind lines words = omega (arith, textLength-after lines 1 words)
 
 -- the ten words that `&words[at..past]` lends
 module _ (words : List ℕ) (at past : ℕ) (ten : past ≡ at + 10) where

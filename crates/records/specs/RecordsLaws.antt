@@ -66,12 +66,15 @@ isUnused-step : (used : ℕ) (words : List ℕ) → used < length words → isUn
 unfolding isUnused every
 isUnused-step used words inside = rw (drop-step words used inside)
 
-pub or-none : (a b : ℕ) → bitOr a b ≡ 0 → (a ≡ 0) × (b ≡ 0)
-or-none a b none =
+pub or-least : (a b : ℕ) → (a ≤ bitOr a b) × (b ≤ bitOr a b)
+or-least a b =
     let together = or-add-and a b in
     let first = and-le-l a b in
     let second = and-le-r a b in
     (omega arith, omega arith)
+
+pub or-none : (a b : ℕ) → bitOr a b ≡ 0 → (a ≡ 0) × (b ≡ 0)
+or-none a b none = let least = or-least a b in (omega arith, omega arith)
 
 or-zero-by : (a b : ℕ) (first second : Bool) → isZero a ≡ first → isZero b ≡ second → isZero (bitOr a b) ≡ first && second
 or-zero-by a b true true no-a no-b = rw (eqb-true a 0 no-a, eqb-true b 0 no-b)
