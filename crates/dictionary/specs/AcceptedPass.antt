@@ -18,9 +18,9 @@ use Rattle.sorting.specs.Sort.{sorted, AscendingFrom, Ascending, once, howOften
 use Rattle.sorting.specs.SortLaws.{sorted-ascending, sorted-as-often, sorted-length}
 use Rattle.sorting.specs.Search.{StrictlyAbove, StrictlyAscending, isStrictlyAscending}
 use Rattle.sorting.specs.SearchLaws.{strictly-isStrictlyAscending}
-use Rattle.texts.specs.declared.refusal.Refusal.{Refusal}
-use Rattle.texts.specs.declared.line.Line.{Line}
-use Rattle.texts.specs.declared.line.Line.the-variants.{Def, Value, BeginHeader, BeginTrailer, EndHeader, EndTrailer, Component, Message, Field, Group, Use, End, Member, RequiredTag, Unknown}
+use Rattle.refusals.specs.declared.refusal.Refusal.{Refusal}
+use Rattle.line_forms.specs.declared.line.Line.{Line}
+use Rattle.line_forms.specs.declared.line.Line.the-variants.{Def, Value, BeginHeader, BeginTrailer, EndHeader, EndTrailer, Component, Message, Field, Group, Use, End, Member, RequiredTag, Unknown}
 use Rattle.texts.specs.declared.dictionary_order.State.{State}
 use Rattle.texts.specs.declared.dictionary_order.Fault.{Fault}
 use Rattle.texts.specs.declared.dictionary_order.Fault.the-variants.{NoFault, Faulty}
@@ -33,10 +33,10 @@ use Rattle.texts.specs.declared.dictionary_text.Key.{Key}
 use Rattle.texts.specs.declared.dictionary_text.Key.the-variants.{Of, NoKey}
 use Rattle.texts.specs.declared.dictionary_text.Again.{Again}
 use Rattle.texts.specs.declared.dictionary_text.Again.the-variants.{At, Nowhere}
-use Rattle.texts.specs.declared.refusal.Refusal.the-variants.{TextTooLong, UnknownForm, NotAllowed, DefinedAgain}
-use Rattle.texts.specs.Refusal.{refusalPlace}
-use Rattle.texts.specs.Lines.{Pieces, last, piece, longer, cut, linesOf, lineFeed}
-use Rattle.texts.specs.LineForms.{lineOf}
+use Rattle.refusals.specs.declared.refusal.Refusal.the-variants.{TextTooLong, UnknownForm, NotAllowed, DefinedAgain}
+use Rattle.refusals.specs.Refusal.{refusalPlace}
+use Rattle.lines.specs.Lines.{Pieces, last, piece, longer, cut, linesOf, lineFeed}
+use Rattle.line_forms.specs.LineForms.{lineOf}
 use Rattle.texts.specs.DictionaryOrder.{start, stepOf, behindTrailer, behindMessage}
 use Rattle.texts.specs.DictionaryText.{counted, counts, definedBy, orderFrom, orderOf, onFault, keyOf, isIn, onKey, againFrom, againOf, firstOf, dictionaryTextOf}
 use Rattle.records.specs.Records.{recordOf, linesFrom}
@@ -44,10 +44,10 @@ use Rattle.records.specs.RecordsLaws.{Held, HeldEnd, lineFrom-recordOf, recordO
 use Rattle.records.specs.LineTexts.{digitCountFrom, digitCount, endLength, lengthOf}
 use Rattle.records.specs.WordTextLaws.{lettersLength-range}
 use Rattle.records.specs.LineTextsLaws.{some-digit-by}
-use Rattle.texts.specs.declared.line_parts.Number32.{Number32}
-use Rattle.texts.specs.declared.line_parts.Number32.the-variants.{Number, NoNumber}
-use Rattle.texts.specs.declared.line_parts.MessageType.{MessageType}
-use Rattle.texts.specs.declared.line_parts.MessageType.the-variants.{Letters, NoLetters}
+use Rattle.lines.specs.declared.line_parts.Number32.{Number32}
+use Rattle.lines.specs.declared.line_parts.Number32.the-variants.{Number, NoNumber}
+use Rattle.lines.specs.declared.line_parts.MessageType.{MessageType}
+use Rattle.lines.specs.declared.line_parts.MessageType.the-variants.{Letters, NoLetters}
 use Rattle.records.specs.LineReadLaws.{Usable, lineOf-fits}
 use Rattle.dictionary.specs.DictionaryWords.{isOf, nameOf, namesOf, placeOf, recordsOf, indexOf, dictionaryWords}
 use Rattle.dictionary.specs.DictionaryCheck.{isTaken, accepts, countOf, standsAt, standsEach, isIndex, tagsAt, componentsAt, sizeOf, isDictionary}

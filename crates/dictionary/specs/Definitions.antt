@@ -17,13 +17,13 @@ use Rattle.ascii.specs.Notation.{_≡ᵇ_, if_then_else_}
 use Rattle.sorting.specs.declared.search.Found.{Found}
 use Rattle.sorting.specs.declared.search.Found.the-variants.{At, Nothing}
 use Rattle.sorting.specs.Search.{rankIn}
-use Rattle.texts.specs.declared.line.Line.{Line}
-use Rattle.texts.specs.declared.line_parts.MessageType.{MessageType}
-use Rattle.texts.specs.declared.line_parts.MessageType.the-variants.{Letters, NoLetters}
-use Rattle.texts.specs.declared.line_parts.Admitted.{Admitted}
-use Rattle.texts.specs.declared.line_parts.ValueText.{ValueText}
-use Rattle.texts.specs.declared.line_parts.ValueText.the-variants.{Bytes, NoBytes}
-use Rattle.texts.specs.LineParts.{messageTypeOf, valueOf}
+use Rattle.line_forms.specs.declared.line.Line.{Line}
+use Rattle.lines.specs.declared.line_parts.MessageType.{MessageType}
+use Rattle.lines.specs.declared.line_parts.MessageType.the-variants.{Letters, NoLetters}
+use Rattle.lines.specs.declared.line_parts.Admitted.{Admitted}
+use Rattle.lines.specs.declared.line_parts.ValueText.{ValueText}
+use Rattle.lines.specs.declared.line_parts.ValueText.the-variants.{Bytes, NoBytes}
+use Rattle.lines.specs.LineParts.{messageTypeOf, valueOf}
 use Rattle.dictionary.specs.declared.definitions.Definition.{Definition}
 use Rattle.dictionary.specs.declared.definitions.Definition.the-variants.{Defined, Undefined}
 use Rattle.records.specs.Records.{admittedFrom, lineFrom}

@@ -18,7 +18,7 @@ use Rattle.texts.specs.DictionaryOrder.{start}
 use Rattle.dictionary.specs.DictionaryCheck.{accepts, countOf, standsAt, standsEach, isIndex, tagsAt, componentsAt, messagesAt, sizeOf, isDictionary}
 use Rattle.dictionary.specs.Definitions.{recordIn, isSameValue, isAmong, isEnumerated, admitsValue}
 use Rattle.records.specs.Records.{admittedFrom, linesFrom}
-use Rattle.texts.specs.declared.line_parts.Admitted.{Admitted}
+use Rattle.lines.specs.declared.line_parts.Admitted.{Admitted}
 
 -- the number of what was found is below the number of lines
 abbrev pub Below : ℕ → Found → Type 0

@@ -12,11 +12,11 @@ use Rattle.ascii.specs.Digits.{isDigits, decimalFrom}
 use Rattle.sorting.specs.declared.search.Found.the-variants.{At, Nothing}
 use Rattle.sorting.specs.Sort.{inserted, sorted}
 use Rattle.sorting.specs.Search.{isStrictlyAbove, isStrictlyAscending, rankFrom, rankIn}
-use Rattle.texts.specs.declared.line.Line.{Line}
-use Rattle.texts.specs.declared.line.Line.the-variants.{Def, BeginHeader, BeginTrailer, EndHeader, EndTrailer, Component, Field, End}
-use Rattle.texts.specs.declared.line_parts.Number32.the-variants.{Number}
-use Rattle.texts.specs.declared.line_parts.MessageType.the-variants.{Letters}
-use Rattle.texts.specs.LineParts.{noLeadingZero, numberOf, isAlphanumeric}
+use Rattle.line_forms.specs.declared.line.Line.{Line}
+use Rattle.line_forms.specs.declared.line.Line.the-variants.{Def, BeginHeader, BeginTrailer, EndHeader, EndTrailer, Component, Field, End}
+use Rattle.lines.specs.declared.line_parts.Number32.the-variants.{Number}
+use Rattle.lines.specs.declared.line_parts.MessageType.the-variants.{Letters}
+use Rattle.lines.specs.LineParts.{noLeadingZero, numberOf, isAlphanumeric}
 use Rattle.texts.specs.DictionaryOrder.{stepOf}
 use Rattle.dictionary.specs.declared.definitions.Definition.the-variants.{Defined, Undefined}
 use Rattle.records.specs.Records.{holdsByte, holdsPart, lettersLength, lettersText, holdsLetters, recordOf, isUnused, outerFrom, bodyFrom, lineFrom, linesFrom}

@@ -13,7 +13,7 @@ use mathlib.Core.List.{List, [], _∷_}
 use lib.ListN.{length, getD, take, drop}
 use Rattle.ascii.specs.Notation.{_≤ᵇ_, _<ᵇ_, _≡ᵇ_, if_then_else_, isBetween}
 use Rattle.sorting.specs.Search.{isStrictlyAscending}
-use Rattle.texts.specs.declared.line.Line.{Line}
+use Rattle.line_forms.specs.declared.line.Line.{Line}
 use Rattle.texts.specs.declared.dictionary_order.State.{State}
 use Rattle.texts.specs.declared.dictionary_order.Fault.{Fault}
 use Rattle.texts.specs.declared.dictionary_order.Fault.the-variants.{NoFault, Faulty}

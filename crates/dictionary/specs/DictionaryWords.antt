@@ -20,7 +20,7 @@ use mathlib.Core.List.{List, [], _∷_, _++_, map}
 use lib.ListN.{length, getD}
 use Rattle.ascii.specs.Notation.{_≡ᵇ_, if_then_else_}
 use Rattle.sorting.specs.Sort.{sorted}
-use Rattle.texts.specs.declared.line.Line.{Line}
+use Rattle.line_forms.specs.declared.line.Line.{Line}
 use Rattle.records.specs.Records.{recordOf}
 
 -- ---- kinds that an index has

@@ -18,7 +18,7 @@ use Rattle.sorting.specs.Sort.{sorted, AscendingFrom, Ascending, once, howOften
 use Rattle.sorting.specs.SortLaws.{howOften-below, sorted-unique}
 use Rattle.sorting.specs.Search.{StrictlyAbove, StrictlyAscending, isStrictlyAscending}
 use Rattle.sorting.specs.SearchLaws.{isStrictlyAscending-true}
-use Rattle.texts.specs.declared.line.Line.{Line}
+use Rattle.line_forms.specs.declared.line.Line.{Line}
 use Rattle.records.specs.Records.{recordOf}
 use Rattle.records.specs.RecordsLaws.{recordOf-length}
 use Rattle.dictionary.specs.DictionaryWords.{isOf, nameOf, namesOf, placeOf, recordsOf, indexOf}

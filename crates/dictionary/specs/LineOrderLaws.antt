@@ -6,8 +6,8 @@ use mathlib.Core.List.{List}
 use lib.Dec.{eqb, ltb, leb}
 use lib.ListN.{getD}
 use Rattle.ascii.specs.Notation.{isBetween}
-use Rattle.texts.specs.declared.line_parts.Number32.{Number32}
-use Rattle.texts.specs.declared.line_parts.MessageType.{MessageType}
+use Rattle.lines.specs.declared.line_parts.Number32.{Number32}
+use Rattle.lines.specs.declared.line_parts.MessageType.{MessageType}
 use Rattle.texts.specs.declared.dictionary_order.State.{State}
 use Rattle.texts.specs.declared.dictionary_order.Step.{Step}
 use Rattle.texts.specs.DictionaryOrder as order

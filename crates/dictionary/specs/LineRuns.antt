@@ -13,7 +13,7 @@ use mathlib.Core.List.{List}
 use lib.ListN.{getD, take, drop}
 use Rattle.ascii.specs.Notation.{_≡ᵇ_, if_then_else_}
 use Rattle.texts.specs.DictionaryOrder as order
-use Rattle.texts.specs.LineParts.{isVisible}
+use Rattle.lines.specs.LineParts.{isVisible}
 use Rattle.records.specs.Records.{holdsPart, defFrom, valueFrom, fieldFrom, linesFrom}
 use Rattle.records.specs.LineTexts.{digitCount, lengthOf, textLength}
 use Rattle.dictionary.specs.DictionaryCheck.{takes, Counted}

@@ -12,9 +12,9 @@ use lib.ListN.{length, getD, take, drop, length-take, length-drop}
 use lib.Seq.{drop-drop, getD-take, getD-drop}
 use borrow.Author.Tests.{lt-ltb, le-leb, eq-eqb, eqb-true, eqb-false}
 use Rattle.ascii.specs.NotationLaws.{and-left, and-right, isBetween-from}
-use Rattle.texts.specs.LineParts.{isVisible}
-use Rattle.texts.specs.declared.line.Line.{Line}
-use Rattle.texts.specs.declared.line.Line.the-variants.{Def, Value, Field, Unknown}
+use Rattle.lines.specs.LineParts.{isVisible}
+use Rattle.line_forms.specs.declared.line.Line.{Line}
+use Rattle.line_forms.specs.declared.line.Line.the-variants.{Def, Value, Field, Unknown}
 use Rattle.texts.specs.declared.dictionary_order.State.{State}
 use Rattle.texts.specs.DictionaryOrder as order
 use Rattle.texts.specs.DictionaryOrder.{taken, closedBlock, stepOf}

@@ -19,12 +19,12 @@ use borrow.Author.Tests.{le-ltb, leb-true, ltb-true, ltb-false, eqb-true, eqb-fa
 use Rattle.ascii.specs.NotationLaws.{and-left, and-right}
 use Rattle.ascii.specs.Bytes.{nonEmpty, every}
 use Rattle.sorting.specs.Sort.{once, howOften}
-use Rattle.texts.specs.declared.line.Line.{Line}
-use Rattle.texts.specs.declared.line.Line.the-variants.{Def, Value, BeginHeader, BeginTrailer, EndHeader, EndTrailer, Component, Message, Field, Group, Use, End, Member, RequiredTag, Unknown}
-use Rattle.texts.specs.declared.line_parts.Number32.{Number32}
-use Rattle.texts.specs.declared.line_parts.Number32.the-variants.{Number, NoNumber}
-use Rattle.texts.specs.declared.line_parts.MessageType.{MessageType}
-use Rattle.texts.specs.declared.line_parts.MessageType.the-variants.{Letters, NoLetters}
+use Rattle.line_forms.specs.declared.line.Line.{Line}
+use Rattle.line_forms.specs.declared.line.Line.the-variants.{Def, Value, BeginHeader, BeginTrailer, EndHeader, EndTrailer, Component, Message, Field, Group, Use, End, Member, RequiredTag, Unknown}
+use Rattle.lines.specs.declared.line_parts.Number32.{Number32}
+use Rattle.lines.specs.declared.line_parts.Number32.the-variants.{Number, NoNumber}
+use Rattle.lines.specs.declared.line_parts.MessageType.{MessageType}
+use Rattle.lines.specs.declared.line_parts.MessageType.the-variants.{Letters, NoLetters}
 use Rattle.texts.specs.declared.dictionary_order.State.{State}
 use Rattle.texts.specs.declared.dictionary_order.Fault.{Fault}
 use Rattle.texts.specs.declared.dictionary_order.Fault.the-variants.{NoFault, Faulty}
@@ -36,10 +36,10 @@ use Rattle.texts.specs.declared.dictionary_text.Key.{Key}
 use Rattle.texts.specs.declared.dictionary_text.Key.the-variants.{Of, NoKey}
 use Rattle.texts.specs.declared.dictionary_text.Again.{Again}
 use Rattle.texts.specs.declared.dictionary_text.Again.the-variants.{Nowhere}
-use Rattle.texts.specs.Lines.{Pieces, last, piece, cut, linesOf, lineFeed}
-use Rattle.texts.specs.LinesLaws.{cut-first-piece}
-use Rattle.texts.specs.LineParts.{isVisible}
-use Rattle.texts.specs.LineForms.{lineOf}
+use Rattle.lines.specs.Lines.{Pieces, last, piece, cut, linesOf, lineFeed}
+use Rattle.lines.specs.LinesLaws.{cut-first-piece}
+use Rattle.lines.specs.LineParts.{isVisible}
+use Rattle.line_forms.specs.LineForms.{lineOf}
 use Rattle.texts.specs.DictionaryOrder.{start, stepOf}
 use Rattle.texts.specs.DictionaryText.{counted, counts, definedBy, orderFrom, keyOf, isIn, onKey, againFrom, againOf, orderOf, dictionaryTextOf}
 use Rattle.records.specs.Records.{recordOf, lineFrom, lettersText, linesFrom}

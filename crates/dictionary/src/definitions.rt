@@ -1,11 +1,11 @@
 // What a dictionary defines, looked up in its words.
+use lines::line_parts::Admitted;
+use lines::line_parts::MessageType;
+use lines::line_parts::ValueText;
+use lines::line_parts::parse_message_type;
+use lines::line_parts::parse_value;
 use sorting::search::Found;
 use sorting::search::binary_search;
-use texts::line_parts::Admitted;
-use texts::line_parts::MessageType;
-use texts::line_parts::ValueText;
-use texts::line_parts::parse_message_type;
-use texts::line_parts::parse_value;
 ghost use mathlib.Core.Path.{_≡_};
 ghost use mathlib.Core.Bool.{true};
 ghost use Prim.Native.Nat.{_+_, _*_, _≤_, _<_};

@@ -1,4 +1,7 @@
 // The order of the lines of a dictionary text, as in texts, where the count tags of the open group blocks stand in an array that is lent, so that no line copies them.
+use line_forms::line::Line;
+use lines::line_parts::MessageType;
+use lines::line_parts::Number32;
 use texts::dictionary_order::BEGINNING;
 use texts::dictionary_order::BEHIND_HEADER;
 use texts::dictionary_order::BEHIND_MESSAGE;
@@ -13,9 +16,6 @@ use texts::dictionary_order::NO_BODY;
 use texts::dictionary_order::TRAILER;
 use texts::dictionary_order::USES;
 use texts::dictionary_order::is_number;
-use texts::line::Line;
-use texts::line_parts::MessageType;
-use texts::line_parts::Number32;
 ghost use mathlib.Core.Path.{_≡_};
 ghost use Prim.Native.Nat.{ℕ, _≤_};
 ghost use Rattle.texts.specs.DictionaryOrder.{taken, notAllowed, openedBlock, closedBlock, usedIn, isLetters, defStep, valueStep, openBlock, closeBlock, fieldStep, groupStep, useStep, endStep, stepOf};

@@ -13,7 +13,7 @@ use Prim.Native.Nat.{ℕ}
 use mathlib.Core.List.{List, _++_}
 use lib.ListN.{length, drop}
 use Rattle.ascii.specs.Notation.{_≤ᵇ_, if_then_else_}
-use Rattle.texts.specs.declared.refusal.Refusal.the-variants.{UnknownForm, SpaceShort}
+use Rattle.refusals.specs.declared.refusal.Refusal.the-variants.{UnknownForm, SpaceShort}
 use Rattle.dictionary.specs.DictionaryCheck.{isDictionary}
 use Rattle.layouts.specs.LayoutWords.{arranged}
 use Rattle.expand.specs.declared.expand_call.Expanded.{Expanded}

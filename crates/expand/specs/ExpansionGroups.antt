@@ -8,7 +8,7 @@ use Prim.Native.Nat.{ℕ, suc, _+_, _*_, _≤_}
 use mathlib.Core.Bool.{Bool}
 use mathlib.Core.List.{List, [], _∷_, _++_}
 use native.Mathlib.Omega.{arith}
-use Rattle.texts.specs.declared.refusal.Refusal.the-variants.{MembersOver}
+use Rattle.refusals.specs.declared.refusal.Refusal.the-variants.{MembersOver}
 use Rattle.layouts.specs.Limits.{Limits}
 use Rattle.layouts.specs.Layout.{Level, Groups, Group, Layout, level-of, no-groups, group-and, group-of, groupsBelow, groupsAmong, groupsWith}
 use Rattle.expansion.specs.Dictionary.{Body, GroupDef, Dictionary, countTagOf, delimiterOf}

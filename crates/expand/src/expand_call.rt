@@ -4,7 +4,7 @@ use dictionary::dictionary_check::is_dictionary;
 use expansion::builder::Added;
 use expansion::builder::Stop;
 use layouts::put_layout::put_layout;
-use texts::refusal::Refusal;
+use refusals::refusal::Refusal;
 ghost use mathlib.Core.Path.{_≡_};
 ghost use mathlib.Core.Bool.{true};
 ghost use Prim.Native.Nat.{_≤_};

@@ -22,12 +22,12 @@ use lib.ListN.{length, getD, drop}
 use borrow.Author.Tests.{leb-true, leb-false, ltb-true, ltb-false, eqb-true, ne-eqb}
 use Rattle.ascii.specs.Notation.{isBetween}
 use Rattle.ascii.specs.NotationLaws.{and-left, and-right, isBetween-range}
-use Rattle.texts.specs.declared.line.Line.{Line}
-use Rattle.texts.specs.declared.line.Line.the-variants.{Def, Value, BeginHeader, BeginTrailer, EndHeader, EndTrailer, Component, Message, Field, Group, Use, End, Member, RequiredTag, Unknown}
-use Rattle.texts.specs.declared.line_parts.Number32.{Number32}
-use Rattle.texts.specs.declared.line_parts.Number32.the-variants.{Number, NoNumber}
-use Rattle.texts.specs.declared.line_parts.MessageType.{MessageType}
-use Rattle.texts.specs.declared.line_parts.MessageType.the-variants.{Letters, NoLetters}
+use Rattle.line_forms.specs.declared.line.Line.{Line}
+use Rattle.line_forms.specs.declared.line.Line.the-variants.{Def, Value, BeginHeader, BeginTrailer, EndHeader, EndTrailer, Component, Message, Field, Group, Use, End, Member, RequiredTag, Unknown}
+use Rattle.lines.specs.declared.line_parts.Number32.{Number32}
+use Rattle.lines.specs.declared.line_parts.Number32.the-variants.{Number, NoNumber}
+use Rattle.lines.specs.declared.line_parts.MessageType.{MessageType}
+use Rattle.lines.specs.declared.line_parts.MessageType.the-variants.{Letters, NoLetters}
 use Rattle.texts.specs.declared.dictionary_order.State.{State}
 use Rattle.texts.specs.declared.dictionary_order.Step.{Step}
 use Rattle.texts.specs.DictionaryOrder.{start, standing, taken, notAllowed, openedBlock, closedBlock, usedIn, isNumber, isLetters, openGroup, closeGroup, closeComponent, closeMessage, endStep, stepOf}

@@ -23,11 +23,11 @@ use Prim.Native.Nat.{ℕ, zero, suc}
 use mathlib.Core.Bool.{Bool, true, false, _&&_, _||_}
 use mathlib.Core.List.{List, [], _∷_, _++_}
 use Rattle.ascii.specs.Notation.{_≤ᵇ_, _<ᵇ_, _≡ᵇ_, if_then_else_}
-use Rattle.texts.specs.declared.refusal.Refusal.{Refusal}
-use Rattle.texts.specs.declared.refusal.Refusal.the-variants.{TextTooLong, UnknownForm, NotAllowed, TooManyOpen, DefinedAgain, TypeNotDefined, ComponentNotDefined, TooDeep, OutOfNodes, MembersOver, RuleBroken, BadField, SpaceShort, NoSuchGroup}
-use Rattle.texts.specs.declared.line_parts.MessageType.{MessageType}
-use Rattle.texts.specs.declared.line_parts.MessageType.the-variants.{Letters, NoLetters}
-use Rattle.texts.specs.LineParts.{messageTypeOf}
+use Rattle.refusals.specs.declared.refusal.Refusal.{Refusal}
+use Rattle.refusals.specs.declared.refusal.Refusal.the-variants.{TextTooLong, UnknownForm, NotAllowed, TooManyOpen, DefinedAgain, TypeNotDefined, ComponentNotDefined, TooDeep, OutOfNodes, MembersOver, RuleBroken, BadField, SpaceShort, NoSuchGroup}
+use Rattle.lines.specs.declared.line_parts.MessageType.{MessageType}
+use Rattle.lines.specs.declared.line_parts.MessageType.the-variants.{Letters, NoLetters}
+use Rattle.lines.specs.LineParts.{messageTypeOf}
 use Rattle.sorting.specs.Sort.{sorted, isIn}
 use Rattle.sorting.specs.Dedup.{deduped}
 use Rattle.layouts.specs.Limits.{Limits}

@@ -15,11 +15,11 @@ use mathlib.Core.List.{List, [], _∷_}
 use Rattle.ascii.specs.Notation.{isBetween}
 use Rattle.ascii.specs.Bytes.{ascii, nonEmpty, every}
 use Rattle.ascii.specs.Digits.{isDigits, decimalFrom}
-use Rattle.texts.specs.declared.line.Line.{Line}
-use Rattle.texts.specs.declared.refusal.Refusal.the-variants.{TypeNotDefined, ComponentNotDefined, TooDeep, OutOfNodes, MembersOver}
-use Rattle.texts.specs.Lines.{positionOf, startsWith, isSame, longer, cut}
-use Rattle.texts.specs.LineParts.{noLeadingZero, numberOf, flagOf, typeIn, typeOf, wordAt, isAlphanumeric, messageTypeOf, valueOf}
-use Rattle.texts.specs.LineForms.{defOf, beginOf, messageOf, fieldOf, groupRest, groupOf, useOf, endOf, blockLineOf, definitionLineOf, lineOf}
+use Rattle.line_forms.specs.declared.line.Line.{Line}
+use Rattle.refusals.specs.declared.refusal.Refusal.the-variants.{TypeNotDefined, ComponentNotDefined, TooDeep, OutOfNodes, MembersOver}
+use Rattle.lines.specs.Lines.{positionOf, startsWith, isSame, longer, cut}
+use Rattle.lines.specs.LineParts.{noLeadingZero, numberOf, flagOf, typeIn, typeOf, wordAt, isAlphanumeric, messageTypeOf, valueOf}
+use Rattle.line_forms.specs.LineForms.{defOf, beginOf, messageOf, fieldOf, groupRest, groupOf, useOf, endOf, blockLineOf, definitionLineOf, lineOf}
 use Rattle.sorting.specs.Sort.{inserted, sorted, isIn}
 use Rattle.sorting.specs.Dedup.{dedupedAfter, deduped}
 use Rattle.layouts.specs.Limits.{Limits, gateLimits}

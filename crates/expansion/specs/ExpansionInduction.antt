@@ -10,8 +10,8 @@ use mathlib.Core.Bool.{Bool, true, false, cond, _&&_}
 use mathlib.Core.List.{List, [], _∷_}
 use lib.Dec.{ltb}
 use borrow.Author.Tests.{ltb-true}
-use Rattle.texts.specs.declared.refusal.Refusal.{Refusal}
-use Rattle.texts.specs.declared.refusal.Refusal.the-variants.{ComponentNotDefined, TooDeep, OutOfNodes}
+use Rattle.refusals.specs.declared.refusal.Refusal.{Refusal}
+use Rattle.refusals.specs.declared.refusal.Refusal.the-variants.{ComponentNotDefined, TooDeep, OutOfNodes}
 use Rattle.sorting.specs.Sort.{isIn}
 use Rattle.layouts.specs.Limits.{Limits}
 use Rattle.expansion.specs.Dictionary.{FieldRef, ComponentRef, Body, GroupDefs, no-group-defs, group-def-and, GroupDef, Dictionary, FoundBody, Found, NotFound, fieldsOf, groupDefsOf, usesOf, countTagOf, delimiterOf, isNeeded, entryBody, componentOf}

@@ -13,7 +13,7 @@ use lib.Dec.{eqb, leb}
 use lib.ListN.{length, length-append}
 use borrow.Author.Tests.{le-leb}
 use Rattle.ascii.specs.NotationLaws.{and-both}
-use Rattle.texts.specs.declared.refusal.Refusal.the-variants.{MembersOver}
+use Rattle.refusals.specs.declared.refusal.Refusal.the-variants.{MembersOver}
 use Rattle.sorting.specs.Sort.{sorted, isIn}
 use Rattle.sorting.specs.SortLaws.{sorted-length}
 use Rattle.sorting.specs.DedupLaws.{deduped-length}

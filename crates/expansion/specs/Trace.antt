@@ -28,7 +28,7 @@ use mathlib.Core.Bool.{Bool, false}
 use mathlib.Core.List.{List, [], _∷_, _++_}
 use lib.ListN.{length, take}
 use Rattle.ascii.specs.Notation.{_≡ᵇ_, if_then_else_}
-use Rattle.texts.specs.declared.refusal.Refusal.{Refusal}
+use Rattle.refusals.specs.declared.refusal.Refusal.{Refusal}
 use Rattle.layouts.specs.Limits.{gateLimits}
 use Rattle.layouts.specs.Layout.{group-of}
 use Rattle.expansion.specs.declared.builder.Builder as Code

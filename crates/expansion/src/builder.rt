@@ -1,6 +1,6 @@
 // Adding to the level in work. The Rust's `ScopeBuilder` and `Level`: what is added is written down in a trace, a word for each step, and
 // read from there when the levels are put in order. So a refusal leaves nothing behind, and a level needs no memory of its own.
-use texts::refusal::Refusal;
+use refusals::refusal::Refusal;
 ghost use mathlib.Core.Path.{_≡_};
 ghost use Prim.Native.Nat.{_+_, _<_};
 ghost use Rattle.layouts.specs.Limits.{gateLimits};

@@ -10,8 +10,8 @@
 use Prim.Native.Nat.{ℕ, _+_}
 use mathlib.Core.List.{List}
 use lib.ListN.{length, getD}
-use Rattle.texts.specs.declared.refusal.Refusal.{Refusal}
-use Rattle.texts.specs.Refusal.{refusalNumber, refusalPlace}
+use Rattle.refusals.specs.declared.refusal.Refusal.{Refusal}
+use Rattle.refusals.specs.Refusal.{refusalNumber, refusalPlace}
 use Rattle.layouts.specs.declared.members.LevelOutcome.{LevelOutcome}
 use Rattle.layouts.specs.declared.members.LevelOutcome.the-variants as level
 use Rattle.layouts.specs.Limits.{gateLimits}

@@ -4,8 +4,8 @@ use mathlib.Core.Path.{_≡_, refl, ap, _∙_}
 use Prim.Native.Nat.{ℕ, _+_}
 use mathlib.Core.List.{List}
 use lib.ListN.{length, getD, take, drop}
-use Rattle.texts.specs.declared.refusal.Refusal.{Refusal}
-use Rattle.texts.specs.Refusal.{refusalNumber, refusalPlace}
+use Rattle.refusals.specs.declared.refusal.Refusal.{Refusal}
+use Rattle.refusals.specs.Refusal.{refusalNumber, refusalPlace}
 use Rattle.layouts.specs.declared.members.LevelOutcome.the-variants.{Reached, Refused}
 use Rattle.layouts.specs.Limits.{gateLimits}
 use Rattle.layouts.specs.LayoutWords.{stretch}

@@ -1,7 +1,7 @@
 // What every call of the gate answers: a refusal with its place, or how many words were written and one number more.
-use texts::refusal::Refusal;
-use texts::refusal::number_of;
-use texts::refusal::place_of;
+use refusals::refusal::Refusal;
+use refusals::refusal::number_of;
+use refusals::refusal::place_of;
 ghost use mathlib.Core.Path.{_≡_};
 ghost use Rattle.gate.specs.Outcome.{refusedWith};
 

@@ -12,22 +12,22 @@ use lib.ListN.{length, getD}
 use lib.Dec.{eqb, leb, ltb}
 use borrow.Author.Tests.{eqb-true, leb-true, ltb-true}
 use Rattle.ascii.specs.Bytes.{nonEmpty}
-use Rattle.texts.specs.declared.refusal.Refusal.{Refusal}
-use Rattle.texts.specs.declared.refusal.Refusal.the-variants.{NotAllowed, TooManyOpen, UnknownForm}
-use Rattle.texts.specs.declared.line.Line.{Line}
-use Rattle.texts.specs.declared.line.Line.the-variants.{Def, Value, BeginHeader, BeginTrailer, EndHeader, EndTrailer, Component, Message, Field, Group, Use, End, Member, RequiredTag, Unknown}
-use Rattle.texts.specs.declared.line_parts.Number32.{Number32}
-use Rattle.texts.specs.declared.line_parts.Number32.the-variants.{Number, NoNumber}
+use Rattle.refusals.specs.declared.refusal.Refusal.{Refusal}
+use Rattle.refusals.specs.declared.refusal.Refusal.the-variants.{NotAllowed, TooManyOpen, UnknownForm}
+use Rattle.line_forms.specs.declared.line.Line.{Line}
+use Rattle.line_forms.specs.declared.line.Line.the-variants.{Def, Value, BeginHeader, BeginTrailer, EndHeader, EndTrailer, Component, Message, Field, Group, Use, End, Member, RequiredTag, Unknown}
+use Rattle.lines.specs.declared.line_parts.Number32.{Number32}
+use Rattle.lines.specs.declared.line_parts.Number32.the-variants.{Number, NoNumber}
 use Rattle.texts.specs.declared.dictionary_order.Fault.{Fault}
 use Rattle.texts.specs.declared.dictionary_order.Fault.the-variants.{NoFault, Faulty}
-use Rattle.texts.specs.declared.layout_text.LevelState.{LevelState}
-use Rattle.texts.specs.declared.layout_text.LevelStep.{LevelStep}
-use Rattle.texts.specs.declared.layout_text.LayoutTextOutcome.{LayoutTextOutcome}
-use Rattle.texts.specs.declared.layout_text.LayoutTextOutcome.the-variants.{Ordered, Unordered}
-use Rattle.texts.specs.Lines.{Pieces, last, piece, linesOf}
-use Rattle.texts.specs.LineForms.{lineOf}
+use Rattle.layout_text.specs.declared.layout_text.LevelState.{LevelState}
+use Rattle.layout_text.specs.declared.layout_text.LevelStep.{LevelStep}
+use Rattle.layout_text.specs.declared.layout_text.LayoutTextOutcome.{LayoutTextOutcome}
+use Rattle.layout_text.specs.declared.layout_text.LayoutTextOutcome.the-variants.{Ordered, Unordered}
+use Rattle.lines.specs.Lines.{Pieces, last, piece, linesOf}
+use Rattle.line_forms.specs.LineForms.{lineOf}
 use Rattle.texts.specs.DictionaryOrder.{isNumber}
-use Rattle.texts.specs.LayoutText.{members, required, nested, level, top, inPart, takenLevel, refusedLevel, levelStepOf, layoutEnd, onLevelFault, layoutOrderFrom, layoutOrderOf, layoutTextOf}
+use Rattle.layout_text.specs.LayoutText.{members, required, nested, level, top, inPart, takenLevel, refusedLevel, levelStepOf, layoutEnd, onLevelFault, layoutOrderFrom, layoutOrderOf, layoutTextOf}
 use Rattle.layout_text.specs.declared.level_line.LevelLine.{LevelLine}
 use Rattle.layout_text.specs.declared.level_line.LevelLine.the-variants.{MemberLine, RequiredLine, GroupLine, EndLine, OtherLine}
 use Rattle.layout_text.specs.LevelLines.{levelLineOf, linesIn, linesAt}

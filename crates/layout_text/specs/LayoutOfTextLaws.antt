@@ -10,8 +10,8 @@ use mathlib.Core.Bool.{Bool, true, false}
 use mathlib.Core.List.{List, [], _∷_, _++_}
 use native.Mathlib.Omega.{arith}
 use lib.ListN.{length}
-use Rattle.texts.specs.declared.layout_text.LayoutTextOutcome.the-variants.{Ordered}
-use Rattle.texts.specs.LayoutText.{layoutTextOf}
+use Rattle.layout_text.specs.declared.layout_text.LayoutTextOutcome.the-variants.{Ordered}
+use Rattle.layout_text.specs.LayoutText.{layoutTextOf}
 use Rattle.layouts.specs.Layout.{Level, Groups, Group, Layout, level-of, no-groups, group-and, group-of}
 use Rattle.layout_text.specs.declared.level_line.LevelLine.{LevelLine}
 use Rattle.layout_text.specs.declared.level_line.LevelLine.the-variants.{MemberLine, RequiredLine, GroupLine, EndLine, OtherLine}

@@ -11,12 +11,12 @@ use mathlib.Core.List.{List, [], _∷_}
 use lib.ListN.{drop}
 use Rattle.ascii.specs.Notation.{if_then_else_}
 use Rattle.ascii.specs.Bytes.{nonEmpty}
-use Rattle.texts.specs.declared.line.Line.{Line}
-use Rattle.texts.specs.declared.line.Line.the-variants.{Def, Value, BeginHeader, BeginTrailer, EndHeader, EndTrailer, Component, Message, Field, Group, Use, End, Member, RequiredTag, Unknown}
-use Rattle.texts.specs.declared.line_parts.Number32.{Number32}
-use Rattle.texts.specs.declared.line_parts.Number32.the-variants.{Number, NoNumber}
-use Rattle.texts.specs.Lines.{Pieces, last, piece, linesOf}
-use Rattle.texts.specs.LineForms.{lineOf}
+use Rattle.line_forms.specs.declared.line.Line.{Line}
+use Rattle.line_forms.specs.declared.line.Line.the-variants.{Def, Value, BeginHeader, BeginTrailer, EndHeader, EndTrailer, Component, Message, Field, Group, Use, End, Member, RequiredTag, Unknown}
+use Rattle.lines.specs.declared.line_parts.Number32.{Number32}
+use Rattle.lines.specs.declared.line_parts.Number32.the-variants.{Number, NoNumber}
+use Rattle.lines.specs.Lines.{Pieces, last, piece, linesOf}
+use Rattle.line_forms.specs.LineForms.{lineOf}
 use Rattle.layout_text.specs.declared.level_line.LevelLine.{LevelLine}
 use Rattle.layout_text.specs.declared.level_line.LevelLine.the-variants.{MemberLine, RequiredLine, GroupLine, EndLine, OtherLine}
 

@@ -8,22 +8,22 @@ use lib.ListN.{length, take, drop, length-drop}
 use lib.Seq.{length-take-le}
 use Rattle.ascii.specs.Bytes.{ascii, nonEmpty}
 use Rattle.ascii.specs.BytesLaws.{nonEmpty-some}
-use Rattle.texts.specs.declared.line.Line.{Line}
-use Rattle.texts.specs.declared.line.Line.the-variants.{EndHeader, EndTrailer, BeginHeader, BeginTrailer, Unknown}
-use Rattle.texts.specs.declared.line_parts.Number32.{Number32}
-use Rattle.texts.specs.declared.line_parts.Number32.the-variants.{Number, NoNumber}
-use Rattle.texts.specs.declared.line_parts.Flag.{Flag}
-use Rattle.texts.specs.declared.line_parts.Flag.the-variants.{Required, Optional, NoFlag}
-use Rattle.texts.specs.declared.line_parts.TypeName.{TypeName}
-use Rattle.texts.specs.declared.line_parts.TypeName.the-variants.{TypeAt, NoType}
-use Rattle.texts.specs.declared.line_parts.MessageType.{MessageType}
-use Rattle.texts.specs.declared.line_parts.MessageType.the-variants.{Letters, NoLetters}
-use Rattle.texts.specs.declared.line_parts.ValueText.{ValueText}
-use Rattle.texts.specs.declared.line_parts.ValueText.the-variants.{Bytes, NoBytes}
-use Rattle.texts.specs.Lines.{positionOf, before, behind, startsWith, isSame, linesOf, lineFeed, comma}
-use Rattle.texts.specs.LinesLaws.{startsWith-length, found-within, cut-at-piece, cut-at-last, cut-nothing}
-use Rattle.texts.specs.LineParts.{numberOf, flagOf, typeOf, messageTypeOf, valueOf}
-use Rattle.texts.specs.LineForms.{defWith, defOf, valueWith, beginOf, componentWith, messageWith, messageOf, fieldWith, fieldOf, groupWith, groupRest, groupOf, useWith, useOf, endWith, endOf, memberWith, requiredWith, blockLineOf, definitionLineOf, lineOf}
+use Rattle.line_forms.specs.declared.line.Line.{Line}
+use Rattle.line_forms.specs.declared.line.Line.the-variants.{EndHeader, EndTrailer, BeginHeader, BeginTrailer, Unknown}
+use Rattle.lines.specs.declared.line_parts.Number32.{Number32}
+use Rattle.lines.specs.declared.line_parts.Number32.the-variants.{Number, NoNumber}
+use Rattle.lines.specs.declared.line_parts.Flag.{Flag}
+use Rattle.lines.specs.declared.line_parts.Flag.the-variants.{Required, Optional, NoFlag}
+use Rattle.lines.specs.declared.line_parts.TypeName.{TypeName}
+use Rattle.lines.specs.declared.line_parts.TypeName.the-variants.{TypeAt, NoType}
+use Rattle.lines.specs.declared.line_parts.MessageType.{MessageType}
+use Rattle.lines.specs.declared.line_parts.MessageType.the-variants.{Letters, NoLetters}
+use Rattle.lines.specs.declared.line_parts.ValueText.{ValueText}
+use Rattle.lines.specs.declared.line_parts.ValueText.the-variants.{Bytes, NoBytes}
+use Rattle.lines.specs.Lines.{positionOf, before, behind, startsWith, isSame, linesOf, lineFeed, comma}
+use Rattle.lines.specs.LinesLaws.{startsWith-length, found-within, cut-at-piece, cut-at-last, cut-nothing}
+use Rattle.lines.specs.LineParts.{numberOf, flagOf, typeOf, messageTypeOf, valueOf}
+use Rattle.line_forms.specs.LineForms.{defWith, defOf, valueWith, beginOf, componentWith, messageWith, messageOf, fieldWith, fieldOf, groupWith, groupRest, groupOf, useWith, useOf, endWith, endOf, memberWith, requiredWith, blockLineOf, definitionLineOf, lineOf}
 use Rattle.layout_text.specs.declared.level_line.LevelLine.{LevelLine}
 use Rattle.layout_text.specs.declared.level_line.LevelLine.the-variants.{OtherLine}
 use Rattle.layout_text.specs.LevelLines.{levelLineOf, linesIn, linesAt, leastBytes}

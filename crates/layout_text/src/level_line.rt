@@ -1,8 +1,8 @@
 // The lines of a layout text, one at a time.
-use texts::line::Line;
-use texts::line::line_of;
-use texts::line_parts::Number32;
-use texts::lines::position_of;
+use line_forms::line::Line;
+use line_forms::line::line_of;
+use lines::line_parts::Number32;
+use lines::lines::position_of;
 ghost use mathlib.Core.Path.{_≡_};
 ghost use mathlib.Core.List.{_∷_};
 ghost use Prim.Native.Nat.{_+_, _<_, _≤_};

@@ -16,7 +16,7 @@ use Rattle.ascii.specs.Notation.{_≡ᵇ_, if_then_else_}
 use Rattle.sorting.specs.declared.search.Found.{Found}
 use Rattle.sorting.specs.declared.search.Found.the-variants.{At, Nothing}
 use Rattle.sorting.specs.Search.{rankIn}
-use Rattle.texts.specs.declared.refusal.Refusal.the-variants.{RuleBroken, NoSuchGroup}
+use Rattle.refusals.specs.declared.refusal.Refusal.the-variants.{RuleBroken, NoSuchGroup}
 use Rattle.layouts.specs.declared.members.LevelOutcome.{LevelOutcome}
 use Rattle.layouts.specs.declared.members.LevelOutcome.the-variants.{Reached, Refused}
 use Rattle.layouts.specs.Limits.{Limits}

@@ -11,8 +11,8 @@ use Rattle.sorting.specs.declared.search.Found.{Found}
 use Rattle.sorting.specs.declared.search.Found.the-variants.{At, Nothing}
 use Rattle.sorting.specs.Search.{StrictlyAscending, rankFrom, rankIn}
 use Rattle.sorting.specs.SearchLaws.{isStrictlyAscending-true}
-use Rattle.texts.specs.declared.refusal.Refusal.{Refusal}
-use Rattle.texts.specs.declared.refusal.Refusal.the-variants.{RuleBroken, NoSuchGroup}
+use Rattle.refusals.specs.declared.refusal.Refusal.{Refusal}
+use Rattle.refusals.specs.declared.refusal.Refusal.the-variants.{RuleBroken, NoSuchGroup}
 use Rattle.layouts.specs.declared.members.LevelOutcome.{LevelOutcome}
 use Rattle.layouts.specs.declared.members.LevelOutcome.the-variants.{Reached, Refused}
 use Rattle.layouts.specs.Limits.{Limits}

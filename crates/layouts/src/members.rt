@@ -2,9 +2,9 @@
 use crate::layout_check::is_layout;
 use crate::layout_words::stretch_at;
 use crate::layout_words::wide;
+use refusals::refusal::Refusal;
 use sorting::search::Found;
 use sorting::search::binary_search;
-use texts::refusal::Refusal;
 ghost use mathlib.Core.Path.{_≡_};
 ghost use Prim.Native.Nat.{_≤_};
 ghost use Rattle.layouts.specs.Limits.{gateLimits};

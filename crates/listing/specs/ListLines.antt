@@ -12,9 +12,9 @@ use Prim.Native.Char.{code}
 use mathlib.Core.List.{List, [], _∷_, _++_}
 use Rattle.ascii.specs.Notation.{_≡ᵇ_, if_then_else_}
 use Rattle.ascii.specs.Bytes.{ascii}
-use Rattle.texts.specs.declared.refusal.Refusal.{Refusal}
-use Rattle.texts.specs.Refusal.{refusalNumber, refusalPlace}
-use Rattle.texts.specs.Lines.{lineFeed}
+use Rattle.refusals.specs.declared.refusal.Refusal.{Refusal}
+use Rattle.refusals.specs.Refusal.{refusalNumber, refusalPlace}
+use Rattle.lines.specs.Lines.{lineFeed}
 use Rattle.records.specs.LineTexts.{digitsOf}
 
 abbrev pub feed : List ℕ

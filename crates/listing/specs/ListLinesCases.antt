@@ -4,7 +4,7 @@ use Prim.Native.Nat.{ℕ}
 use Prim.Native.String.{String}
 use mathlib.Core.List.{List, [], _∷_, _++_}
 use Rattle.ascii.specs.Bytes.{ascii}
-use Rattle.texts.specs.declared.refusal.Refusal.the-variants.{TypeNotDefined, RuleBroken}
+use Rattle.refusals.specs.declared.refusal.Refusal.the-variants.{TypeNotDefined, RuleBroken}
 use Rattle.records.specs.LineTexts.{digitsOf}
 use Rattle.listing.specs.ListLines.{feed, labelled, typeLine, kindName, eventLine, verdictDigits, verdictLine, refusedLine}
 

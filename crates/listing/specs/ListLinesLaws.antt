@@ -13,9 +13,9 @@ use Rattle.ascii.specs.Notation.{if_then_else_}
 use Rattle.ascii.specs.Bytes.{ascii}
 use Rattle.ascii.specs.BytesLaws.{drop-step}
 use Rattle.ascii.specs.Digits.{decimal}
-use Rattle.texts.specs.declared.refusal.Refusal.{Refusal}
-use Rattle.texts.specs.Refusal.{refusalNumber, refusalPlace}
-use Rattle.texts.specs.LineParts.{noLeadingZero}
+use Rattle.refusals.specs.declared.refusal.Refusal.{Refusal}
+use Rattle.refusals.specs.Refusal.{refusalNumber, refusalPlace}
+use Rattle.lines.specs.LineParts.{noLeadingZero}
 use Rattle.records.specs.LineTexts.{digitsOf}
 use Rattle.records.specs.NumeralLaws.{bound, digitsOf-makes, digitsOf-plain}
 use Rattle.listing.specs.ListLines.{feed, numeralOf, labelled, typeLine, kindName, eventLine, verdictDigits, verdictLine, refusedLine}

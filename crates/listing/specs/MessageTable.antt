@@ -18,10 +18,10 @@ use lib.Seq.{take-at, drop-append-add, drop-append-le}
 use borrow.Author.Tests.{ltb-false}
 use Rattle.ascii.specs.Notation.{if_then_else_}
 use Rattle.ascii.specs.Bytes.{nonEmpty}
-use Rattle.texts.specs.declared.refusal.Refusal.the-variants.{TextTooLong, UnknownForm, SpaceShort}
-use Rattle.texts.specs.declared.line_parts.Number32.the-variants.{Number}
-use Rattle.texts.specs.Lines.{positionOf, before, behind, Pieces, last, piece, linesOf, lineFeed}
-use Rattle.texts.specs.LineParts.{numberOf}
+use Rattle.refusals.specs.declared.refusal.Refusal.the-variants.{TextTooLong, UnknownForm, SpaceShort}
+use Rattle.lines.specs.declared.line_parts.Number32.the-variants.{Number}
+use Rattle.lines.specs.Lines.{positionOf, before, behind, Pieces, last, piece, linesOf, lineFeed}
+use Rattle.lines.specs.LineParts.{numberOf}
 use Rattle.walk_memory.specs.declared.field_table.TableCheck.the-variants as table
 use Rattle.walk_memory.specs.FieldTable.{rowCount, tagOf, firstOf, pastOf, tableCheckOf, AcceptedTable}
 use Rattle.walk_memory.specs.FieldTableLaws.{tableCheckOf-accepted, tableCheckOf-many}

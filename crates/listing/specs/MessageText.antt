@@ -16,11 +16,11 @@ use mathlib.Core.List.{List, [], _∷_, _++_}
 use lib.ListN.{length, drop}
 use Rattle.ascii.specs.Notation.{_≤ᵇ_, _<ᵇ_, _≡ᵇ_, if_then_else_}
 use Rattle.ascii.specs.Bytes.{nonEmpty}
-use Rattle.texts.specs.declared.refusal.Refusal.the-variants.{TextTooLong, UnknownForm, SpaceShort}
-use Rattle.texts.specs.declared.line_parts.Number32.{Number32}
-use Rattle.texts.specs.declared.line_parts.Number32.the-variants.{Number, NoNumber}
-use Rattle.texts.specs.Lines.{positionOf, before, Pieces, last, piece, linesOf}
-use Rattle.texts.specs.LineParts.{numberOf}
+use Rattle.refusals.specs.declared.refusal.Refusal.the-variants.{TextTooLong, UnknownForm, SpaceShort}
+use Rattle.lines.specs.declared.line_parts.Number32.{Number32}
+use Rattle.lines.specs.declared.line_parts.Number32.the-variants.{Number, NoNumber}
+use Rattle.lines.specs.Lines.{positionOf, before, Pieces, last, piece, linesOf}
+use Rattle.lines.specs.LineParts.{numberOf}
 use Rattle.listing.specs.declared.message_text.FieldLine.{FieldLine}
 use Rattle.listing.specs.declared.message_text.FieldLine.the-variants.{Field, NoField}
 use Rattle.listing.specs.declared.message_text.ReadMessage.{ReadMessage}

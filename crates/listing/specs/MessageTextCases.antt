@@ -5,9 +5,9 @@ use mathlib.Core.List.{List, [], _∷_, _++_}
 use Rattle.ascii.specs.Notation.{isBetween}
 use Rattle.ascii.specs.Bytes.{ascii, nonEmpty, every}
 use Rattle.ascii.specs.Digits.{isDigits, decimalFrom}
-use Rattle.texts.specs.declared.refusal.Refusal.the-variants.{UnknownForm}
-use Rattle.texts.specs.Lines.{positionOf, longer, cut}
-use Rattle.texts.specs.LineParts.{noLeadingZero, numberOf}
+use Rattle.refusals.specs.declared.refusal.Refusal.the-variants.{UnknownForm}
+use Rattle.lines.specs.Lines.{positionOf, longer, cut}
+use Rattle.lines.specs.LineParts.{noLeadingZero, numberOf}
 use Rattle.listing.specs.declared.message_text.ReadMessage.the-variants.{Fields, Refused}
 use Rattle.listing.specs.MessageText.{fieldLineOf, rowsFrom, tableOf, countFrom, messageTextOf}
 

@@ -14,13 +14,13 @@ use Rattle.ascii.specs.Notation.{if_then_else_}
 use Rattle.ascii.specs.Bytes.{nonEmpty}
 use Rattle.ascii.specs.BytesLaws.{nonEmpty-some}
 use Rattle.ascii.specs.Digits.{isDigits}
-use Rattle.texts.specs.declared.refusal.Refusal.{Refusal}
-use Rattle.texts.specs.declared.refusal.Refusal.the-variants.{TextTooLong, UnknownForm, SpaceShort}
-use Rattle.texts.specs.declared.line_parts.Number32.{Number32}
-use Rattle.texts.specs.declared.line_parts.Number32.the-variants.{Number, NoNumber}
-use Rattle.texts.specs.Lines.{positionOf, before, Pieces, last, piece, longer, cut, linesOf, lineFeed}
-use Rattle.texts.specs.LinesLaws.{positionOf-within, before-found, found-within, cut-at-piece, cut-at-last, cut-nothing}
-use Rattle.texts.specs.LineParts.{noLeadingZero, numberOf}
+use Rattle.refusals.specs.declared.refusal.Refusal.{Refusal}
+use Rattle.refusals.specs.declared.refusal.Refusal.the-variants.{TextTooLong, UnknownForm, SpaceShort}
+use Rattle.lines.specs.declared.line_parts.Number32.{Number32}
+use Rattle.lines.specs.declared.line_parts.Number32.the-variants.{Number, NoNumber}
+use Rattle.lines.specs.Lines.{positionOf, before, Pieces, last, piece, longer, cut, linesOf, lineFeed}
+use Rattle.lines.specs.LinesLaws.{positionOf-within, before-found, found-within, cut-at-piece, cut-at-last, cut-nothing}
+use Rattle.lines.specs.LineParts.{noLeadingZero, numberOf}
 use Rattle.listing.specs.declared.message_text.FieldLine.{FieldLine}
 use Rattle.listing.specs.declared.message_text.FieldLine.the-variants.{Field, NoField}
 use Rattle.listing.specs.declared.message_text.ReadMessage.{ReadMessage}

@@ -8,7 +8,7 @@ use Prim.Native.Nat.{ℕ, _-_}
 use mathlib.Core.List.{List, [], _∷_}
 use lib.ListN.{take, drop}
 use Rattle.ascii.specs.Notation.{_≡ᵇ_, if_then_else_}
-use Rattle.texts.specs.Lines.{behind, Pieces, last, piece}
+use Rattle.lines.specs.Lines.{behind, Pieces, last, piece}
 use Rattle.listing.specs.declared.message_text.FieldLine.{FieldLine}
 use Rattle.listing.specs.declared.message_text.FieldLine.the-variants.{Field, NoField}
 use Rattle.listing.specs.declared.message_type.Stretch.{Stretch}

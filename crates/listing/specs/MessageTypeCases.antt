@@ -5,8 +5,8 @@ use mathlib.Core.List.{List, [], _∷_, _++_}
 use Rattle.ascii.specs.Notation.{isBetween}
 use Rattle.ascii.specs.Bytes.{ascii, nonEmpty, every}
 use Rattle.ascii.specs.Digits.{isDigits, decimalFrom}
-use Rattle.texts.specs.Lines.{positionOf, longer, cut, linesOf}
-use Rattle.texts.specs.LineParts.{noLeadingZero, numberOf}
+use Rattle.lines.specs.Lines.{positionOf, longer, cut, linesOf}
+use Rattle.lines.specs.LineParts.{noLeadingZero, numberOf}
 use Rattle.listing.specs.MessageText.{fieldLineOf}
 use Rattle.listing.specs.MessageType.{stretch, typePlaceOf, typeIn}
 

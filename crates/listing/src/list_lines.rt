@@ -1,7 +1,7 @@
 // The lines of the list, written as bytes into lent space (document 01, 'One list in full').
-use texts::refusal::Refusal;
-use texts::refusal::number_of;
-use texts::refusal::place_of;
+use refusals::refusal::Refusal;
+use refusals::refusal::number_of;
+use refusals::refusal::place_of;
 ghost use Prim.Native.Nat.{_+_, _≤_};
 ghost use lib.ListN.{length};
 ghost use Rattle.listing.specs.ListLines.{numeralOf, labelled, typeLine, kindName, eventLine, verdictDigits, verdictLine, refusedLine};

@@ -3,7 +3,7 @@ use crate::list_lines::put_event_line;
 use crate::list_lines::put_refused_line;
 use crate::list_lines::put_type_line;
 use crate::list_lines::put_verdict_line;
-use texts::refusal::Refusal;
+use refusals::refusal::Refusal;
 ghost use mathlib.Core.Path.{_≡_};
 ghost use Prim.Native.Nat.{_+_, _*_, _≤_, _<_};
 ghost use lib.ListN.{length};

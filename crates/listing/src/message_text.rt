@@ -1,14 +1,14 @@
 // The message text: one tag=value line a field (document 01, 'One list in full').
-use texts::line_parts::Number32;
-use texts::line_parts::parse_number;
-use texts::lines::position_of;
-use texts::refusal::Refusal;
+use lines::line_parts::Number32;
+use lines::line_parts::parse_number;
+use lines::lines::position_of;
+use refusals::refusal::Refusal;
 ghost use mathlib.Core.Path.{_≡_};
 ghost use mathlib.Core.List.{[], _∷_};
 ghost use Prim.Native.Nat.{_+_, _*_, _≤_, _<_, _^_};
 ghost use lib.ListN.{length};
 ghost use lib.Seq.{sets};
-ghost use Rattle.texts.specs.Lines.{linesOf};
+ghost use Rattle.lines.specs.Lines.{linesOf};
 ghost use Rattle.listing.specs.declared.message_text.ReadMessage.the-variants.{Fields};
 ghost use Rattle.listing.specs.MessageText.{fieldLineOf, countFrom, tableOf, spaceAnswer, spaceWith, readMessageOf, fieldsIn};
 

@@ -14,8 +14,8 @@ use lib.Dec.{leb}
 use lib.ListN.{length, take}
 use borrow.Author.Tests.{leb-true}
 use Rattle.ascii.specs.Notation.{if_then_else_}
-use Rattle.texts.specs.declared.refusal.Refusal.{Refusal}
-use Rattle.texts.specs.declared.refusal.Refusal.the-variants.{SpaceShort}
+use Rattle.refusals.specs.declared.refusal.Refusal.{Refusal}
+use Rattle.refusals.specs.declared.refusal.Refusal.the-variants.{SpaceShort}
 use Rattle.texts.specs.declared.dictionary_text.TextOutcome.{TextOutcome}
 use Rattle.texts.specs.declared.dictionary_text.TextOutcome.the-variants as text
 use Rattle.texts.specs.DictionaryText.{dictionaryTextOf}

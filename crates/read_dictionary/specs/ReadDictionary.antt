@@ -10,12 +10,12 @@ use Prim.Native.Nat.{ℕ, _+_, _*_}
 use mathlib.Core.List.{List, _++_}
 use lib.ListN.{length, drop}
 use Rattle.ascii.specs.Notation.{_≤ᵇ_, if_then_else_}
-use Rattle.texts.specs.declared.refusal.Refusal.the-variants.{SpaceShort}
-use Rattle.texts.specs.declared.line.Line.{Line}
+use Rattle.refusals.specs.declared.refusal.Refusal.the-variants.{SpaceShort}
+use Rattle.line_forms.specs.declared.line.Line.{Line}
 use Rattle.texts.specs.declared.dictionary_text.Counts.{Counts}
 use Rattle.texts.specs.declared.dictionary_text.TextOutcome.{TextOutcome}
 use Rattle.texts.specs.declared.dictionary_text.TextOutcome.the-variants as text
-use Rattle.texts.specs.Lines.{linesOf}
+use Rattle.lines.specs.Lines.{linesOf}
 use Rattle.texts.specs.DictionaryText.{dictionaryTextOf}
 use Rattle.read_dictionary.specs.declared.read_dictionary.Read.{Read}
 use Rattle.read_dictionary.specs.declared.read_dictionary.Read.the-variants.{Written, Refused}

@@ -7,10 +7,10 @@ use Rattle.ascii.specs.Notation.{isBetween}
 use Rattle.ascii.specs.Bytes.{ascii, nonEmpty, every}
 use Rattle.ascii.specs.Digits.{isDigits, decimalFrom}
 use Rattle.sorting.specs.Sort.{inserted, sorted}
-use Rattle.texts.specs.declared.refusal.Refusal.the-variants.{NotAllowed, DefinedAgain, SpaceShort}
-use Rattle.texts.specs.Lines.{positionOf, startsWith, isSame, longer, cut}
-use Rattle.texts.specs.LineParts.{noLeadingZero, numberOf, flagOf, typeIn, typeOf, wordAt, isAlphanumeric, messageTypeOf, valueOf}
-use Rattle.texts.specs.LineForms.{defOf, beginOf, messageOf, fieldOf, groupRest, groupOf, useOf, endOf, blockLineOf, definitionLineOf, lineOf}
+use Rattle.refusals.specs.declared.refusal.Refusal.the-variants.{NotAllowed, DefinedAgain, SpaceShort}
+use Rattle.lines.specs.Lines.{positionOf, startsWith, isSame, longer, cut}
+use Rattle.lines.specs.LineParts.{noLeadingZero, numberOf, flagOf, typeIn, typeOf, wordAt, isAlphanumeric, messageTypeOf, valueOf}
+use Rattle.line_forms.specs.LineForms.{defOf, beginOf, messageOf, fieldOf, groupRest, groupOf, useOf, endOf, blockLineOf, definitionLineOf, lineOf}
 use Rattle.texts.specs.DictionaryOrder.{stepOf}
 use Rattle.texts.specs.DictionaryText.{orderFrom, orderOf, isIn, againFrom, againOf, dictionaryTextOf}
 use Rattle.read_dictionary.specs.declared.read_dictionary.Read.the-variants.{Written, Refused}

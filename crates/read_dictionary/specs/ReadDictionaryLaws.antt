@@ -13,18 +13,18 @@ use borrow.Author.Tests.{le-leb, lt-leb}
 use Rattle.ascii.specs.Bytes.{nonEmpty}
 use Rattle.ascii.specs.Notation.{isBetween}
 use Rattle.sorting.specs.Sort.{howOften}
-use Rattle.texts.specs.declared.refusal.Refusal.{Refusal}
-use Rattle.texts.specs.declared.refusal.Refusal.the-variants.{UnknownForm, NotAllowed, SpaceShort}
-use Rattle.texts.specs.declared.line.Line.{Line}
+use Rattle.refusals.specs.declared.refusal.Refusal.{Refusal}
+use Rattle.refusals.specs.declared.refusal.Refusal.the-variants.{UnknownForm, NotAllowed, SpaceShort}
+use Rattle.line_forms.specs.declared.line.Line.{Line}
 use Rattle.texts.specs.declared.dictionary_order.State.{State}
 use Rattle.texts.specs.declared.dictionary_text.Counts.{Counts}
 use Rattle.texts.specs.declared.dictionary_text.Defined.{Defined}
 use Rattle.texts.specs.declared.dictionary_text.Defined.the-variants.{Tag, ComponentName, MessageName, Nothing}
 use Rattle.texts.specs.declared.dictionary_text.TextOutcome.{TextOutcome}
 use Rattle.texts.specs.declared.dictionary_text.TextOutcome.the-variants as text
-use Rattle.texts.specs.Lines.{Pieces, last, piece, positionOf, linesOf, lineFeed}
-use Rattle.texts.specs.LinesLaws.{found-within, cut-at-piece, cut-at-last, cut-nothing}
-use Rattle.texts.specs.LineForms.{lineOf}
+use Rattle.lines.specs.Lines.{Pieces, last, piece, positionOf, linesOf, lineFeed}
+use Rattle.lines.specs.LinesLaws.{found-within, cut-at-piece, cut-at-last, cut-nothing}
+use Rattle.line_forms.specs.LineForms.{lineOf}
 use Rattle.texts.specs.DictionaryOrder.{start, stepOf, behindTrailer, behindMessage}
 use Rattle.texts.specs.DictionaryText.{counts, counted, definedBy, orderFrom, orderOf, dictionaryTextOf}
 use Rattle.read_dictionary.specs.declared.read_dictionary.Read.{Read}

@@ -13,12 +13,12 @@ use Rattle.sorting.specs.Search.{isStrictlyAscending}
 use Rattle.sorting.specs.SearchLaws.{isStrictlyAscending-true}
 use Rattle.sorting.specs.Sort.{sorted, once, howOften, AsOften}
 use Rattle.sorting.specs.SortLaws.{sorted-as-often}
-use Rattle.texts.specs.declared.refusal.Refusal.{Refusal}
-use Rattle.texts.specs.declared.refusal.Refusal.the-variants.{UnknownForm, NotAllowed, TooManyOpen}
-use Rattle.texts.specs.declared.line.Line.{Line}
-use Rattle.texts.specs.declared.line.Line.the-variants.{Def, Value, BeginHeader, BeginTrailer, EndHeader, EndTrailer, Component, Message, Field, Group, Use, End, Member, RequiredTag, Unknown}
-use Rattle.texts.specs.declared.line_parts.Number32.{Number32}
-use Rattle.texts.specs.declared.line_parts.MessageType.{MessageType}
+use Rattle.refusals.specs.declared.refusal.Refusal.{Refusal}
+use Rattle.refusals.specs.declared.refusal.Refusal.the-variants.{UnknownForm, NotAllowed, TooManyOpen}
+use Rattle.line_forms.specs.declared.line.Line.{Line}
+use Rattle.line_forms.specs.declared.line.Line.the-variants.{Def, Value, BeginHeader, BeginTrailer, EndHeader, EndTrailer, Component, Message, Field, Group, Use, End, Member, RequiredTag, Unknown}
+use Rattle.lines.specs.declared.line_parts.Number32.{Number32}
+use Rattle.lines.specs.declared.line_parts.MessageType.{MessageType}
 use Rattle.texts.specs.declared.dictionary_order.State.{State}
 use Rattle.texts.specs.declared.dictionary_order.Fault.the-variants.{NoFault, Faulty}
 use Rattle.texts.specs.declared.dictionary_order.Step.{Step}
@@ -30,10 +30,10 @@ use Rattle.texts.specs.declared.dictionary_text.Key.{Key}
 use Rattle.texts.specs.declared.dictionary_text.Key.the-variants.{Of, NoKey}
 use Rattle.texts.specs.declared.dictionary_text.Again.{Again}
 use Rattle.texts.specs.declared.dictionary_text.Again.the-variants.{At, Nowhere}
-use Rattle.texts.specs.Refusal.{refusalPlace}
-use Rattle.texts.specs.Lines.{Pieces, last, piece, positionOf, linesOf, lineFeed}
-use Rattle.texts.specs.LinesLaws.{found-within}
-use Rattle.texts.specs.LineForms.{lineOf}
+use Rattle.refusals.specs.Refusal.{refusalPlace}
+use Rattle.lines.specs.Lines.{Pieces, last, piece, positionOf, linesOf, lineFeed}
+use Rattle.lines.specs.LinesLaws.{found-within}
+use Rattle.line_forms.specs.LineForms.{lineOf}
 use Rattle.texts.specs.DictionaryOrder as order
 use Rattle.texts.specs.DictionaryOrder.{start, stepOf, taken, refused, notAllowed, closedBlock, openedBlock, usedIn, isNumber, isLetters, closeGroup, closeComponent, closeMessage, openGroup, endStep, openBlock, closeBlock}
 use Rattle.texts.specs.DictionaryText.{counts, counted, definedBy, keyOf, isIn, onKey, againFrom, againOf, orderOf, refusedEarlier, firstOf}

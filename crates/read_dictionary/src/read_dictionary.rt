@@ -2,11 +2,11 @@
 use crate::index_words::put_index;
 use crate::record_words::put_record;
 use crate::text_check::check_text;
+use line_forms::line::line_of;
+use lines::lines::position_of;
+use refusals::refusal::Refusal;
 use texts::dictionary_text::Counts;
 use texts::dictionary_text::TextOutcome;
-use texts::line::line_of;
-use texts::lines::position_of;
-use texts::refusal::Refusal;
 ghost use mathlib.Core.Path.{_≡_};
 ghost use mathlib.Core.List.{[], _∷_};
 ghost use Prim.Native.Nat.{_+_, _*_, _≤_};

@@ -1,8 +1,8 @@
 // The record of a line, written into the words of a dictionary.
-use texts::line::Line;
-use texts::line_parts::Admitted;
-use texts::line_parts::MessageType;
-use texts::line_parts::Number32;
+use line_forms::line::Line;
+use lines::line_parts::Admitted;
+use lines::line_parts::MessageType;
+use lines::line_parts::Number32;
 ghost use mathlib.Core.Path.{_≡_};
 ghost use Prim.Native.Nat.{_+_, _≤_};
 ghost use lib.ListN.{length};

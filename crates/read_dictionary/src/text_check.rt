@@ -1,5 +1,8 @@
 // The check of a dictionary text, where no name is compared with all before it: the names are kept while the lines are read in order, and sorted. Only where one
 // is defined again does texts search for the first such line. A line that defines a name has at least five bytes, its line feed with it.
+use line_forms::line::line_of;
+use lines::lines::position_of;
+use refusals::refusal::Refusal;
 use sorting::search::is_strictly_ascending;
 use sorting::sort::sort_unstable;
 use texts::dictionary_order::BEGINNING;
@@ -14,9 +17,6 @@ use texts::dictionary_text::Defined;
 use texts::dictionary_text::TextOutcome;
 use texts::dictionary_text::check_dictionary_text;
 use texts::dictionary_text::defined_by;
-use texts::line::line_of;
-use texts::lines::position_of;
-use texts::refusal::Refusal;
 ghost use mathlib.Core.Path.{_≡_};
 ghost use Prim.Native.Nat.{_≤_};
 ghost use lib.ListN.{length};

@@ -10,11 +10,11 @@ use mathlib.Core.Bool.{Bool, not}
 use mathlib.Core.List.{List, _++_}
 use lib.ListN.{length, drop}
 use Rattle.ascii.specs.Notation.{_≤ᵇ_, if_then_else_}
-use Rattle.texts.specs.declared.refusal.Refusal.{Refusal}
-use Rattle.texts.specs.declared.refusal.Refusal.the-variants.{MembersOver, RuleBroken, SpaceShort}
-use Rattle.texts.specs.declared.layout_text.LayoutTextOutcome.{LayoutTextOutcome}
-use Rattle.texts.specs.declared.layout_text.LayoutTextOutcome.the-variants.{Ordered, Unordered}
-use Rattle.texts.specs.LayoutText.{layoutTextOf}
+use Rattle.refusals.specs.declared.refusal.Refusal.{Refusal}
+use Rattle.refusals.specs.declared.refusal.Refusal.the-variants.{MembersOver, RuleBroken, SpaceShort}
+use Rattle.layout_text.specs.declared.layout_text.LayoutTextOutcome.{LayoutTextOutcome}
+use Rattle.layout_text.specs.declared.layout_text.LayoutTextOutcome.the-variants.{Ordered, Unordered}
+use Rattle.layout_text.specs.LayoutText.{layoutTextOf}
 use Rattle.layouts.specs.Limits.{gateLimits}
 use Rattle.layouts.specs.Layout.{Layout}
 use Rattle.layouts.specs.LayoutRules.{meetsLimits}

@@ -10,11 +10,11 @@ use Rattle.ascii.specs.Bytes.{ascii, nonEmpty, every}
 use Rattle.ascii.specs.Digits.{isDigits, decimalFrom}
 use Rattle.sorting.specs.Sort.{isIn}
 use Rattle.sorting.specs.Search.{isStrictlyAbove, isStrictlyAscending}
-use Rattle.texts.specs.declared.refusal.Refusal.the-variants.{NotAllowed, MembersOver, RuleBroken, SpaceShort}
-use Rattle.texts.specs.Lines.{positionOf, startsWith, isSame, longer, cut}
-use Rattle.texts.specs.LineParts.{noLeadingZero, numberOf, flagOf, wordAt, isAlphanumeric, messageTypeOf}
-use Rattle.texts.specs.LineForms.{fieldOf, groupRest, groupOf, endOf, blockLineOf, definitionLineOf, lineOf}
-use Rattle.texts.specs.LayoutText.{levelStepOf, layoutOrderFrom, layoutOrderOf, layoutTextOf}
+use Rattle.refusals.specs.declared.refusal.Refusal.the-variants.{NotAllowed, MembersOver, RuleBroken, SpaceShort}
+use Rattle.lines.specs.Lines.{positionOf, startsWith, isSame, longer, cut}
+use Rattle.lines.specs.LineParts.{noLeadingZero, numberOf, flagOf, wordAt, isAlphanumeric, messageTypeOf}
+use Rattle.line_forms.specs.LineForms.{fieldOf, groupRest, groupOf, endOf, blockLineOf, definitionLineOf, lineOf}
+use Rattle.layout_text.specs.LayoutText.{levelStepOf, layoutOrderFrom, layoutOrderOf, layoutTextOf}
 use Rattle.layouts.specs.Layout.{level-of, no-groups, group-and, group-of, groupsBelow, levelOrder, allGroups, joined}
 use Rattle.layouts.specs.LayoutWords.{placesFrom, arrangedParts, arranged}
 use Rattle.read_layout.specs.declared.read_layout.ReadLayout.the-variants.{Written, Refused}

@@ -11,12 +11,12 @@ use lib.ListN.{length, take, drop}
 use lib.Seq.{sets}
 use lib.Dec.{leb, ltb}
 use borrow.Author.Tests.{le-leb, lt-leb, ltb-false}
-use Rattle.texts.specs.declared.refusal.Refusal.{Refusal}
-use Rattle.texts.specs.declared.refusal.Refusal.the-variants.{TextTooLong, MembersOver, RuleBroken, SpaceShort}
-use Rattle.texts.specs.declared.layout_text.LayoutTextOutcome.{LayoutTextOutcome}
-use Rattle.texts.specs.declared.layout_text.LayoutTextOutcome.the-variants.{Ordered, Unordered}
-use Rattle.texts.specs.Refusal.{refusalNumber}
-use Rattle.texts.specs.LayoutText.{layoutOrderOf, layoutTextOf}
+use Rattle.refusals.specs.declared.refusal.Refusal.{Refusal}
+use Rattle.refusals.specs.declared.refusal.Refusal.the-variants.{TextTooLong, MembersOver, RuleBroken, SpaceShort}
+use Rattle.layout_text.specs.declared.layout_text.LayoutTextOutcome.{LayoutTextOutcome}
+use Rattle.layout_text.specs.declared.layout_text.LayoutTextOutcome.the-variants.{Ordered, Unordered}
+use Rattle.refusals.specs.Refusal.{refusalNumber}
+use Rattle.layout_text.specs.LayoutText.{layoutOrderOf, layoutTextOf}
 use Rattle.layouts.specs.Limits.{gateLimits}
 use Rattle.layouts.specs.Layout.{Layout, allGroups, allMembers, allRequired}
 use Rattle.layouts.specs.LayoutRules.{meetsRules, meetsLimits, BrokenAt}

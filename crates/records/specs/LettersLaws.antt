@@ -13,9 +13,9 @@ use Rattle.ascii.specs.Notation.{_<ᵇ_, if_then_else_}
 use Rattle.ascii.specs.NotationLaws.{and-false}
 use Rattle.ascii.specs.Bytes.{nonEmpty, every}
 use Rattle.ascii.specs.Digits.{isDigit, isDigits, decimalFrom}
-use Rattle.texts.specs.declared.line_parts.Number32.{Number32}
-use Rattle.texts.specs.declared.line_parts.Number32.the-variants.{Number, NoNumber}
-use Rattle.texts.specs.LineParts.{noLeadingZero, numberOf, isAlphanumeric}
+use Rattle.lines.specs.declared.line_parts.Number32.{Number32}
+use Rattle.lines.specs.declared.line_parts.Number32.the-variants.{Number, NoNumber}
+use Rattle.lines.specs.LineParts.{noLeadingZero, numberOf, isAlphanumeric}
 use Rattle.records.specs.Records.{byte0, byte1, byte2, byte3, isZero, holdsByte, holdsPart, lettersLength, lettersText, holdsLetters}
 
 -- ---- the bytes of a T

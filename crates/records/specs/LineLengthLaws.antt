@@ -8,11 +8,11 @@ use native.Mathlib.Omega.{arith}
 use lib.Dec.{eqb, leb, ltb}
 use lib.ListN.{length, getD, take, drop, length-take, length-drop}
 use lib.Seq.{drop-drop}
-use Rattle.texts.specs.declared.line.Line.{Line}
-use Rattle.texts.specs.declared.line.Line.the-variants.{Def, Value, BeginHeader, BeginTrailer, EndHeader, EndTrailer, Component, Message, Field, Group, Use, End, Unknown}
-use Rattle.texts.specs.declared.line_parts.Number32.the-variants.{Number}
-use Rattle.texts.specs.declared.line_parts.MessageType.the-variants.{Letters, NoLetters}
-use Rattle.texts.specs.LineParts.{numberOf}
+use Rattle.line_forms.specs.declared.line.Line.{Line}
+use Rattle.line_forms.specs.declared.line.Line.the-variants.{Def, Value, BeginHeader, BeginTrailer, EndHeader, EndTrailer, Component, Message, Field, Group, Use, End, Unknown}
+use Rattle.lines.specs.declared.line_parts.Number32.the-variants.{Number}
+use Rattle.lines.specs.declared.line_parts.MessageType.the-variants.{Letters, NoLetters}
+use Rattle.lines.specs.LineParts.{numberOf}
 use Rattle.records.specs.Records.{lettersText, holdsLetters, holdsValue, isUnused, admittedFrom, defFrom, valueFrom, messageFrom, fieldFrom, groupFrom, useFrom, endOfLetters, endOfNumber, outerFrom, bodyFrom, lineFrom, isKnown, linesFrom, AreKnown}
 use Rattle.records.specs.RecordsLaws.{lineFrom-kind, lineFrom-part}
 use Rattle.records.specs.WordTextLaws.{lettersLength-range, holdsValue-length}

@@ -14,19 +14,19 @@ use Rattle.ascii.specs.NotationLaws.{and-left, and-right, isBetween-range}
 use Rattle.ascii.specs.Bytes.{nonEmpty, every}
 use Rattle.ascii.specs.Digits.{isDigit, isDigits, decimalFrom, decimal}
 use Rattle.ascii.specs.DigitsLaws.{isDigit-range, decimalFrom-grows}
-use Rattle.texts.specs.declared.line_parts.Number32.{Number32}
-use Rattle.texts.specs.declared.line_parts.Number32.the-variants.{Number, NoNumber}
-use Rattle.texts.specs.declared.line_parts.Flag.{Flag}
-use Rattle.texts.specs.declared.line_parts.Flag.the-variants.{Required, Optional, NoFlag}
-use Rattle.texts.specs.declared.line_parts.TypeName.{TypeName}
-use Rattle.texts.specs.declared.line_parts.TypeName.the-variants.{TypeAt, NoType}
-use Rattle.texts.specs.declared.line_parts.MessageType.{MessageType}
-use Rattle.texts.specs.declared.line_parts.MessageType.the-variants.{Letters, NoLetters}
-use Rattle.texts.specs.declared.line_parts.ValueText.{ValueText}
-use Rattle.texts.specs.declared.line_parts.ValueText.the-variants.{Bytes, NoBytes}
-use Rattle.texts.specs.Lines.{positionOf, before, behind, isSame, Pieces, last, piece, longer, cut, comma}
-use Rattle.texts.specs.LinesLaws.{positionOf-within}
-use Rattle.texts.specs.LineParts.{noLeadingZero, numberOf, flagOf, typeNames, typeIn, typeOf, wordAt, isAlphanumeric, messageTypeOf, isVisible, admittedBytes, valueOf}
+use Rattle.lines.specs.declared.line_parts.Number32.{Number32}
+use Rattle.lines.specs.declared.line_parts.Number32.the-variants.{Number, NoNumber}
+use Rattle.lines.specs.declared.line_parts.Flag.{Flag}
+use Rattle.lines.specs.declared.line_parts.Flag.the-variants.{Required, Optional, NoFlag}
+use Rattle.lines.specs.declared.line_parts.TypeName.{TypeName}
+use Rattle.lines.specs.declared.line_parts.TypeName.the-variants.{TypeAt, NoType}
+use Rattle.lines.specs.declared.line_parts.MessageType.{MessageType}
+use Rattle.lines.specs.declared.line_parts.MessageType.the-variants.{Letters, NoLetters}
+use Rattle.lines.specs.declared.line_parts.ValueText.{ValueText}
+use Rattle.lines.specs.declared.line_parts.ValueText.the-variants.{Bytes, NoBytes}
+use Rattle.lines.specs.Lines.{positionOf, before, behind, isSame, Pieces, last, piece, longer, cut, comma}
+use Rattle.lines.specs.LinesLaws.{positionOf-within}
+use Rattle.lines.specs.LineParts.{noLeadingZero, numberOf, flagOf, typeNames, typeIn, typeOf, wordAt, isAlphanumeric, messageTypeOf, isVisible, admittedBytes, valueOf}
 use Rattle.records.specs.Records.{byte0, byte1, byte2, byte3, holdsByte, holdsPart, lettersLength, lettersText, holdsLetters, holdsValue, valueWords}
 use Rattle.records.specs.LineTexts.{nameAt, typeText, digitCountFrom, digitCount, typeLengths}
 use Rattle.records.specs.NumeralLaws.{alphanumeric-range}

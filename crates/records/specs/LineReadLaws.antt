@@ -14,23 +14,23 @@ use borrow.Author.Tests.{leb-true, leb-false}
 use Rattle.ascii.specs.NotationLaws.{and-left, and-right}
 use Rattle.ascii.specs.Bytes.{ascii, nonEmpty, every}
 use Rattle.ascii.specs.Digits.{isDigit, isDigits, decimal}
-use Rattle.texts.specs.declared.line.Line.{Line}
-use Rattle.texts.specs.declared.line.Line.the-variants.{Def, Value, BeginHeader, BeginTrailer, EndHeader, EndTrailer, Component, Message, Field, Group, Use, End, Member, RequiredTag, Unknown}
-use Rattle.texts.specs.declared.line_parts.Number32.{Number32}
-use Rattle.texts.specs.declared.line_parts.Number32.the-variants.{Number, NoNumber}
-use Rattle.texts.specs.declared.line_parts.Flag.{Flag}
-use Rattle.texts.specs.declared.line_parts.Flag.the-variants.{Required, Optional, NoFlag}
-use Rattle.texts.specs.declared.line_parts.TypeName.{TypeName}
-use Rattle.texts.specs.declared.line_parts.TypeName.the-variants.{TypeAt, NoType}
-use Rattle.texts.specs.declared.line_parts.MessageType.{MessageType}
-use Rattle.texts.specs.declared.line_parts.MessageType.the-variants.{Letters, NoLetters}
-use Rattle.texts.specs.declared.line_parts.ValueText.{ValueText}
-use Rattle.texts.specs.declared.line_parts.ValueText.the-variants.{Bytes, NoBytes}
-use Rattle.texts.specs.Lines.{before, behind, startsWith, isSame, comma}
-use Rattle.texts.specs.LinesLaws.{startsWith-length}
-use Rattle.texts.specs.LineParts.{noLeadingZero, numberOf, flagOf, typeOf, isAlphanumeric, messageTypeOf, valueOf}
-use Rattle.texts.specs.LinePartsLaws.{isAlphanumeric-digit, messageTypeOf-letters}
-use Rattle.texts.specs.LineForms.{defWith, defOf, valueWith, beginOf, componentWith, messageWith, messageOf, fieldWith, fieldOf, groupWith, groupRest, groupOf, useWith, useOf, endWith, endOf, memberWith, requiredWith, blockLineOf, definitionLineOf, lineOf}
+use Rattle.line_forms.specs.declared.line.Line.{Line}
+use Rattle.line_forms.specs.declared.line.Line.the-variants.{Def, Value, BeginHeader, BeginTrailer, EndHeader, EndTrailer, Component, Message, Field, Group, Use, End, Member, RequiredTag, Unknown}
+use Rattle.lines.specs.declared.line_parts.Number32.{Number32}
+use Rattle.lines.specs.declared.line_parts.Number32.the-variants.{Number, NoNumber}
+use Rattle.lines.specs.declared.line_parts.Flag.{Flag}
+use Rattle.lines.specs.declared.line_parts.Flag.the-variants.{Required, Optional, NoFlag}
+use Rattle.lines.specs.declared.line_parts.TypeName.{TypeName}
+use Rattle.lines.specs.declared.line_parts.TypeName.the-variants.{TypeAt, NoType}
+use Rattle.lines.specs.declared.line_parts.MessageType.{MessageType}
+use Rattle.lines.specs.declared.line_parts.MessageType.the-variants.{Letters, NoLetters}
+use Rattle.lines.specs.declared.line_parts.ValueText.{ValueText}
+use Rattle.lines.specs.declared.line_parts.ValueText.the-variants.{Bytes, NoBytes}
+use Rattle.lines.specs.Lines.{before, behind, startsWith, isSame, comma}
+use Rattle.lines.specs.LinesLaws.{startsWith-length}
+use Rattle.lines.specs.LineParts.{noLeadingZero, numberOf, flagOf, typeOf, isAlphanumeric, messageTypeOf, valueOf}
+use Rattle.lines.specs.LinePartsLaws.{isAlphanumeric-digit, messageTypeOf-letters}
+use Rattle.line_forms.specs.LineForms.{defWith, defOf, valueWith, beginOf, componentWith, messageWith, messageOf, fieldWith, fieldOf, groupWith, groupRest, groupOf, useWith, useOf, endWith, endOf, memberWith, requiredWith, blockLineOf, definitionLineOf, lineOf}
 use Rattle.records.specs.RecordsLaws.{Held}
 use Rattle.records.specs.LineTexts.{typeLengths, lengthOf}
 use Rattle.records.specs.NumeralLaws.{every-weaker}

@@ -12,18 +12,18 @@ use Rattle.ascii.specs.Notation.{isBetween}
 use Rattle.ascii.specs.NotationLaws.{and-false, and-left}
 use Rattle.ascii.specs.Bytes.{ascii, every}
 use Rattle.ascii.specs.Digits.{isDigit}
-use Rattle.texts.specs.declared.line.Line.{Line}
-use Rattle.texts.specs.declared.line.Line.the-variants.{Def, Value, BeginHeader, BeginTrailer, EndHeader, EndTrailer, Component, Message, Field, Group, Use, End, Member, RequiredTag, Unknown}
-use Rattle.texts.specs.declared.line_parts.Number32.{Number32}
-use Rattle.texts.specs.declared.line_parts.Number32.the-variants.{Number, NoNumber}
-use Rattle.texts.specs.declared.line_parts.MessageType.{MessageType}
-use Rattle.texts.specs.declared.line_parts.MessageType.the-variants.{Letters, NoLetters}
-use Rattle.texts.specs.declared.line_parts.Admitted.{Admitted}
-use Rattle.texts.specs.Lines.{startsWith, isSame, comma}
-use Rattle.texts.specs.LineParts.{numberOf}
-use Rattle.texts.specs.LinePartsLaws.{messageTypeOf-long}
-use Rattle.texts.specs.LinesLaws.{isSame-other-length}
-use Rattle.texts.specs.LineForms.{endWith, defOf, beginOf, messageOf, fieldOf, groupRest, groupOf, useOf, endOf, blockLineOf, definitionLineOf, lineOf}
+use Rattle.line_forms.specs.declared.line.Line.{Line}
+use Rattle.line_forms.specs.declared.line.Line.the-variants.{Def, Value, BeginHeader, BeginTrailer, EndHeader, EndTrailer, Component, Message, Field, Group, Use, End, Member, RequiredTag, Unknown}
+use Rattle.lines.specs.declared.line_parts.Number32.{Number32}
+use Rattle.lines.specs.declared.line_parts.Number32.the-variants.{Number, NoNumber}
+use Rattle.lines.specs.declared.line_parts.MessageType.{MessageType}
+use Rattle.lines.specs.declared.line_parts.MessageType.the-variants.{Letters, NoLetters}
+use Rattle.lines.specs.declared.line_parts.Admitted.{Admitted}
+use Rattle.lines.specs.Lines.{startsWith, isSame, comma}
+use Rattle.lines.specs.LineParts.{numberOf}
+use Rattle.lines.specs.LinePartsLaws.{messageTypeOf-long}
+use Rattle.lines.specs.LinesLaws.{isSame-other-length}
+use Rattle.line_forms.specs.LineForms.{endWith, defOf, beginOf, messageOf, fieldOf, groupRest, groupOf, useOf, endOf, blockLineOf, definitionLineOf, lineOf}
 use Rattle.records.specs.Records.{lettersText, holdsLetters, holdsValue, valueWords}
 use Rattle.records.specs.RecordsLaws.{HeldEnd, Held}
 use Rattle.records.specs.LineTexts.{numeral, flagText, typeText, appText, endText, textOf, digitCountFrom, digitCount, appLength, endLength, lengthOf}

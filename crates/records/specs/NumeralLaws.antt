@@ -14,10 +14,10 @@ use Rattle.ascii.specs.NotationLaws.{and-left, and-right, isBetween-range}
 use Rattle.ascii.specs.Bytes.{nonEmpty, every}
 use Rattle.ascii.specs.Digits.{isDigit, isDigits, decimalFrom}
 use Rattle.ascii.specs.DigitsLaws.{isDigit-range}
-use Rattle.texts.specs.declared.line_parts.Number32.the-variants.{Number}
-use Rattle.texts.specs.Lines.{positionOf, before, behind}
-use Rattle.texts.specs.LineParts.{noLeadingZero, numberOf, isAlphanumeric, isVisible}
-use Rattle.texts.specs.LinePartsLaws.{isBetween-inside}
+use Rattle.lines.specs.declared.line_parts.Number32.the-variants.{Number}
+use Rattle.lines.specs.Lines.{positionOf, before, behind}
+use Rattle.lines.specs.LineParts.{noLeadingZero, numberOf, isAlphanumeric, isVisible}
+use Rattle.lines.specs.LinePartsLaws.{isBetween-inside}
 use Rattle.records.specs.LineTexts.{digitsOf, numeral, digitCountFrom, digitCount, reaches}
 
 -- ---- every

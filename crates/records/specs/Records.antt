@@ -35,14 +35,14 @@ use mathlib.Core.List.{List, [], _∷_}
 use lib.ListN.{getD, take, drop, replicate}
 use Rattle.ascii.specs.Notation.{_≤ᵇ_, _<ᵇ_, _≡ᵇ_, if_then_else_}
 use Rattle.ascii.specs.Bytes.{every}
-use Rattle.texts.specs.declared.line.Line.{Line}
-use Rattle.texts.specs.declared.line.Line.the-variants.{Def, Value, BeginHeader, BeginTrailer, EndHeader, EndTrailer, Component, Message, Field, Group, Use, End, Member, RequiredTag, Unknown}
-use Rattle.texts.specs.declared.line_parts.Number32.{Number32}
-use Rattle.texts.specs.declared.line_parts.Number32.the-variants.{Number, NoNumber}
-use Rattle.texts.specs.declared.line_parts.MessageType.{MessageType}
-use Rattle.texts.specs.declared.line_parts.MessageType.the-variants.{Letters, NoLetters}
-use Rattle.texts.specs.declared.line_parts.Admitted.{Admitted}
-use Rattle.texts.specs.LineParts.{numberOf, isAlphanumeric, isVisible}
+use Rattle.line_forms.specs.declared.line.Line.{Line}
+use Rattle.line_forms.specs.declared.line.Line.the-variants.{Def, Value, BeginHeader, BeginTrailer, EndHeader, EndTrailer, Component, Message, Field, Group, Use, End, Member, RequiredTag, Unknown}
+use Rattle.lines.specs.declared.line_parts.Number32.{Number32}
+use Rattle.lines.specs.declared.line_parts.Number32.the-variants.{Number, NoNumber}
+use Rattle.lines.specs.declared.line_parts.MessageType.{MessageType}
+use Rattle.lines.specs.declared.line_parts.MessageType.the-variants.{Letters, NoLetters}
+use Rattle.lines.specs.declared.line_parts.Admitted.{Admitted}
+use Rattle.lines.specs.LineParts.{numberOf, isAlphanumeric, isVisible}
 
 -- ---- bytes in words
 

@@ -5,10 +5,10 @@ use mathlib.Core.List.{[], _∷_}
 use Rattle.ascii.specs.Notation.{isBetween}
 use Rattle.ascii.specs.Bytes.{ascii, nonEmpty, every}
 use Rattle.ascii.specs.Digits.{isDigits, decimalFrom}
-use Rattle.texts.specs.declared.line.Line.the-variants.{Def, Value, Message, Group, End, Unknown}
-use Rattle.texts.specs.declared.line_parts.Number32.the-variants.{Number, NoNumber}
-use Rattle.texts.specs.declared.line_parts.MessageType.the-variants.{Letters, NoLetters}
-use Rattle.texts.specs.LineParts.{noLeadingZero, numberOf, wordAt, isAlphanumeric, admittedBytes}
+use Rattle.line_forms.specs.declared.line.Line.the-variants.{Def, Value, Message, Group, End, Unknown}
+use Rattle.lines.specs.declared.line_parts.Number32.the-variants.{Number, NoNumber}
+use Rattle.lines.specs.declared.line_parts.MessageType.the-variants.{Letters, NoLetters}
+use Rattle.lines.specs.LineParts.{noLeadingZero, numberOf, wordAt, isAlphanumeric, admittedBytes}
 use Rattle.records.specs.Records.{holdsByte, holdsPart, lettersLength, lettersText, holdsLetters, holdsValue, recordOf, isUnused, outerFrom, bodyFrom, lineFrom}
 
 pub record RecordCases : Type 0 where

@@ -16,13 +16,13 @@ use Rattle.ascii.specs.Notation.{_≤ᵇ_, _≡ᵇ_, if_then_else_}
 use Rattle.ascii.specs.Bytes.{every}
 use Rattle.ascii.specs.BytesLaws.{drop-step}
 use Rattle.ascii.specs.NotationLaws.{and-left, and-right, and-true, and-assoc, if-same}
-use Rattle.texts.specs.declared.line.Line.{Line}
-use Rattle.texts.specs.declared.line.Line.the-variants.{Def, Value, BeginHeader, BeginTrailer, EndHeader, EndTrailer, Component, Message, Field, Group, Use, End, Member, RequiredTag, Unknown}
-use Rattle.texts.specs.declared.line_parts.Number32.{Number32}
-use Rattle.texts.specs.declared.line_parts.Number32.the-variants.{Number, NoNumber}
-use Rattle.texts.specs.declared.line_parts.MessageType.{MessageType}
-use Rattle.texts.specs.declared.line_parts.MessageType.the-variants.{Letters, NoLetters}
-use Rattle.texts.specs.LineParts.{numberOf, isVisible}
+use Rattle.line_forms.specs.declared.line.Line.{Line}
+use Rattle.line_forms.specs.declared.line.Line.the-variants.{Def, Value, BeginHeader, BeginTrailer, EndHeader, EndTrailer, Component, Message, Field, Group, Use, End, Member, RequiredTag, Unknown}
+use Rattle.lines.specs.declared.line_parts.Number32.{Number32}
+use Rattle.lines.specs.declared.line_parts.Number32.the-variants.{Number, NoNumber}
+use Rattle.lines.specs.declared.line_parts.MessageType.{MessageType}
+use Rattle.lines.specs.declared.line_parts.MessageType.the-variants.{Letters, NoLetters}
+use Rattle.lines.specs.LineParts.{numberOf, isVisible}
 use Rattle.records.specs.Records.{holdsByte, holdsPart, lettersText, holdsLetters, holdsValue, isZero, valueWords, pairOf, pairAt, isUnused, flagWord, record4, recordOf, if-unused, defFrom, valueFrom, messageFrom, fieldFrom, groupFrom, useFrom, endOfLetters, endOfNumber, outerFrom, bodyFrom, lineFrom}
 
 -- ---- holdsByte

@@ -9,10 +9,10 @@ use borrow.Author.Tests.{ltb-true, ltb-false, eqb-true, eqb-false}
 use Rattle.ascii.specs.NotationLaws.{and-left, and-right}
 use Rattle.ascii.specs.Bytes.{every}
 use Rattle.field_types.specs.FieldTypeLaws.{NoneBelow, none-below}
-use Rattle.texts.specs.declared.line_parts.TypeName.{TypeName}
-use Rattle.texts.specs.declared.line_parts.TypeName.the-variants.{TypeAt, NoType}
-use Rattle.texts.specs.Lines.{startsWith, isSame, longer, cut}
-use Rattle.texts.specs.LineParts.{typeIn, typeOf}
+use Rattle.lines.specs.declared.line_parts.TypeName.{TypeName}
+use Rattle.lines.specs.declared.line_parts.TypeName.the-variants.{TypeAt, NoType}
+use Rattle.lines.specs.Lines.{startsWith, isSame, longer, cut}
+use Rattle.lines.specs.LineParts.{typeIn, typeOf}
 use Rattle.records.specs.LineTexts.{nameAt, typeText, typeLengths}
 use Rattle.records.specs.NumeralLaws.{isAbove}
 

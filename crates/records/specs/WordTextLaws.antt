@@ -12,13 +12,13 @@ use borrow.Author.Tests.{leb-true, leb-false, eqb-true, eq-eqb, ne-eqb}
 use Rattle.ascii.specs.NotationLaws.{and-left, and-right, and-true, and-false}
 use Rattle.ascii.specs.Bytes.{every}
 use Rattle.ascii.specs.BytesLaws.{drop-step}
-use Rattle.texts.specs.declared.line_parts.Flag.the-variants.{Required, Optional}
-use Rattle.texts.specs.declared.line_parts.MessageType.the-variants.{Letters}
-use Rattle.texts.specs.declared.line_parts.Admitted.{Admitted}
-use Rattle.texts.specs.declared.line_parts.ValueText.the-variants.{Bytes}
-use Rattle.texts.specs.Lines.{behind}
-use Rattle.texts.specs.LineParts.{flagOf, wordAt, isAlphanumeric, messageTypeOf, isVisible, admittedBytes, valueOf}
-use Rattle.texts.specs.LinePartsLaws.{messageTypeOf-letters, valueOf-bytes}
+use Rattle.lines.specs.declared.line_parts.Flag.the-variants.{Required, Optional}
+use Rattle.lines.specs.declared.line_parts.MessageType.the-variants.{Letters}
+use Rattle.lines.specs.declared.line_parts.Admitted.{Admitted}
+use Rattle.lines.specs.declared.line_parts.ValueText.the-variants.{Bytes}
+use Rattle.lines.specs.Lines.{behind}
+use Rattle.lines.specs.LineParts.{flagOf, wordAt, isAlphanumeric, messageTypeOf, isVisible, admittedBytes, valueOf}
+use Rattle.lines.specs.LinePartsLaws.{messageTypeOf-letters, valueOf-bytes}
 use Rattle.records.specs.Records.{byte0, byte1, byte2, byte3, bytesOf, isZero, holdsByte, holdsPart, lettersLength, lettersText, holdsLetters, holdsValue, valueWords, isUnused}
 use Rattle.records.specs.RecordsLaws.{holdsByte-inside, holdsByte-behind}
 use Rattle.records.specs.LineTexts.{flagText, bytesFrom, valueText}

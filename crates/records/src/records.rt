@@ -1,15 +1,15 @@
 // A line of a dictionary text as a record of ten words.
-use texts::line::Line;
-use texts::line_parts::Admitted;
-use texts::line_parts::MessageType;
-use texts::line_parts::Number32;
+use line_forms::line::Line;
+use lines::line_parts::Admitted;
+use lines::line_parts::MessageType;
+use lines::line_parts::Number32;
 ghost use mathlib.Core.Path.{_≡_};
 ghost use mathlib.Core.Bool.{true};
 ghost use Prim.Native.Nat.{_+_, _*_, _-_, _/_, _%_, _≤_};
 ghost use lib.ListN.{length, getD, take, drop};
 ghost use Rattle.ascii.specs.Notation.{isBetween};
 ghost use Rattle.ascii.specs.Digits.{isDigit};
-ghost use Rattle.texts.specs.LineParts.{numberOf, isAlphanumeric, isVisible};
+ghost use Rattle.lines.specs.LineParts.{numberOf, isAlphanumeric, isVisible};
 ghost use Rattle.records.specs.Records.{holdsPart, lettersLength, lettersText, holdsLetters, holdsValue, isZero, pairOf, pairAt, isUnused, if-unused, defFrom, admittedFrom, valueFrom, messageFrom, fieldFrom, groupFrom, useFrom, endOfLetters, endOfNumber, lineFrom};
 
 // How many words a record has.

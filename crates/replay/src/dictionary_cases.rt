@@ -18,7 +18,7 @@ use crate::word_space::is_unwritten;
 use crate::word_space::same_words;
 use read_dictionary::read_dictionary::Read;
 use read_dictionary::read_dictionary::read_dictionary;
-use texts::refusal::Refusal;
+use refusals::refusal::Refusal;
 
 pub fn replay_file(name: &[u8]) -> Tally {
     let fd = os::open_read(name);

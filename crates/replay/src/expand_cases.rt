@@ -20,7 +20,7 @@ use expand::expand_call::Expanded;
 use expand::expand_call::expand;
 use read_dictionary::read_dictionary::Read;
 use read_dictionary::read_dictionary::read_dictionary;
-use texts::refusal::Refusal;
+use refusals::refusal::Refusal;
 
 // More than any buffer has room for: where a text is no dictionary's.
 const NO_DICTIONARY: usize = 0xffff_ffff;

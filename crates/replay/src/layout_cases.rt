@@ -17,7 +17,7 @@ use crate::word_space::is_unwritten;
 use crate::word_space::same_words;
 use read_layout::read_layout::ReadLayout;
 use read_layout::read_layout::read_layout;
-use texts::refusal::Refusal;
+use refusals::refusal::Refusal;
 
 // How many bytes of the text the last line with one has, and how the cases went.
 pub struct Progress {

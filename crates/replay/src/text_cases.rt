@@ -8,13 +8,13 @@ use crate::hex::decode;
 use ascii::split::find;
 use counts::count::Count;
 use counts::count::parse_count;
+use layout_text::layout_text::LayoutTextOutcome;
+use layout_text::layout_text::check_layout_text;
+use refusals::refusal::Refusal;
+use refusals::refusal::number_of;
+use refusals::refusal::place_of;
 use texts::dictionary_text::TextOutcome;
 use texts::dictionary_text::check_dictionary_text;
-use texts::layout_text::LayoutTextOutcome;
-use texts::layout_text::check_layout_text;
-use texts::refusal::Refusal;
-use texts::refusal::number_of;
-use texts::refusal::place_of;
 
 // The size of the text so far, and where the line goes on; past the end of every line where a piece is of no known form.
 pub struct Filled {

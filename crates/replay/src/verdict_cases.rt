@@ -15,7 +15,7 @@ use crate::walk_cases::behind_word;
 use crate::walk_cases::clear;
 use crate::walk_cases::is_unwritten;
 use crate::walk_cases::same_words;
-use texts::refusal::Refusal;
+use refusals::refusal::Refusal;
 use verdicts::verdicts_call::Judged;
 use verdicts::verdicts_call::check_values;
 

@@ -13,7 +13,7 @@ use crate::lines::next_line;
 use crate::numbers::read_numbers;
 use crate::numbers::read_words;
 use ascii::split::find;
-use texts::refusal::Refusal;
+use refusals::refusal::Refusal;
 use walk::walk_call::Walked;
 use walk::walk_call::walk_group;
 

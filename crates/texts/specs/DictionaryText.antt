@@ -12,10 +12,10 @@ use mathlib.Core.List.{List, [], _∷_, _++_}
 use lib.ListN.{length}
 use Rattle.ascii.specs.Notation.{_<ᵇ_, _≡ᵇ_, if_then_else_, isBetween}
 use Rattle.ascii.specs.Bytes.{nonEmpty}
-use Rattle.texts.specs.declared.refusal.Refusal.{Refusal}
-use Rattle.texts.specs.declared.refusal.Refusal.the-variants.{TextTooLong, UnknownForm, NotAllowed, DefinedAgain}
-use Rattle.texts.specs.declared.line.Line.{Line}
-use Rattle.texts.specs.declared.line.Line.the-variants.{Def, Value, BeginHeader, BeginTrailer, EndHeader, EndTrailer, Component, Message, Field, Group, Use, End, Member, RequiredTag, Unknown}
+use Rattle.refusals.specs.declared.refusal.Refusal.{Refusal}
+use Rattle.refusals.specs.declared.refusal.Refusal.the-variants.{TextTooLong, UnknownForm, NotAllowed, DefinedAgain}
+use Rattle.line_forms.specs.declared.line.Line.{Line}
+use Rattle.line_forms.specs.declared.line.Line.the-variants.{Def, Value, BeginHeader, BeginTrailer, EndHeader, EndTrailer, Component, Message, Field, Group, Use, End, Member, RequiredTag, Unknown}
 use Rattle.texts.specs.declared.dictionary_order.State.{State}
 use Rattle.texts.specs.declared.dictionary_order.Fault.{Fault}
 use Rattle.texts.specs.declared.dictionary_order.Fault.the-variants.{NoFault, Faulty}
@@ -28,9 +28,9 @@ use Rattle.texts.specs.declared.dictionary_text.Key.{Key}
 use Rattle.texts.specs.declared.dictionary_text.Key.the-variants.{Of, NoKey}
 use Rattle.texts.specs.declared.dictionary_text.Again.{Again}
 use Rattle.texts.specs.declared.dictionary_text.Again.the-variants.{At, Nowhere}
-use Rattle.texts.specs.Refusal.{refusalPlace}
-use Rattle.texts.specs.Lines.{Pieces, last, piece, linesOf}
-use Rattle.texts.specs.LineForms.{lineOf}
+use Rattle.refusals.specs.Refusal.{refusalPlace}
+use Rattle.lines.specs.Lines.{Pieces, last, piece, linesOf}
+use Rattle.line_forms.specs.LineForms.{lineOf}
 use Rattle.texts.specs.DictionaryOrder.{behindTrailer, behindMessage, start, stepOf}
 
 -- ---- what a line defines

@@ -5,11 +5,11 @@ use mathlib.Core.List.{List, _++_}
 use Rattle.ascii.specs.Notation.{isBetween}
 use Rattle.ascii.specs.Bytes.{ascii, nonEmpty, every}
 use Rattle.ascii.specs.Digits.{isDigits, decimalFrom}
-use Rattle.texts.specs.declared.refusal.Refusal.the-variants.{UnknownForm, NotAllowed, TooManyOpen, DefinedAgain}
+use Rattle.refusals.specs.declared.refusal.Refusal.the-variants.{UnknownForm, NotAllowed, TooManyOpen, DefinedAgain}
 use Rattle.texts.specs.declared.dictionary_text.TextOutcome.the-variants.{Accepted, Refused}
-use Rattle.texts.specs.Lines.{positionOf, startsWith, isSame, longer, cut}
-use Rattle.texts.specs.LineParts.{noLeadingZero, numberOf, flagOf, typeIn, typeOf, wordAt, isAlphanumeric, messageTypeOf, valueOf}
-use Rattle.texts.specs.LineForms.{defOf, beginOf, messageOf, fieldOf, groupRest, groupOf, useOf, endOf, blockLineOf, definitionLineOf, lineOf}
+use Rattle.lines.specs.Lines.{positionOf, startsWith, isSame, longer, cut}
+use Rattle.lines.specs.LineParts.{noLeadingZero, numberOf, flagOf, typeIn, typeOf, wordAt, isAlphanumeric, messageTypeOf, valueOf}
+use Rattle.line_forms.specs.LineForms.{defOf, beginOf, messageOf, fieldOf, groupRest, groupOf, useOf, endOf, blockLineOf, definitionLineOf, lineOf}
 use Rattle.texts.specs.DictionaryOrder.{stepOf}
 use Rattle.texts.specs.DictionaryText.{counts, orderFrom, orderOf, isIn, againFrom, againOf, dictionaryTextOf}
 

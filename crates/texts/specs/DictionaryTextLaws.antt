@@ -12,10 +12,10 @@ use lib.Seq.{take-suc-set, length-take-le}
 use borrow.Author.Tests.{ltb-true, ltb-false, eq-eqb, ne-eqb}
 use Rattle.ascii.specs.Bytes.{nonEmpty}
 use Rattle.ascii.specs.BytesLaws.{drop-step, nonEmpty-some}
-use Rattle.texts.specs.declared.refusal.Refusal.{Refusal}
-use Rattle.texts.specs.declared.refusal.Refusal.the-variants.{UnknownForm}
-use Rattle.texts.specs.declared.line.Line.{Line}
-use Rattle.texts.specs.declared.line.Line.the-variants.{Unknown}
+use Rattle.refusals.specs.declared.refusal.Refusal.{Refusal}
+use Rattle.refusals.specs.declared.refusal.Refusal.the-variants.{UnknownForm}
+use Rattle.line_forms.specs.declared.line.Line.{Line}
+use Rattle.line_forms.specs.declared.line.Line.the-variants.{Unknown}
 use Rattle.texts.specs.declared.dictionary_order.State.{State}
 use Rattle.texts.specs.declared.dictionary_order.Fault.the-variants.{NoFault, Faulty}
 use Rattle.texts.specs.declared.dictionary_order.Step.{Step}
@@ -25,10 +25,10 @@ use Rattle.texts.specs.declared.dictionary_text.Counts.{Counts}
 use Rattle.texts.specs.declared.dictionary_text.TextOutcome.the-variants.{Refused}
 use Rattle.texts.specs.declared.dictionary_text.Key.the-variants.{Of, NoKey}
 use Rattle.texts.specs.declared.dictionary_text.Again.the-variants.{At, Nowhere}
-use Rattle.texts.specs.Lines.{positionOf, linesOf, lineFeed}
-use Rattle.texts.specs.LinesLaws.{found-within, cut-at-piece, cut-at-last, cut-nothing}
-use Rattle.texts.specs.LineForms.{lineOf}
-use Rattle.texts.specs.LineFormsLaws.{lineOf-short}
+use Rattle.lines.specs.Lines.{positionOf, linesOf, lineFeed}
+use Rattle.lines.specs.LinesLaws.{found-within, cut-at-piece, cut-at-last, cut-nothing}
+use Rattle.line_forms.specs.LineForms.{lineOf}
+use Rattle.line_forms.specs.LineFormsLaws.{lineOf-short}
 use Rattle.texts.specs.DictionaryOrder.{start, stepOf}
 use Rattle.texts.specs.DictionaryText.{counts, orderOf, againOf, definedBy, counted, atEnd, orderFrom, keyOf, isIn, againFrom}
 use Rattle.texts.specs.DictionaryOrderLaws.{step-depth}

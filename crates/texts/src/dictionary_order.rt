@@ -1,8 +1,8 @@
 // The order of the lines of a dictionary text: which lines may stand where.
-use crate::line::Line;
-use crate::line_parts::MessageType;
-use crate::line_parts::Number32;
-use crate::refusal::Refusal;
+use line_forms::line::Line;
+use lines::line_parts::MessageType;
+use lines::line_parts::Number32;
+use refusals::refusal::Refusal;
 ghost use mathlib.Core.Path.{_≡_};
 ghost use Prim.Native.Nat.{_≤_, _<_};
 ghost use Rattle.texts.specs.DictionaryOrder.{taken, refused, notAllowed, openedBlock, closedBlock, usedIn, isNumber, isLetters, defStep, valueStep, openBlock, closeBlock, fieldStep, openGroup, groupStep, useStep, closeGroup, endStep, stepOf};

@@ -12,7 +12,7 @@ use Prim.Native.Nat.{ℕ, _+_, _*_}
 use mathlib.Core.List.{List, _++_}
 use lib.ListN.{length, drop}
 use Rattle.ascii.specs.Notation.{_≤ᵇ_, if_then_else_}
-use Rattle.texts.specs.declared.refusal.Refusal.the-variants.{UnknownForm, RuleBroken, BadField, SpaceShort}
+use Rattle.refusals.specs.declared.refusal.Refusal.the-variants.{UnknownForm, RuleBroken, BadField, SpaceShort}
 use Rattle.dictionary.specs.DictionaryCheck.{isDictionary}
 use Rattle.layouts.specs.Limits.{gateLimits}
 use Rattle.layouts.specs.LayoutWords.{levelRequired, levelCountTags}

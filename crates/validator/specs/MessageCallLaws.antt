@@ -6,7 +6,7 @@ use mathlib.Core.List.{List, [], _++_}
 use native.Mathlib.Omega.{arith}
 use lib.ListN.{length, drop, length-append}
 use borrow.Author.Tests.{le-leb, lt-leb}
-use Rattle.texts.specs.declared.refusal.Refusal.the-variants.{UnknownForm, RuleBroken, BadField, SpaceShort}
+use Rattle.refusals.specs.declared.refusal.Refusal.the-variants.{UnknownForm, RuleBroken, BadField, SpaceShort}
 use Rattle.dictionary.specs.DictionaryCheck.{isDictionary}
 use Rattle.dictionary.specs.DefinedTags.{definedTags}
 use Rattle.dictionary.specs.DefinedTagsLaws.{definedTags-ascend}

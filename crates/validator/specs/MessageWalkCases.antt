@@ -14,13 +14,13 @@ use Rattle.ascii.specs.Digits.{isDigits, decimalFrom}
 use Rattle.counts.specs.Count.{countOf}
 use Rattle.sorting.specs.Sort.{isIn, inserted, sorted}
 use Rattle.sorting.specs.Search.{isStrictlyAbove, isStrictlyAscending, rankFrom, rankIn}
-use Rattle.texts.specs.declared.refusal.Refusal.the-variants.{UnknownForm, RuleBroken, BadField, SpaceShort}
-use Rattle.texts.specs.declared.line.Line.{Line}
-use Rattle.texts.specs.declared.line.Line.the-variants as line
-use Rattle.texts.specs.declared.line.Line.the-variants.{Def, Value, BeginHeader, BeginTrailer, EndHeader, EndTrailer, Message, Group, End}
-use Rattle.texts.specs.declared.line_parts.Number32.the-variants.{Number, NoNumber}
-use Rattle.texts.specs.declared.line_parts.MessageType.the-variants.{Letters}
-use Rattle.texts.specs.LineParts.{noLeadingZero, numberOf, isAlphanumeric}
+use Rattle.refusals.specs.declared.refusal.Refusal.the-variants.{UnknownForm, RuleBroken, BadField, SpaceShort}
+use Rattle.line_forms.specs.declared.line.Line.{Line}
+use Rattle.line_forms.specs.declared.line.Line.the-variants as line
+use Rattle.line_forms.specs.declared.line.Line.the-variants.{Def, Value, BeginHeader, BeginTrailer, EndHeader, EndTrailer, Message, Group, End}
+use Rattle.lines.specs.declared.line_parts.Number32.the-variants.{Number, NoNumber}
+use Rattle.lines.specs.declared.line_parts.MessageType.the-variants.{Letters}
+use Rattle.lines.specs.LineParts.{noLeadingZero, numberOf, isAlphanumeric}
 use Rattle.texts.specs.DictionaryOrder.{stepOf}
 use Rattle.records.specs.Records.{holdsByte, holdsPart, lettersLength, lettersText, holdsLetters, holdsValue, recordOf, isUnused, outerFrom, bodyFrom, lineFrom, linesFrom}
 use Rattle.records.specs.LineTexts.{digitCount, lengthOf}

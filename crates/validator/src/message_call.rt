@@ -7,7 +7,7 @@ use dictionary::dictionary_check::is_dictionary;
 use layouts::layout_check::is_layout;
 use layouts::layout_words::count_tags_at;
 use layouts::layout_words::required_at;
-use texts::refusal::Refusal;
+use refusals::refusal::Refusal;
 use walk::group_steps::row_count;
 use walk_memory::field_table::TableCheck;
 use walk_memory::field_table::check_field_table;

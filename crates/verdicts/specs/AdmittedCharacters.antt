@@ -19,7 +19,7 @@ use Rattle.field_types.specs.declared.field_type.FieldType.{FieldType}
 use Rattle.unicode.specs.Characters.{nothingExpected, expectedAfter, leadsFrom, leads}
 use Rattle.unicode.specs.CharactersLaws.{expectedAfter-below, continues-none, leadsFrom-begins}
 use Rattle.multi_values.specs.MultiValueOrder.{leadsOfParts, split-leads}
-use Rattle.texts.specs.LineParts.{isVisible, valueOf}
+use Rattle.lines.specs.LineParts.{isVisible, valueOf}
 use Rattle.dictionary.specs.Definitions.{admitsValue}
 use Rattle.verdicts.specs.Verdict.{admitsEach, isAdmitted}
 

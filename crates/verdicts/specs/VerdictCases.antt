@@ -21,10 +21,10 @@ use Rattle.field_types.specs.FieldType.{typeNumbered}
 use Rattle.formats.specs.FieldValue.{isOfFormat, isInRanges}
 use Rattle.sorting.specs.Sort.{inserted, sorted}
 use Rattle.sorting.specs.Search.{isStrictlyAbove, isStrictlyAscending, rankFrom, rankIn}
-use Rattle.texts.specs.declared.line.Line.{Line}
-use Rattle.texts.specs.declared.line.Line.the-variants.{Def, Value, BeginHeader, EndHeader, BeginTrailer, EndTrailer}
-use Rattle.texts.specs.declared.refusal.Refusal.the-variants.{UnknownForm, BadField, SpaceShort}
-use Rattle.texts.specs.LineParts.{wordAt, admittedBytes, valueOf}
+use Rattle.line_forms.specs.declared.line.Line.{Line}
+use Rattle.line_forms.specs.declared.line.Line.the-variants.{Def, Value, BeginHeader, EndHeader, BeginTrailer, EndTrailer}
+use Rattle.refusals.specs.declared.refusal.Refusal.the-variants.{UnknownForm, BadField, SpaceShort}
+use Rattle.lines.specs.LineParts.{wordAt, admittedBytes, valueOf}
 use Rattle.texts.specs.DictionaryOrder.{stepOf}
 use Rattle.records.specs.Records.{holdsByte, holdsPart, holdsValue, recordOf, isUnused, outerFrom, bodyFrom, lineFrom, linesFrom}
 use Rattle.records.specs.LineTexts.{digitCount, lengthOf}

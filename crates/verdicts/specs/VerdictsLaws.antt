@@ -8,7 +8,7 @@ use native.Mathlib.Numerals.{add-one}
 use lib.ListN.{length, getD, set, length-set}
 use lib.Seq.{sets, sets-eq, getD-set-other}
 use borrow.Author.Tests.{le-leb, lt-leb}
-use Rattle.texts.specs.declared.refusal.Refusal.the-variants.{UnknownForm, BadField, SpaceShort}
+use Rattle.refusals.specs.declared.refusal.Refusal.the-variants.{UnknownForm, BadField, SpaceShort}
 use Rattle.dictionary.specs.DictionaryCheck.{isDictionary}
 use Rattle.walk_memory.specs.declared.field_table.TableCheck.the-variants as table
 use Rattle.walk_memory.specs.FieldTable.{rowCount, tableCheckOf, fieldsOf}

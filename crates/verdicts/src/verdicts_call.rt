@@ -4,7 +4,7 @@ use crate::verdict::check_value;
 use crate::verdict::record_of;
 use crate::verdict::verdict_word;
 use dictionary::dictionary_check::is_dictionary;
-use texts::refusal::Refusal;
+use refusals::refusal::Refusal;
 use walk_memory::field_table::TableCheck;
 use walk_memory::field_table::check_field_table;
 use walk_memory::field_table::first_at;

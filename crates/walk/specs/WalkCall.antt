@@ -12,7 +12,7 @@ use mathlib.Core.Option.{Option, none, some}
 use mathlib.Core.List.{List, _++_}
 use lib.ListN.{length, drop}
 use Rattle.ascii.specs.Notation.{_≤ᵇ_, if_then_else_}
-use Rattle.texts.specs.declared.refusal.Refusal.the-variants.{RuleBroken, BadField, SpaceShort, NoSuchGroup}
+use Rattle.refusals.specs.declared.refusal.Refusal.the-variants.{RuleBroken, BadField, SpaceShort, NoSuchGroup}
 use Rattle.layouts.specs.Limits.{gateLimits}
 use Rattle.layouts.specs.LayoutCheck.{isLayout}
 use Rattle.walk_memory.specs.declared.field_table.TableCheck.{TableCheck}

@@ -9,7 +9,7 @@ use lib.ListN.{length}
 use borrow.Author.Tests.{le-leb, lt-leb}
 use Rattle.sorting.specs.declared.search.Found.{Found}
 use Rattle.sorting.specs.declared.search.Found.the-variants.{At, Nothing}
-use Rattle.texts.specs.declared.refusal.Refusal.the-variants.{RuleBroken, BadField, SpaceShort, NoSuchGroup}
+use Rattle.refusals.specs.declared.refusal.Refusal.the-variants.{RuleBroken, BadField, SpaceShort, NoSuchGroup}
 use Rattle.layouts.specs.Limits.{gateLimits}
 use Rattle.layouts.specs.LayoutCheck.{isLayout}
 use Rattle.layouts.specs.LayoutCheckFacts.{Passed}

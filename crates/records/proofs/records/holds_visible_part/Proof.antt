@@ -4,7 +4,7 @@
 use mathlib.Core.Path.{sym, _∙_}
 use native.Mathlib.Omega.{arith}
 use borrow.Author.Tests.{not-true, not-false}
-use Rattle.texts.specs.LineParts.{isVisible}
+use Rattle.lines.specs.LineParts.{isVisible}
 use Rattle.records.specs.WordTextLaws.{part-empty, part-other-first, part-other-second, part-of-two, part-other-third, part-of-three, part-of-four}
 use borrow.Author.Needs.{needs}
 use Rattle.records.proofs.records.holds_visible_part.Statement.{statement}

@@ -5,7 +5,7 @@ use mathlib.Core.Bool.{true, false}
 use lib.ListN.{getD, drop}
 use borrow.Author.Tests.{le-leb, lt-leb}
 use Rattle.ascii.specs.BytesLaws.{part-to-end}
-use Rattle.texts.specs.declared.line.Line.the-variants.{Value}
+use Rattle.line_forms.specs.declared.line.Line.the-variants.{Value}
 use Rattle.records.specs.Records.{holdsValue}
 use borrow.Author.Needs.{needs}
 use Rattle.records.proofs.records.value_from.Statement.{statement}

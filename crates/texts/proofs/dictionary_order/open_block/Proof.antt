@@ -2,7 +2,7 @@
 -- `texts::dictionary_order::open_block` meets its contract, a test at a time.
 use mathlib.Core.Path.{ap, _∙_}
 use Rattle.ascii.specs.NotationLaws.{isBetween-below}
-use Rattle.texts.specs.LinePartsLaws.{isBetween-above, isBetween-inside}
+use Rattle.lines.specs.LinePartsLaws.{isBetween-above, isBetween-inside}
 use Rattle.texts.specs.DictionaryOrder.{taken}
 use borrow.Author.Needs.{needs}
 use Rattle.texts.proofs.dictionary_order.open_block.Statement.{statement}

@@ -1,0 +1,2 @@
+// The forms of the lines of dictionary and layout texts.
+pub mod line;
