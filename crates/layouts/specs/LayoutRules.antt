@@ -1,7 +1,7 @@
 -- The seven rules of a layout (document 01, 'The layout of a message type'): "For a group: 1 members strictly ascending; 2 delimiter a
 -- member; 3 nested count tags strictly ascending; 4 each a member. For the top: 5 groups strictly ascending; 6 members strictly ascending;
--- 7 each group's count tag a member." Rules 1 to 4 are those of `GroupSpec::with_level_tags` (group.rs), 5 to 7 those of
--- `MessageLayout::new`. Assumes nothing.
+-- 7 each group's count tag a member." Rules 1 to 4 are those of `GroupSpec::new` (group.rs), 5 to 7 those of
+-- `GroupSet::with_level_tags`. Assumes nothing.
 --
 --   isAscending tags           each tag is greater than the one before (`isStrictlyAscending` of the crate sorting)
 --   tag ∈ᵇ tags                the tag is one of the tags (`isIn` of the crate sorting)

@@ -1,4 +1,5 @@
--- Examples of `isMultiValueList`, by computation. Starred in document 01, 'The verdict on a value': `A B` good, with two spaces bad. Assumes nothing.
+-- Examples of `isMultiValueList`, by computation. Two of them are document 01's ('The verdict on a value'): `A B` good, which is not
+-- starred there, and the same with two spaces between bad, which is. Assumes nothing.
 use mathlib.Core.Path.{_≡_, refl}
 use mathlib.Core.Bool.{true, false}
 use mathlib.Core.List.{[], _∷_}
