@@ -53,7 +53,8 @@ list() {
 for message in new-order-single allocation-instruction market-data-snapshot; do
     list "fix44/$message" "fix44/$message"
 done
-for message in whole allocation-lost fields-out-of-entry count-lies nested-count-lies; do
+for message in whole allocation-lost fields-out-of-entry count-lies nested-count-lies \
+    parties-in-another-entry quantity-missing allocation-named-twice; do
     list block-order/block-order "block-order/$message"
 done
 

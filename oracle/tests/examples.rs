@@ -113,4 +113,8 @@ fn the_block_order_is_whole_or_says_what_is_lost() {
     );
     assert_eq!(faults("count-lies"), [[MISCOUNT, 78, 0, 2, 3]]);
     assert_eq!(faults("nested-count-lies"), [[MISCOUNT, 539, 1, 2, 1]]);
+    // what a walk does not see
+    assert!(faults("parties-in-another-entry").is_empty());
+    assert!(faults("quantity-missing").is_empty());
+    assert!(faults("allocation-named-twice").is_empty());
 }
