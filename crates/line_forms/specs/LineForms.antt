@@ -5,8 +5,8 @@
 --   `message=T,app` or `message=T,admin` .. `end=T` blocks.
 --   A body holds `field=TAG,R` lines, then `group=COUNT,DELIMITER,R` .. `end=COUNT` blocks, then `use=N,R` lines."
 -- and a layout text "has per level `member=TAG` lines, `required=TAG` lines, then group blocks as above".
--- A form is told from the line alone; which forms a kind of text knows is said where its lines are put in order (`DictionaryOrder.antt`,
--- `LayoutText.antt`). An `end` line may name a component, a group and a message at once: it carries its name as a number and as a message type. Assumes nothing.
+-- A form is told from the line alone; which forms a kind of text knows is said where its lines are put in order (`DictionaryOrder.antt` of
+-- texts, `LayoutText.antt` of layout_text). An `end` line may name a component, a group and a message at once: it carries its name as a number and as a message type. Assumes nothing.
 --
 --   lineOf bytes   the form of a line, given without its line feed
 use Prim.Native.Nat.{ℕ}
