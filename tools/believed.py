@@ -47,8 +47,7 @@ class File:
     def __init__(self, path):
         self.path, self.declared, self.scope, self.aliases = path, {}, {}, {}
         self.lines = open(path).read().split("\n")
-        self.uses = [line for line in self.lines if line.startswith("use ")]
-        self.imports = read_uses("\n".join(self.uses))
+        self.imports = read_uses("\n".join(self.lines))
         self.read(0, len(self.lines), 0, "", "")
 
     def indent(self, index):
@@ -159,14 +158,17 @@ def without_comments(lines):
 
 
 def read_uses(text):
-    """The `use` lines of a text: (module, names with what they are called here, or an alias)."""
+    """The `use` and `ghost use` lines of a text: each module, the names with what they are called here, and the alias."""
     found = []
-    for line in text.split("\n"):
-        match = re.match(r"\s*(?:ghost )?use ([^\s{};]+?)(?:\.\{(.*?)\})?(?: as (\S+?))?;?\s*$", line)
-        if match:
-            names = [part.strip().split(" as ") for part in (match.group(2) or "").split(",") if part.strip()]
-            found.append((match.group(1), [(part[0].strip(), part[-1].strip()) for part in names], match.group(3)))
+    for module, held, alias in re.findall(r"^(?:ghost )?use ([^\s{};]+?)(?:\.\{([^}]*)\})?(?: as (\S+?))?;?[ ]*$", text, re.M):
+        names = [part.split(" as ") for part in held.split(",") if part.strip()]
+        found.append((module, [(part[0].strip(), part[-1].strip()) for part in names], alias))
     return found
+
+
+def spec_uses(text):
+    """Those `use` lines of a source or proof file that name a module of some specs/ or of the kit."""
+    return [use for use in read_uses(text) if "::" not in use[0] and "·proofs" not in use[0] and ".proofs" not in use[0]]
 
 
 def tokens(text):
@@ -273,16 +275,10 @@ class Repository:
 
     def types_in(self, text, path):
         """The types of src/ that a piece of a source file names."""
-        source = open(path).read()
-        crate_source = re.match(r".*/crates/\w+/src/", path).group(0)
-        imported = {}
-        for line in re.findall(r"^(?:pub )?use ([\w:]+);", source, re.M):
-            *where, name = line.split("::")
-            folder = crate_source if where[0] == "crate" else f"{ROOT}/crates/{where[0]}/src/"
-            imported[name] = folder + ("/".join(where[1:]) or "lib") + ".rt"
+        imported = source_uses(path)
         found = []
         for name in re.findall(r"\b[A-Z]\w*", text):
-            place = imported.get(name, path)
+            place, name = imported.get(name, (path, name))
             if os.path.isfile(place) and re.search(rf"(struct|enum) {name}\b", open(place).read()):
                 found.append(self.type(place, name))
         return found
@@ -302,6 +298,16 @@ def bound_in(made, text):
             names |= set(tokens(clause.group(1))[1:])
     scope = made.file.scope
     return {name for name in names & set(scope) if isinstance(scope[name], Declaration) and name == scope[name].name and scope[name].kind in ("definition", "law")}
+
+
+def source_uses(path):
+    """What the `use` lines of a source file bring: a name here, with the file and the name there."""
+    own, brought = re.match(r".*/crates/\w+/src/", path).group(0), {}
+    for line, alias in re.findall(r"^(?:pub )?use ([\w:]+)(?: as (\w+))?;", open(path).read(), re.M):
+        *where, name = line.split("::")
+        folder = own if where[0] == "crate" else f"{ROOT}/crates/{where[0]}/src/"
+        brought[alias or name] = (folder + ("/".join(where[1:]) or "lib") + ".rt", name)
+    return brought
 
 
 def functions(path):
@@ -352,7 +358,7 @@ def roots(repository):
         text = open(path).read()
         for name, exported, signature, contract, _ in functions(path):
             if exported or (name in CALLS and contract and f"pub fn {name}" in text):
-                scope, aliases = repository.scope_of(read_uses("\n".join(re.findall(r"^ghost use .*$", text, re.M))))
+                scope, aliases = repository.scope_of(spec_uses(text))
                 found = repository.named(contract, scope, aliases) + repository.types_in(signature, path)
                 started.append((f"`{name}`", "call", found))
     named = set()
@@ -437,15 +443,17 @@ def why(repository, name):
             print(" <- ".join(step if isinstance(step, str) else f"{step.name} ({'/'.join(crate_and_file(step))})" for step in way))
 
 
+def pages():
+    """README and docs/, without the list that this script writes."""
+    texts = [open(path).read() for path in [f"{ROOT}/README.md", *sorted(glob.glob(f"{ROOT}/docs/*.md"))]]
+    return re.sub(re.escape(BEGIN) + ".*?" + re.escape(END), "", "\n".join(texts), flags=re.S)
+
+
 def uncalled():
     """The functions that are called neither by a `main` nor by an exported function, nor by what these call. A method is known by its name alone."""
     bodies, places, left = {}, {}, []
     for path in sources():
-        source = re.match(r".*/crates/\w+/src/", path).group(0)
-        imported = {}
-        for line in re.findall(r"^(?:pub )?use ([\w:]+);", open(path).read(), re.M):
-            *where, name = line.split("::")
-            imported[name] = (source if where[0] == "crate" else f"{ROOT}/crates/{where[0]}/src/") + ("/".join(where[1:]) or "lib") + ".rt"
+        imported = source_uses(path)
         for name, exported, _, _, body in functions(path):
             bodies[path, name] = (body, imported)
             places.setdefault(name, []).append((path, name))
@@ -455,8 +463,9 @@ def uncalled():
     while left:
         path, name = left.pop()
         body, imported = bodies[path, name]
-        for called in set(re.findall(r"\b(\w+)\s*\(", body)):
-            here = [(path, called), (imported.get(called), called)]
+        for where, called in set(re.findall(r"\b((?:\w+::)*)(\w+)\s*\(", body)):
+            crate, *parts = where.split("::")
+            here = [(f"{ROOT}/crates/{crate}/src/{'/'.join(parts[:-1]) or 'lib'}.rt", called)] if where else [(path, called), imported.get(called)]
             found = [place for place in here if place in bodies] or places.get(called, [])
             left += [place for place in found if place not in live]
             live |= set(found)
@@ -464,18 +473,16 @@ def uncalled():
 
 
 def unused(repository):
-    """Says what nothing uses: no contract, no proof, no theorem of the page, no case, and nothing that one of these uses."""
+    """Says what nothing uses: no contract, no proof, no case, no page, and nothing that one of these uses."""
     started = [made for _, _, found in roots(repository) for made in found]
     for path in sources() + glob.glob(f"{ROOT}/crates/*/proofs/**/*.antt", recursive=True):
         text = open(path).read()
-        ghost = re.findall(r"^(?:ghost )?use (?=Rattle·).*$" if path.endswith(".antt") else r"^ghost use .*$", text, re.M)
-        uses = [line if line.startswith(("use", "ghost")) else "use " + line for line in ghost]
-        scope, aliases = repository.scope_of([use for use in read_uses("\n".join(uses)) if "·proofs" not in use[0]])
-        body = "\n".join(without_comments([line for line in text.split("\n") if not line.startswith(("use ", "ghost use "))]))
+        scope, aliases = repository.scope_of(spec_uses(text))
+        body = re.sub(r"^(ghost )?use [^{;\n]*(\{[^}]*\})?.*$", "", "\n".join(without_comments(text.split("\n"))), flags=re.M)
         started += repository.named(body, scope, aliases)
+    told = pages()
     for path, file in repository.files.items():
-        if path.endswith("Cases.antt"):
-            started += [made for made in file.declared.values() if made.is_law()]
+        started += [made for made in file.declared.values() if made.is_law() and (path.endswith("Cases.antt") or f"`{made.name}`" in told)]
     live, left = set(), [made for made in started if not isinstance(made, tuple)]
     while left:
         made = left.pop()
@@ -494,14 +501,13 @@ def unused(repository):
                 if other not in served or end not in served[other]:
                     served.setdefault(other, set()).add(end)
                     left.append(other)
-    page = open(PAGE).read()
-    print("== Used by no contract, no proof, no theorem that docs/PROOFS.md names, no case, nor by what these use")
+    print("== Used by no contract, no proof, no case, no law that a page names, nor by what these use")
     print("   (first what nothing mentions at all, then what serves only such a law)")
     for made in sorted(ends, key=lambda made: (made.file.path, made.lines)):
         crate, path = crate_and_file(made)
-        told = "; docs/PROOFS.md names the file" if os.path.basename(path) in page else ""
+        named = "; a page names the file" if os.path.basename(path) in told else ""
         helpers = sum(1 for found in served.values() if found == {made})
-        print(f"{crate}/{path}:{made.lines[0] + 1} {made.kind} {made.name}" + (f"; {helpers} declarations serve it alone" if helpers else "") + told)
+        print(f"{crate}/{path}:{made.lines[0] + 1} {made.kind} {made.name}" + (f"; {helpers} declarations serve it alone" if helpers else "") + named)
     print()
     for made in sorted((made for made in served if not made.is_law()), key=lambda made: (made.file.path, made.lines)):
         print(f"{'/'.join(crate_and_file(made))}:{made.lines[0] + 1} {made.kind} {made.name}, only for {' '.join(sorted(end.name for end in served[made]))}")
