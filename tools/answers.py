@@ -553,12 +553,13 @@ def committed(crate, function):
 
 def check(crates):
     """Says which proof files are not what their templates give, and how many there are."""
-    crates = crates or sorted(os.listdir(f"{ROOT}/crates"))
-    faults, texts = [], {}
+    crates = crates or sorted({*os.listdir(f"{ROOT}/crates"), *os.listdir(f"{ROOT}/tools/answers")})
+    faults, texts, count = [], {}, 0
     for crate in crates:
         folder = f"{ROOT}/crates/{crate}/proofs/"
         proofs = {path[len(folder):-len("/Proof.antt")] for path in glob.glob(folder + "**/Proof.antt", recursive=True)}
         for function in sorted(proofs | set(templates(crate))):
+            count += 1
             if function not in proofs:
                 faults.append(f"crates/{crate}/proofs/{function}: the template has no proof file")
             elif function not in templates(crate):
@@ -583,7 +584,7 @@ def check(crates):
                 made, stored = (open(f"{top}/{path}").read().split("\n") for top in (root, ROOT))
                 line = next((i for i, pair in enumerate(zip(made, stored)) if pair[0] != pair[1]), min(len(made), len(stored)))
                 faults.append(f"{os.path.dirname(path)}: line {line + 1} is not what the template gives")
-    print("\n".join(sorted(faults) + [f"{len(texts)} proof files compared with their templates, {len(faults)} differ"]))
+    print("\n".join(sorted(faults) + [f"{count} proof files compared with their templates, {len(faults)} differ"]))
     return 1 if faults else 0
 
 
