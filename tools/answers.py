@@ -3,6 +3,7 @@
 
     tools/answers.py CRATE [FUNCTION ..]     write crates/CRATE/proofs/FUNCTION/Proof.antt from tools/answers/CRATE/FUNCTION.answers
     tools/answers.py --things CRATE FUNCTION what is known at each need: the names that @ may stand before
+    tools/answers.py --check [CRATE ..]      compare the proof files with their templates, of every crate or of these
 
 FUNCTION is the path below proofs/, as count/parse_count; without one, every template of the crate is written.
 
@@ -21,64 +22,134 @@ A line `def NAME = ..` names a piece of text; `$NAME` stands for it in clauses, 
 Functions that call each other are proved in one file, in the folder +a+b, from the one template +a+b.answers. There a clause's name begins
 with its function's, as walk-group-returns, and a measure's is μ-walk-group. For functions that differ in little, {x,y} in a clause stands for
 x in the one copy and for y in the other: `scan-{entry,wide}-returns = ..{8,128}..` is two clauses.
+
+What a function is to answer is asked of `rt dev`, over a copy of the crate from which the proofs wanted are left out: no file of the
+repository is moved, and a proof file is replaced whole or not at all.
+
+--check asks nothing of the prover and takes seconds, so that the gate can run it. It takes from each proof file what the prover has
+checked there (the needs and their order, the variables, the closing term, how many `.before` lead to a thing), makes the file anew
+from its template, formats it, and compares the two. It finds a proof file edited by hand, a template edited or added without its proof,
+a proof without a template, a clause for a need that is not there, and a comment that quotes no line of the source. It does not find
+a path with another number of `.before` that the prover takes too, nor a comment that quotes another line of the source; for these, write
+the crate's proofs again and look at `git diff`.
 """
+import contextlib
 import glob
 import hashlib
 import os
 import re
+import shutil
 import subprocess
 import sys
+import tempfile
 
 ROOT = os.path.dirname(os.path.dirname(os.path.abspath(__file__)))
 CACHE = os.path.join(ROOT, "target", "answers")
 
 
-def run(*words):
+def run(root, *words):
+    """What rt prints, and its exit status: 1 also where a crate is not proved, which a missing proof makes so."""
     env = dict(os.environ, RT_CUT="0")
-    done = subprocess.run(["rt", *words], cwd=ROOT, env=env, capture_output=True, text=True)
-    return done.stdout + done.stderr
+    done = subprocess.run(["rt", *words], cwd=root, env=env, stdin=subprocess.DEVNULL, capture_output=True, text=True)
+    return done.stdout + done.stderr, done.returncode
+
+
+def give_up(what, printed, status):
+    told = [line for line in printed.split("\n") if re.match(r"fn |rt: |rattle: ", line) or "error" in line]
+    sys.exit(f"{what} (rt's exit status is {status}):\n" + "\n".join(told[:20] or printed.split("\n")[-20:]))
+
+
+def below(crate):
+    """The crate and all that it depends on, by crates.txt."""
+    listed = {}
+    for line in open(f"{ROOT}/crates.txt"):
+        name, found, rest = line.split("#")[0].partition(":")
+        if found:
+            listed[name.strip()] = rest.split()
+    reached, left = set(), [crate]
+    while left:
+        name = left.pop()
+        if name in listed and name not in reached:
+            reached.add(name)
+            left += listed[name]
+    return reached
 
 
 def source_key(crate):
-    digest = hashlib.sha256()
-    for path in sorted(glob.glob(f"{ROOT}/crates/*/src/**/*.rt", recursive=True)):
-        digest.update(path.encode() + open(path, "rb").read())
+    digest = hashlib.sha256(subprocess.run(["rt", "version"], capture_output=True).stdout)
+    for name in sorted(below(crate)):
+        for path in sorted(glob.glob(f"{ROOT}/crates/{name}/src/**/*.rt", recursive=True)):
+            digest.update(os.path.relpath(path, ROOT).encode() + open(path, "rb").read())
     return digest.hexdigest()[:16] + "-" + crate
 
 
+def put_text(path, text):
+    """Writes a file whole or not at all."""
+    os.makedirs(os.path.dirname(path), exist_ok=True)
+    with tempfile.NamedTemporaryFile("w", dir=os.path.dirname(path), prefix=".answers-", delete=False) as file:
+        file.write(text)
+    os.chmod(file.name, 0o644)
+    os.replace(file.name, path)
+
+
+@contextlib.contextmanager
+def repository_without(crate, functions):
+    """A repository beside this one, over the same target/: a copy of the crate without the proofs of these functions, and links to all else."""
+    with tempfile.TemporaryDirectory(prefix="answers-") as root:
+        os.makedirs(f"{ROOT}/target", exist_ok=True)
+        os.makedirs(f"{root}/crates")
+        os.symlink(f"{ROOT}/target", f"{root}/target")
+        shutil.copy(f"{ROOT}/crates.txt", root)
+        for name in os.listdir(f"{ROOT}/crates"):
+            if name != crate:
+                os.symlink(f"{ROOT}/crates/{name}", f"{root}/crates/{name}")
+        for part in ("src", "specs", "proofs"):
+            if os.path.isdir(f"{ROOT}/crates/{crate}/{part}"):
+                shutil.copytree(f"{ROOT}/crates/{crate}/{part}", f"{root}/crates/{crate}/{part}")
+        for function in functions:
+            with contextlib.suppress(FileNotFoundError):
+                os.remove(f"{root}/crates/{crate}/proofs/{function}/Proof.antt")
+        yield root
+
+
 def collect(crate, functions):
-    """For all of the functions whose skeleton and records are not at hand: a check with their proofs aside prints the one and writes the other."""
+    """For all of the functions whose skeleton and records are not at hand: a check without their proofs prints the one and writes the other.
+    Of a function that calls one without a proof nothing may be printed: then the next round has what this one gave."""
     folder = f"{CACHE}/{source_key(crate)}/"
     wanted = [function for function in functions if not os.path.exists(folder + function + "/skeleton")]
-    if not wanted:
-        return
-    proofs = [f"{ROOT}/crates/{crate}/proofs/{function}/Proof.antt" for function in wanted]
-    aside = [proof for proof in proofs if os.path.exists(proof)]
-    for proof in aside:
-        os.rename(proof, proof + ".aside")
-    generated = f"{ROOT}/target/generated"
-    try:
-        lines = run("dev", crate).split("\n")
-        run("dev", crate, "--generated", generated)
-    finally:
-        for proof in aside:
-            os.rename(proof + ".aside", proof)
-    for function in wanted:
-        start = [i for i, line in enumerate(lines) if line.startswith("help: write ") and f"/proofs/{function}/Proof.antt " in line]
-        found = glob.glob(f"{generated}/Rattle.{crate}.proofs/proofs/{glob.escape(function)}/Lts*.antt")
-        if not start or not found:
-            told = [line for line in lines if line.startswith("fn ") or "error" in line]
-            sys.exit(f"no skeleton is printed for {function}:\n" + "\n".join(told[:20]))
-        skeleton = []
-        for line in lines[start[0] + 1:]:
-            if line.startswith("    ") or not line.strip():
-                skeleton.append(line[4:])
-            else:
-                break
-        os.makedirs(folder + function, exist_ok=True)
-        for path in found:
-            open(folder + function + "/" + os.path.basename(path), "w").write(open(path).read())
-        open(folder + function + "/skeleton", "w").write("\n".join(skeleton).strip() + "\n")
+    while wanted:
+        with repository_without(crate, wanted) as root:
+            generated = f"{root}/generated"
+            printed, status = run(root, "dev", crate)
+            if status not in (0, 1) or not re.search(r"^logic=", printed, re.M):
+                give_up(f"{crate} is not checked", printed, status)
+            told, ended = run(root, "dev", crate, "--generated", generated)
+            if ended not in (0, 1) or not re.search(r"^generated=", told, re.M):
+                give_up(f"the records of {crate} are not written", told, ended)
+            given = [function for function in wanted if keep(folder + function, crate, function, printed.split("\n"), generated)]
+        if not given:
+            give_up(f"no skeleton is printed for {' '.join(wanted)}", printed, status)
+        wanted = [function for function in wanted if function not in given]
+        for function in given if wanted else []:
+            write(crate, function)
+
+
+def keep(folder, crate, function, lines, generated):
+    """Puts what a check printed and wrote of a function into the folder, if it did."""
+    start = [i for i, line in enumerate(lines) if line.startswith("help: write ") and f"/proofs/{function}/Proof.antt " in line]
+    found = glob.glob(f"{generated}/Rattle.{crate}.proofs/proofs/{glob.escape(function)}/Lts*.antt")
+    if not start or not found:
+        return False
+    skeleton = []
+    for line in lines[start[0] + 1:]:
+        if line.startswith("    ") or not line.strip():
+            skeleton.append(line[4:])
+        else:
+            break
+    for path in found:
+        put_text(folder + "/" + os.path.basename(path), open(path).read())
+    put_text(folder + "/skeleton", "\n".join(skeleton).strip() + "\n")
+    return True
 
 
 def skeleton_and_records(crate, function):
@@ -204,18 +275,22 @@ def expand(text, known, where):
     return re.sub(r"@([^\s().,;]+)", path, text)
 
 
-def write_cycle(crate, function):
-    """The proof of functions that call each other. What a function reads of those that it calls is named once, as NAME-claims."""
-    template = f"{ROOT}/tools/answers/{crate}/{function}.answers"
-    head, uses, clauses, _ = read_template(template)
-    skeleton, known = skeleton_and_records(crate, function)
+def name_claims(skeleton):
+    """What a function of a cycle reads of those that it calls is named once, as NAME-claims: the skeleton with these names, and what they stand for."""
     claims = {}
 
     def claimed(match):
         claims.setdefault(match.group(2), " ".join(match.group(4).split()).rstrip(","))
         return f"{match.group(1)}{match.group(2)}-lts.{match.group(3)} ({match.group(2)}-claims t)"
 
-    skeleton = re.sub(r"(^|[\s(])(\S+)-lts\.(Need-\S+|spec) \(\n(.*?)\n\s*\)(?=\s)", claimed, skeleton, flags=re.S | re.M)
+    return re.sub(r"(^|[\s(])(\S+)-lts\.(Need-\S+|spec) \(\n(.*?)\n\s*\)(?=\s)", claimed, skeleton, flags=re.S | re.M), claims
+
+
+def cycle_text(crate, function, skeleton, known, claims):
+    """The proof of functions that call each other."""
+    template = f"{ROOT}/tools/answers/{crate}/{function}.answers"
+    head, uses, clauses, _ = read_template(template)
+    claims = dict(claims)
     source, out, unused, comment, last_comment = {}, [], set(clauses), None, None
     for block in re.split(r"\n\n+", skeleton.strip()):
         lines = block.split("\n")
@@ -260,15 +335,15 @@ def write_cycle(crate, function):
         match = re.match(r"use \S+ as (\S+)$", line)
         if line.startswith("use ") and (not match or re.search(r"(?<![\w-])" + re.escape(match.group(1)) + r"\.", text)):
             imports.append(line)
-    put_file(crate, function, head, imports, text)
+    return file_text(crate, function, head, imports, text)
 
 
-def put_file(crate, function, head, imports, text):
-    first = f"-- Generated by tools/answers.py from tools/answers/{crate}/{function}.answers; edit that."
-    proof = f"{ROOT}/crates/{crate}/proofs/{function}/Proof.antt"
-    os.makedirs(os.path.dirname(proof), exist_ok=True)
-    open(proof, "w").write("\n".join([first, *head, *imports]) + "\n\n" + text)
-    print("wrote", os.path.relpath(proof, ROOT))
+def first_line(crate, function):
+    return f"-- Generated by tools/answers.py from tools/answers/{crate}/{function}.answers; edit that."
+
+
+def file_text(crate, function, head, imports, text):
+    return "\n".join([first_line(crate, function), *head, *imports]) + "\n\n" + text
 
 
 def left_side(line):
@@ -276,10 +351,10 @@ def left_side(line):
     return re.split(r" =(?: |$)", line, maxsplit=1)[0]
 
 
-def write(crate, function):
+def plain_text(crate, function, skeleton, known):
+    """The proof of a function that is in no cycle of calls."""
     template = f"{ROOT}/tools/answers/{crate}/{function}.answers"
     head, uses, clauses, facts = read_template(template)
-    skeleton, known = skeleton_and_records(crate, function)
     source = {}
     out, cited, last_comment = [], set(), None
     places = re.search(r"^\S+ : tie\.Need-\S+(.*)$", skeleton, re.M)
@@ -350,7 +425,172 @@ def write(crate, function):
         match = re.match(r"use \S+ as (\S+)$", line)
         if match and match.group(1) != "tie" and re.search(r"(?<![\w-])" + re.escape(match.group(1)) + r"\.", text):
             imports.append(line)
-    put_file(crate, function, head, imports, text)
+    return file_text(crate, function, head, imports, text)
+
+
+def is_cycle(function):
+    return function.split("/")[-1].startswith("+")
+
+
+def write(crate, function):
+    skeleton, known = skeleton_and_records(crate, function)
+    if is_cycle(function):
+        skeleton, claims = name_claims(skeleton)
+        text = cycle_text(crate, function, skeleton, known, claims)
+    else:
+        text = plain_text(crate, function, skeleton, known)
+    proof = f"{ROOT}/crates/{crate}/proofs/{function}/Proof.antt"
+    put_text(proof, text)
+    print("wrote", os.path.relpath(proof, ROOT))
+
+
+def squeezed(text):
+    """The text without spaces, and without the comma that `rt fmt` puts after the last part of a pair on several lines."""
+    return re.sub(r"[,;](?=[)}])", "", re.sub(r"\s+", "", text))
+
+
+def learn(clause, answer, known, name):
+    """Adds to `known` the paths that stand in an answer where its clause has @things; all else must be the clause's."""
+    parts, groups = re.split(r"@([^\s().,;]+)", clause), {}
+    pattern = re.escape(squeezed(parts[0]))
+    for thing, text in zip(parts[1::2], parts[2::2]):
+        if thing in groups:
+            pattern += f"(?P={groups[thing]})"
+        else:
+            groups[thing] = f"thing{len(groups)}"
+            last = r"\." + (re.escape(thing[:-1]) + r"\d*" if thing.endswith("*") else re.escape(thing))
+            if thing[0].isupper():
+                last = ""  # the name of a place: the path to it ends with the last .before
+            pattern += rf"(?P<{groups[thing]}>c(?:\.before)*{last})"
+        pattern += re.escape(squeezed(text))
+    match = re.fullmatch(pattern, squeezed(answer))
+    if not match:
+        sys.exit(f"{name} is not what the template gives")
+    for thing, group in groups.items():
+        path = match.group(group)
+        known[path.split(".")[-1] if thing.endswith("*") else thing] = path.replace(".", " .")
+
+
+def declarations(lines):
+    """The declarations of a proof file: the comment above, the lines of the type, the left side, and the answer."""
+    found, comment, index = [], None, 0
+    while index < len(lines):
+        line = lines[index]
+        index += 1
+        if line.startswith("--"):
+            comment = line
+        elif line.strip():
+            name = re.match(r"(?:abbrev |pub )?(\S+) :(\s|$)", line)
+            if not name:
+                sys.exit(f"not the beginning of a declaration: {line}")
+            type_ = [line]
+            while index < len(lines) and lines[index].startswith(" "):
+                type_.append(lines[index])
+                index += 1
+            if index < len(lines) and lines[index].startswith("unfolding "):
+                index += 1
+            if index == len(lines) or lines[index].split()[:1] != [name.group(1)]:
+                sys.exit(f"{name.group(1)} has a type and no answer")
+            left, body = left_side(lines[index]), [lines[index][len(left_side(lines[index])) + 2:]]
+            index += 1
+            while index < len(lines) and (not lines[index].strip() or lines[index].startswith((" ", ")", "}"))):
+                body.append(lines[index])
+                index += 1
+            found.append((comment, name.group(1), type_, left, "\n".join(body).rstrip()))
+            comment = None
+    return found
+
+
+def quoted_line(crate, function, comment):
+    """The place of the source line that a comment quotes, as a check prints it: the function's own file is looked into first."""
+    folder = f"{ROOT}/crates/{crate}/src/"
+    paths = [path[len(folder):] for path in sorted(glob.glob(folder + "**/*.rt", recursive=True))]
+    for path in sorted(paths, key=lambda path: not (function + "/").startswith(path[:-len(".rt")] + "/")):
+        lines = [line.strip() for line in open(folder + path).read().split("\n")]
+        if comment[3:] in lines:
+            return f"-- src/{path}:{lines.index(comment[3:]) + 1}:1"
+    sys.exit(f"no line of the source is as the comment {comment}")
+
+
+def committed(crate, function):
+    """What a check would have printed, as far as the proof file shows it: the skeleton, the paths, and the claims of a cycle."""
+    proof = f"{ROOT}/crates/{crate}/proofs/{function}/Proof.antt"
+    _, uses, clauses, facts = read_template(f"{ROOT}/tools/answers/{crate}/{function}.answers")
+    lines = open(proof).read().split("\n")
+    if lines[0] != first_line(crate, function):
+        sys.exit("the first line does not name the template")
+    imports = [line for line in lines if line.startswith("use ")]
+    # the template's own stand first, then that of `needs`
+    skeleton = [line for line in imports[len(uses):] if "borrow.Author.Needs.{needs}" not in line]
+    start = next((i for i, line in enumerate(lines) if not line.startswith(("use ", "--"))), len(lines))
+    known, claims, quoted = {}, {}, None
+    for comment, name, type_, left, answer in declarations(lines[start:]):
+        key = name if name in clauses else re.sub(r"-\d+$", "", name) + "*"
+        is_need = re.search(r"(?:tie|-lts)\.Need-", type_[0] + "".join(type_[1:2] + type_[2:3]))
+        if name in facts:
+            place, fact_type, body, _, _ = facts[name]
+            here = known.setdefault("place " + place, {})
+            learn(fact_type, " ".join(type_).split("→", 1)[1], here, name)
+            learn(body, answer, here, name)
+            continue
+        if re.search(r"-claims$", name) and name[:-len("-claims")] + "-lts.Claims" in type_[0]:
+            claims[name[:-len("-claims")]] = answer.strip()[1:-1]
+            continue
+        if is_need and comment:
+            quoted = quoted_line(crate, function, comment)
+        if is_need:
+            learn(clauses.get(key, (" search needs", ""))[0], answer, known.setdefault(name, {}), name)
+            skeleton += ["", quoted or "-- ", *type_, left + " = ?"]
+        elif key in clauses:
+            learn(clauses[key][0], answer, {}, name)
+            skeleton += ["", *type_, left + " = ?"]
+        elif type_[0].startswith("pub ") or is_cycle(function) and type_[0].startswith("abbrev "):
+            skeleton += ["", *type_, left + " =" + answer]
+        else:
+            sys.exit(f"{name} is in no clause of the template")
+    return "\n".join(skeleton) + "\n", known, claims
+
+
+def check(crates):
+    """Says which proof files are not what their templates give, and how many there are."""
+    crates = crates or sorted({*os.listdir(f"{ROOT}/crates"), *os.listdir(f"{ROOT}/tools/answers")})
+    faults, texts, count = [], {}, 0
+    for crate in crates:
+        folder = f"{ROOT}/crates/{crate}/proofs/"
+        proofs = {path[len(folder):-len("/Proof.antt")] for path in glob.glob(folder + "**/Proof.antt", recursive=True)}
+        for function in sorted(proofs | set(templates(crate))):
+            count += 1
+            if function not in proofs:
+                faults.append(f"crates/{crate}/proofs/{function}: the template has no proof file")
+            elif function not in templates(crate):
+                faults.append(f"crates/{crate}/proofs/{function}: the proof file has no template")
+            else:
+                try:
+                    skeleton, known, claims = committed(crate, function)
+                    cycle = is_cycle(function)
+                    text = cycle_text(crate, function, skeleton, known, claims) if cycle else plain_text(crate, function, skeleton, known)
+                    texts[f"crates/{crate}/proofs/{function}/Proof.antt"] = text
+                except SystemExit as stopped:
+                    faults.append(f"crates/{crate}/proofs/{function}: {stopped}")
+    with tempfile.TemporaryDirectory(prefix="answers-") as root:
+        open(f"{root}/crates.txt", "w").close()
+        for path, text in texts.items():
+            put_text(f"{root}/{path}", text)
+        printed, status = run(root, "fmt")
+        if status:
+            give_up("the files are not formatted", printed, status)
+        for path in texts:
+            if open(f"{root}/{path}").read() != open(f"{ROOT}/{path}").read():
+                made, stored = (open(f"{top}/{path}").read().split("\n") for top in (root, ROOT))
+                line = next((i for i, pair in enumerate(zip(made, stored)) if pair[0] != pair[1]), min(len(made), len(stored)))
+                faults.append(f"{os.path.dirname(path)}: line {line + 1} is not what the template gives")
+    print("\n".join(sorted(faults) + [f"{count} proof files compared with their templates, {len(faults)} differ"]))
+    return 1 if faults else 0
+
+
+def templates(crate):
+    folder = f"{ROOT}/tools/answers/{crate}/"
+    return sorted(path[len(folder):-len(".answers")] for path in glob.glob(folder + "**/*.answers", recursive=True))
 
 
 def main():
@@ -364,18 +604,15 @@ def main():
             if not need.startswith("place "):
                 print(need + ": " + "  ".join(f"{name}" for name in things))
         return
-    crate, functions = words[0], words[1:]
-    folder = f"{ROOT}/tools/answers/{crate}/"
-    if not functions:
-        found = glob.glob(folder + "**/*.answers", recursive=True)
-        functions = sorted(path[len(folder):-len(".answers")] for path in found)
+    if words[0] == "--check":
+        sys.exit(check(words[1:]))
+    crate, functions = words[0], words[1:] or templates(words[0])
     collect(crate, functions)
     for function in functions:
-        if function.split("/")[-1].startswith("+"):
-            write_cycle(crate, function)
-        else:
-            write(crate, function)
-    run("fmt")
+        write(crate, function)
+    printed, status = run(ROOT, "fmt")
+    if status:
+        give_up("the files are not formatted", printed, status)
 
 
 main()

@@ -14,7 +14,7 @@ returns c = sym (index-miscounted (c .before .before .args .kind) (c .before .be
 stands-in-order-requires : tie.Need-stands-in-order-requires
 stands-in-order-requires c κs = search needs
 
--- fn is_index(words: &[u32], kind: u32, at: usize, count: usize, counted: u32) -> bool
+-- fn is_index(words: &[u32], kind: u32, at: usize, count: usize, counted: usize) -> bool
 returns-2 : tie.Need-returns-2
 returns-2 c = c .stands-in-order .ensures ∙ sym (index-counted (c .before .before .before .args .kind) (c .before .before .before .args .at) (c .before .before .before .args .count) (c .before .before .before .args .words .now) _ (c .before .before .before .pre .1) (c .before .if1 .left))
 

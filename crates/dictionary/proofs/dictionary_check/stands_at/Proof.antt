@@ -44,7 +44,7 @@ mul-result c = search needs
 shared-slice-read-result : tie.Need-shared-slice-read-result
 shared-slice-read-result c = search needs
 
--- fn stands_at(words: &[u32], kind: u32, name: u32, number: u32) -> bool
+-- pub fn stands_at(words: &[u32], kind: u32, name: u32, number: u32) -> bool
 returns-3 : tie.Need-returns-3
 unfolding standsAt
 returns-3 c = rw (lt-ltb _ _ (c .before .before .before .if1 .left), eq-eqb _ _ (c .before .if2 .left))

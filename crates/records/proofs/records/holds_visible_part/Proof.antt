@@ -57,7 +57,7 @@ returns-7 c = sym (part-of-three isVisible _ (c .before .before .before .before 
 is-visible-requires-4 : tie.Need-is-visible-requires-4
 is-visible-requires-4 c κs = search needs
 
--- fn holds_visible_part(left: u32, word: u32) -> bool
+-- pub fn holds_visible_part(left: u32, word: u32) -> bool
 returns-8 : tie.Need-returns-8
 returns-8 c = c .is-visible4 .ensures ∙ sym (part-of-four isVisible _ (c .before .before .before .before .before .before .before .before .before .before .before .args .word) (sym (c .before .before .before .before .before .before .before .before .is-visible .ensures) ∙ not-false _ (c .before .before .before .before .before .before .before .if3 .left)) (sym (c .before .before .before .before .before .before .is-visible2 .ensures) ∙ not-false _ (c .before .before .before .before .before .if4 .left)) (sym (c .before .before .before .is-visible3 .ensures) ∙ not-false _ (c .before .before .if6 .left)) (omega (arith, c .before .before .before .before .before .before .before .before .before .before .if1 .left, c .before .before .before .before .before .before .before .before .before .if2 .left, c .before .before .before .before .if5 .left, c .before .if7 .left)))
 

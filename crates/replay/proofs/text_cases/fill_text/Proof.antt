@@ -71,7 +71,7 @@ loop-less c = search needs
 loop-again : tie.Need-loop-again Inv-loop μ-loop
 loop-again c = search needs
 
--- fn fill_text(line: &[u8], text: &mut [u8]) -> Filled {
+-- pub fn fill_text(line: &[u8], text: &mut [u8]) -> Filled {
 same-length-4 : tie.Need-same-length-4 Inv-loop μ-loop
 same-length-4 c = search needs
 

@@ -36,7 +36,7 @@ loop-less c = search needs
 loop-again : tie.Need-loop-again Inv-loop μ-loop
 loop-again c = search needs
 
--- fn clear(events: &mut [u64]) {
+-- pub fn clear(events: &mut [u64]) {
 same-length : tie.Need-same-length Inv-loop μ-loop
 same-length c = search needs
 

@@ -40,7 +40,7 @@ loop-less c = search needs
 loop-again : tie.Need-loop-again Inv-loop μ-loop
 loop-again c = search needs
 
--- fn is_unwritten(events: &[u64]) -> bool {
+-- pub fn is_unwritten(events: &[u64]) -> bool {
 returns-2 : tie.Need-returns-2 Inv-loop μ-loop
 returns-2 c = search needs
 

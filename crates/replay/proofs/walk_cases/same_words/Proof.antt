@@ -50,7 +50,7 @@ loop-less c = search needs
 loop-again : tie.Need-loop-again Inv-loop μ-loop
 loop-again c = search needs
 
--- fn same_words(events: &[u64], words: &[u64]) -> bool {
+-- pub fn same_words(events: &[u64], words: &[u64]) -> bool {
 returns-3 : tie.Need-returns-3 Inv-loop μ-loop
 returns-3 c = search needs
 

@@ -11,7 +11,7 @@ use Rattle.walk_memory.proofs.entry_tags.mask_of.Tie as tie
 shl-result : tie.Need-shl-result
 shl-result c = search needs
 
--- fn mask_of(rank: usize) -> u64
+-- pub fn mask_of(rank: usize) -> u64
 returns : tie.Need-returns
 returns c = mask-is (c .args .rank % 64) (omega arith)
 
