@@ -24,9 +24,8 @@ use Rattle.walk_memory.specs.FieldTable.{rowCount, tableCheckOf, fieldsOf}
 use Rattle.walk_memory.specs.FieldTableLaws.{tableCheckOf-accepted}
 use Rattle.validator.specs.declared.message_call.WalkedMessage.{WalkedMessage}
 use Rattle.validator.specs.declared.message_call.WalkedMessage.the-variants as walked
-use Rattle.validator.specs.MessageWords.{walkOf}
 use Rattle.validator.specs.MessageCall as call
-use Rattle.validator.specs.MessageCall.{walkedOf, eventsIn}
+use Rattle.validator.specs.MessageCall.{walkOf, walkedOf, eventsIn}
 use Rattle.verdicts.specs.declared.verdicts_call.Judged.{Judged}
 use Rattle.verdicts.specs.declared.verdicts_call.Judged.the-variants as judged
 use Rattle.verdicts.specs.Verdicts as verdict

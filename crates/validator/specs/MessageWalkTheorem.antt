@@ -34,9 +34,9 @@ use Rattle.group_reading.specs.ReadingTheorem.{FindsReadings, walk-finds-readin
 use Rattle.walk.specs.WalkWords.{inputOf, topMembers}
 use Rattle.walk.specs.WalkWordsLaws.{groupOf-number, layoutOf-rules}
 use Rattle.validator.specs.declared.message_call.WalkedMessage.the-variants.{Done}
-use Rattle.validator.specs.MessageWalk.{MessageLevel, messageEvents}
-use Rattle.validator.specs.MessageWords.{levelOf, walkOf}
-use Rattle.validator.specs.MessageCall.{neededFor, walkedOf, eventsIn}
+use Rattle.message_level.specs.MessageWalk.{MessageLevel, messageEvents}
+use Rattle.message_level.specs.MessageWords.{levelOf}
+use Rattle.validator.specs.MessageCall.{walkOf, neededFor, walkedOf, eventsIn}
 use Rattle.validator.specs.MessageWalkTheorem.GroupBounds.{isEnter, isLeave, isBound, None, Bracketed, walkGroup-bracketed}
 use Rattle.validator.specs.MessageWalkTheorem.Parts.{WalkAt, BeginsWalk, message-parts, walk-begins}
 pub mod GroupBounds

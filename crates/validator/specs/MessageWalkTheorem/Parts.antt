@@ -19,7 +19,7 @@ use Rattle.walk_memory.specs.Membership.{_∈ᵇ_}
 use Rattle.walk_memory.specs.Events.{kindNumber}
 use Rattle.walk_memory.specs.WalkInput.{Layout, Fields, Input}
 use Rattle.group_reading.specs.GroupWalk.{walkGroup}
-use Rattle.validator.specs.MessageWalk.{MessageLevel, twiceIf, foreignUnless, missingIf, Turns, turnAnd, definedTurn, placeAt, turnAt, turnsFrom, messageTurns, missingTags, missingGroups, messageEvents}
+use Rattle.message_level.specs.MessageWalk.{MessageLevel, twiceIf, foreignUnless, missingIf, Turns, turnAnd, definedTurn, placeAt, turnAt, turnsFrom, messageTurns, missingTags, missingGroups, messageEvents}
 use Rattle.validator.specs.MessageWalkTheorem.GroupBounds.{isEnter, isLeave, isBound, None, Closed, Bracketed, none-append, walkGroup-bracketed}
 
 module _ (input : Input) (level : MessageLevel (input .layout .Group)) where
