@@ -38,7 +38,7 @@ put-twice-requires c κs = search needs
 
 -- walk_place(layout, fields, message, index, tag, events, to)
 walk-place-requires : tie.Need-walk-place-requires
-walk-place-requires c κs = record { passed = c .before .before .before .before .before .before .before .before .before .before .before .before .before .before .before .before .before .before .before .before .pre .lent .passed; table = c .before .before .before .before .before .before .before .before .before .before .before .before .before .before .before .before .before .before .before .before .pre .lent .table; inside = c .before .before .before .before .before .before .before .before .before .before .before .before .before .before .before .before .before .before .before .before .pre .inside; tag-is = c .before .before .before .before .before .before .before .before .before .before .before .before .before .tag-at .ensures; room = twice-room (c .before .before .before .before .before .before .before .before .before .before .before .before .before .before .before .before .before .before .before .before .args .defined .now) (c .before .before .before .before .before .before .before .before .before .before .before .before .before .before .before .before .before .before .before .before .args .layout .now) (c .before .before .before .before .before .before .before .before .before .before .before .before .before .before .before .before .before .before .before .before .args .fields .now) (c .before .before .before .before .before .before .before .before .before .before .before .before .before .before .before .before .before .before .before .before .args .message .now) (c .before .before .before .before .before .before .before .before .before .before .before .before .before .before .before .before .before .before .before .before .args .seen .now) (c .before .before .before .before .before .before .before .before .before .before .before .before .before .before .before .before .before .before .before .before .args .index) (c .before .before .before .before .before .before .before .before .before .before .before .before .before .before .before .before .before .before .before .before .args .at) (c .before .before .before .before .before .before .before .before .before .before .before .before .before .before .before .before .before .before .before .before .pre) _ (c .before .before .before .before .before .before .before .before .before .before .before .before .before .tag-at .ensures) _ (c .before .before .before .before .before .before .before .before .before .before .before .before .binary-search .ensures .0) _ (c .before .before .before .before .before .before .before .before .before .before .rank .given .1) _ _ (c .before .before .before .before .before .before .before .insert .ensures .0) (c .before .before .before .before .before .before .before .insert .ensures .1) _ _ _ (c .before .before .before .put-twice .ensures) }
+walk-place-requires c κs = record { passed = c .before .before .before .before .before .before .before .before .before .before .before .before .before .before .before .before .before .before .before .before .pre .lent .passed; table = c .before .before .before .before .before .before .before .before .before .before .before .before .before .before .before .before .before .before .before .before .pre .lent .table; inside = c .before .before .before .before .before .before .before .before .before .before .before .before .before .before .before .before .before .before .before .before .pre .inside; tag-is = c .before .before .before .before .before .before .before .before .before .before .before .before .before .tag-at .ensures; room = omega (arith, twice-room (c .before .before .before .before .before .before .before .before .before .before .before .before .before .before .before .before .before .before .before .before .args .defined .now) (c .before .before .before .before .before .before .before .before .before .before .before .before .before .before .before .before .before .before .before .before .args .layout .now) (c .before .before .before .before .before .before .before .before .before .before .before .before .before .before .before .before .before .before .before .before .args .fields .now) (c .before .before .before .before .before .before .before .before .before .before .before .before .before .before .before .before .before .before .before .before .args .message .now) (c .before .before .before .before .before .before .before .before .before .before .before .before .before .before .before .before .before .before .before .before .args .seen .now) (c .before .before .before .before .before .before .before .before .before .before .before .before .before .before .before .before .before .before .before .before .args .index) (c .before .before .before .before .before .before .before .before .before .before .before .before .before .before .before .before .before .before .before .before .args .at) (c .before .before .before .before .before .before .before .before .before .before .before .before .before .before .before .before .before .before .before .before .pre) _ (c .before .before .before .before .before .before .before .before .before .before .before .before .before .tag-at .ensures) _ (c .before .before .before .before .before .before .before .before .before .before .before .before .binary-search .ensures .0) _ (c .before .before .before .before .before .before .before .before .before .before .rank .given .1) _ _ (c .before .before .before .before .before .before .before .insert .ensures .0) (c .before .before .before .before .before .before .before .insert .ensures .1) _ _ _ (c .before .before .before .put-twice .ensures), c .before .before .before .before .before .before .before .before .before .before .before .before .before .before .before .before .before .before .before .before .pre .room) }
 
 -- fn walk_field(
 same-length : tie.Need-same-length
