@@ -11,4 +11,5 @@ pub mod MessageTextCases
 pub mod MessageType
 pub mod MessageTypeLaws
 pub mod MessageTypeCases
+pub mod TableSays
 pub mod MessageTable

@@ -1,8 +1,6 @@
 -- What the field table of an accepted message text says (document 01, 'One list in full'): a field for each line, with the line's tag, and all behind its first `=` for
 -- its value; row 12 finds nothing in it where it has at most 4,096 fields; the type is the value of the first line whose tag is 35. Assumes nothing.
 --
---   lineAt position lines               the line at this position, from 0
---   RowSays table text line position    the table's row at this position says what the line says
 --   table-says                          each row says what its line says
 --   table-accepted, table-many          what row 12 finds in the table
 --   table-written                       the words that `read_message` wrote are the table
@@ -31,6 +29,7 @@ use Rattle.listing.specs.declared.message_text.ReadMessage.{ReadMessage}
 use Rattle.listing.specs.declared.message_text.ReadMessage.the-variants.{Fields, Refused}
 use Rattle.listing.specs.declared.message_type.Stretch.{Stretch}
 use Rattle.listing.specs.MessageText.{equalsSign, fieldLineOf, rowsWith, rowsFrom, tableOf, onField, countFrom, messageTextOf, spaceAnswer, spaceWith, readMessageOf, fieldsIn}
+use Rattle.listing.specs.TableSays.{lineAt, RowSays, TypeSays}
 use Rattle.listing.specs.MessageTextLaws.{Says, fieldLineOf-says, joined, joined-lines, countFrom-last, tableOf-length, tableOf-few}
 use Rattle.listing.specs.MessageType.{stretch, typeTag, typePlaceOf, partOf, typeWith, typeIn}
 
@@ -56,17 +55,6 @@ next-text : (prior line others : List ℕ) → prior ++ (line ++ (lineFeed ∷ o
 next-text prior line others = simp append-assoc
 
 -- ---- the rows
-
-unfoldable pub lineAt : ℕ → Pieces → List ℕ
-lineAt position (last bytes) = []
-lineAt zero (piece line others) = line
-lineAt (suc position) (piece line others) = lineAt position others
-
-pub record RowSays (table text line : List ℕ) (position : ℕ) : Type 0 where
-  pub tag-before : numberOf (before equalsSign line) ≡ Number (tagOf table position)
-  pub value-behind : take (pastOf table position - firstOf table position) (drop (firstOf table position) text) ≡ behind equalsSign line
-  pub ordered : firstOf table position ≤ pastOf table position
-  pub inside : pastOf table position ≤ length text
 
 first-row : (prior line rest others : List ℕ) (tag value : ℕ) → Says line tag value
     → RowSays (tag ∷ (length prior + value) ∷ (length prior + length line) ∷ others) (prior ++ (line ++ rest)) line 0
@@ -117,11 +105,6 @@ rows-say (piece line others) prior count total accepted position below =
     position below
 
 -- ---- the type
-
-pub record TypeSays (part : Stretch) (text type : List ℕ) : Type 0 where
-  pub holds : partOf part text ≡ type
-  pub ordered : part .first ≤ part .past
-  pub inside : part .past ≤ length text
 
 module _ (line : List ℕ) (others : Pieces) (prior : List ℕ) (count total : ℕ) where
   type-choice : (here : Bool) (tag value : ℕ) (rows : List ℕ) → Says line tag value

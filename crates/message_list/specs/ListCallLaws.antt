@@ -42,7 +42,7 @@ use Rattle.listing.specs.declared.list_text.Listed.the-variants.{Full, Refused}
 use Rattle.listing.specs.MessageText.{tableOf, readMessageOf, fieldsIn}
 use Rattle.listing.specs.MessageType.{typePlaceOf}
 use Rattle.listing.specs.MessageTable.{accepted-text, table-few, table-written, type-says}
-use Rattle.listing.specs.ListTextLaws.{HeldShape, Held}
+use Rattle.listing.specs.ListText.{HeldShape, Held}
 use Rattle.message_list.specs.ListCall as list
 use Rattle.message_list.specs.ListCall.{shapeOf, onJudged, onWalked, walkedSpace, listOfLayout, verdictsOfLayout, onExpanded, expandedSpace, typeOfFields, layoutWritten, listOfFields, eventsOfFields, verdictsOfFields, onFields, fieldsSpace, tableWritten, listOfMessage, eventsOfMessage, verdictsOfMessage, onRead, readSpace, dictionaryWritten, listOf, eventsOf, verdictsOf}
 

@@ -35,7 +35,7 @@ use Rattle.listing.specs.declared.list_text.Listed.the-variants.{Full, Refused}
 use Rattle.listing.specs.MessageText.{readMessageOf, fieldsIn}
 use Rattle.listing.specs.MessageType.{typePlaceOf, partOf}
 use Rattle.listing.specs.MessageTable.{table-length, table-few, table-written}
-use Rattle.listing.specs.ListTextLaws.{Held}
+use Rattle.listing.specs.ListText.{Held}
 use Rattle.message_list.specs.ListCall.{listOfLayout, verdictsOfLayout, typeOfFields, layoutWritten, listOfFields, eventsOfFields, verdictsOfFields, tableWritten, listOfMessage, layoutOfMessage, eventsOfMessage, verdictsOfMessage, dictionaryWritten, listOf, layoutOf, fieldsOf, eventsOf, verdictsOf}
 use Rattle.message_list.specs.ListCallLaws.{type-inside, held-list}
 

@@ -24,7 +24,7 @@ ghost use Rattle.listing.specs.declared.list_text.Listed.the-variants.{Full};
 ghost use Rattle.expand.specs.ExpandCall.{expandedIn};
 ghost use Rattle.listing.specs.MessageText.{fieldsIn};
 ghost use Rattle.listing.specs.MessageType.{typePlaceOf};
-ghost use Rattle.listing.specs.ListTextLaws.{Held};
+ghost use Rattle.listing.specs.ListText.{Held};
 ghost use Rattle.message_list.specs.ListCall.{shapeOf, onJudged, listOfLayout, verdictsOfLayout, typeOfFields, listOfFields, eventsOfFields, verdictsOfFields, listOfMessage, layoutOfMessage, eventsOfMessage, verdictsOfMessage, listOf, layoutOf, fieldsOf, eventsOf, verdictsOf};
 
 // The verdicts, behind a walk that wrote so many words of events.
