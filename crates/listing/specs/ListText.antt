@@ -17,7 +17,7 @@ use Rattle.listing.specs.declared.list_text.Shape.{Shape}
 use Rattle.listing.specs.declared.list_text.Listed.{Listed}
 use Rattle.listing.specs.declared.list_text.Listed.the-variants.{Full, Refused}
 use Rattle.listing.specs.ListLines.{typeLine, eventLine, verdictLine, refusedLine}
-use Rattle.listing.specs.MessageType.{stretch, partOf}
+use Rattle.message_text.specs.MessageType.{stretch, partOf}
 
 -- "An event is five 64-bit words: kind, group's count tag, depth, a, b."
 abbrev pub wordsLine : List ℕ → ℕ → List ℕ
