@@ -6,7 +6,7 @@ use listing::list_text::Listed;
 use listing::list_text::line_count;
 use listing::list_text::list_line;
 use message_list::list::list;
-ghost use Rattle.listing.specs.ListTextLaws.{Held};
+ghost use Rattle.listing.specs.ListText.{Held};
 
 // Prints the lines of the list.
 fn print_lines(listed: Listed, message: &[u8], events: &[u64], verdicts: &[u64])

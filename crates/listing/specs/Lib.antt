@@ -1,14 +1,7 @@
--- Definitions and laws of the crate `listing`: the message text and the lines of the list that `gatelist` prints. A definition's laws stand in the file of
--- its name with `Laws`, its examples in the one with `Cases`.
+-- Definitions and laws of the crate `listing`: the lines of the list that `gatelist` prints. A definition's laws stand in the file of its name with `Laws`,
+-- its examples in the one with `Cases`.
 pub mod ListLines
 pub mod ListLinesLaws
 pub mod ListLinesCases
 pub mod ListText
 pub mod ListTextLaws
-pub mod MessageText
-pub mod MessageTextLaws
-pub mod MessageTextCases
-pub mod MessageType
-pub mod MessageTypeLaws
-pub mod MessageTypeCases
-pub mod MessageTable

@@ -8,15 +8,16 @@
 --   lineAt listed message events verdicts index           the line at this index, from 0; no bytes where there is none
 --   linesFrom listed message events verdicts left index   so many lines from the index on, one behind the other
 --   printed listed message events verdicts                the text of the list
-use Prim.Native.Nat.{ℕ, zero, suc, _+_, _*_, _-_}
+--   Held listed message events verdicts                   what is asked of the words that a list is printed from: that they hold what its shape says
+use Prim.Native.Nat.{ℕ, zero, suc, _+_, _*_, _-_, _≤_}
 use mathlib.Core.List.{List, [], _∷_, _++_}
-use lib.ListN.{getD, take}
+use lib.ListN.{length, getD, take}
 use Rattle.ascii.specs.Notation.{_≤ᵇ_, _≡ᵇ_, if_then_else_}
 use Rattle.listing.specs.declared.list_text.Shape.{Shape}
 use Rattle.listing.specs.declared.list_text.Listed.{Listed}
 use Rattle.listing.specs.declared.list_text.Listed.the-variants.{Full, Refused}
 use Rattle.listing.specs.ListLines.{typeLine, eventLine, verdictLine, refusedLine}
-use Rattle.listing.specs.MessageType.{stretch, partOf}
+use Rattle.message_text.specs.MessageType.{stretch, partOf}
 
 -- "An event is five 64-bit words: kind, group's count tag, depth, a, b."
 abbrev pub wordsLine : List ℕ → ℕ → List ℕ
@@ -60,3 +61,17 @@ module _ (message events verdicts : List ℕ) where
       ++ (wordsLines events (shape .events) 0
       ++ verdictLine (take (shape .fields) verdicts))
   printed (Refused refusal) = refusedLine refusal
+
+-- ---- what a list is printed from
+
+pub record HeldShape (shape : Shape) (message events verdicts : List ℕ) : Type 0 where
+  pub type-ordered : shape .first ≤ shape .past
+  pub type-inside : shape .past ≤ length message
+  pub few-bytes : length message ≤ 65536
+  pub event-words : 5 * shape .events ≤ length events
+  pub verdict-words : shape .fields ≤ length verdicts
+  pub few-fields : shape .fields ≤ 4096
+
+abbrev pub Held : Listed → List ℕ → List ℕ → List ℕ → Type 0
+Held (Full shape) message events verdicts = HeldShape shape message events verdicts
+Held (Refused refusal) message events verdicts = Unit {0}

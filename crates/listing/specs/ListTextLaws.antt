@@ -1,5 +1,4 @@
--- Laws of `ListText.antt`: what is asked of the words that a list is printed from, that each line fits the room for lines, and that the lines, one behind the
--- other, are the list. Assumes nothing.
+-- Laws of `ListText.antt`: each line fits the room for lines, and the lines, one after the other, are the list. Assumes nothing.
 use mathlib.Core.Path.{_≡_, refl, sym, ap, _∙_}
 use Prim.Native.Nat.{ℕ, zero, suc, _+_, _*_, _-_, _≤_, _<_}
 use mathlib.Core.Bool.{Bool, true, false}
@@ -19,21 +18,9 @@ use Rattle.listing.specs.declared.list_text.Listed.{Listed}
 use Rattle.listing.specs.declared.list_text.Listed.the-variants.{Full, Refused}
 use Rattle.listing.specs.ListLines.{typeLine, eventLine, verdictLine, refusedLine}
 use Rattle.listing.specs.ListLinesLaws.{Put, put-nothing, put-length, labelled-few, verdictDigits-length, eventLine-few}
-use Rattle.listing.specs.ListText.{wordsLine, wordsLines, typeOf, lineCount, fullLine, lineAt, linesFrom, printed}
+use Rattle.listing.specs.ListText.{HeldShape, Held, wordsLine, wordsLines, typeOf, lineCount, fullLine, lineAt, linesFrom, printed}
 
 -- ---- what a list is printed from
-
-pub record HeldShape (shape : Shape) (message events verdicts : List ℕ) : Type 0 where
-  pub type-ordered : shape .first ≤ shape .past
-  pub type-inside : shape .past ≤ length message
-  pub few-bytes : length message ≤ 65536
-  pub event-words : 5 * shape .events ≤ length events
-  pub verdict-words : shape .fields ≤ length verdicts
-  pub few-fields : shape .fields ≤ 4096
-
-abbrev pub Held : Listed → List ℕ → List ℕ → List ℕ → Type 0
-Held (Full shape) message events verdicts = HeldShape shape message events verdicts
-Held (Refused refusal) message events verdicts = Unit {0}
 
 pub held-shape : (listed : Listed) (shape : Shape) (message events verdicts : List ℕ) → listed ≡ Full shape → Held listed message events verdicts
     → HeldShape shape message events verdicts

@@ -1,5 +1,3 @@
-// The list that `gatelist` prints (document 01, 'One list in full'): a message text read into a field table, and the lines of the list.
+// The lines of the list that `gatelist` prints (document 01, 'One list in full').
 pub mod list_lines;
 pub mod list_text;
-pub mod message_text;
-pub mod message_type;

@@ -9,8 +9,7 @@ ghost use Prim.Native.Nat.{_+_, _*_, _≤_, _<_};
 ghost use lib.ListN.{length};
 ghost use lib.Seq.{sets};
 ghost use Rattle.listing.specs.ListLinesLaws.{Put};
-ghost use Rattle.listing.specs.ListText.{wordsLine, lineCount, fullLine, lineAt};
-ghost use Rattle.listing.specs.ListTextLaws.{HeldShape, Held};
+ghost use Rattle.listing.specs.ListText.{HeldShape, Held, wordsLine, lineCount, fullLine, lineAt};
 
 // What a list is made of: where the message's type stands in it, how many fields it has, and how many events were written.
 pub struct Shape {

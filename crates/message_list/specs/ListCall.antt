@@ -25,14 +25,14 @@ use Rattle.verdicts.specs.Verdicts.{judgedOf, verdictsIn}
 use Rattle.expand.specs.declared.expand_call.Expanded.{Expanded}
 use Rattle.expand.specs.declared.expand_call.Expanded.the-variants as expanded
 use Rattle.expand.specs.ExpandCall.{expandedOf, expandedIn}
-use Rattle.listing.specs.declared.message_text.ReadMessage.{ReadMessage}
-use Rattle.listing.specs.declared.message_text.ReadMessage.the-variants as message
-use Rattle.listing.specs.declared.message_type.Stretch.{Stretch}
+use Rattle.message_text.specs.declared.message_text.ReadMessage.{ReadMessage}
+use Rattle.message_text.specs.declared.message_text.ReadMessage.the-variants as message
+use Rattle.message_text.specs.declared.message_type.Stretch.{Stretch}
 use Rattle.listing.specs.declared.list_text.Shape.{Shape}
 use Rattle.listing.specs.declared.list_text.Listed.{Listed}
 use Rattle.listing.specs.declared.list_text.Listed.the-variants.{Full, Refused}
-use Rattle.listing.specs.MessageText.{readMessageOf, fieldsIn}
-use Rattle.listing.specs.MessageType.{typePlaceOf, partOf}
+use Rattle.message_text.specs.MessageText.{readMessageOf, fieldsIn}
+use Rattle.message_text.specs.MessageType.{typePlaceOf, partOf}
 
 -- the type's stretch, the number of fields, and five words an event
 abbrev pub shapeOf : Stretch → ℕ → ℕ → Shape

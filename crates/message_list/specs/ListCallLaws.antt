@@ -24,9 +24,8 @@ use Rattle.walk_memory.specs.FieldTable.{rowCount, tableCheckOf, fieldsOf}
 use Rattle.walk_memory.specs.FieldTableLaws.{tableCheckOf-accepted}
 use Rattle.validator.specs.declared.message_call.WalkedMessage.{WalkedMessage}
 use Rattle.validator.specs.declared.message_call.WalkedMessage.the-variants as walked
-use Rattle.validator.specs.MessageWords.{walkOf}
 use Rattle.validator.specs.MessageCall as call
-use Rattle.validator.specs.MessageCall.{walkedOf, eventsIn}
+use Rattle.validator.specs.MessageCall.{walkOf, walkedOf, eventsIn}
 use Rattle.verdicts.specs.declared.verdicts_call.Judged.{Judged}
 use Rattle.verdicts.specs.declared.verdicts_call.Judged.the-variants as judged
 use Rattle.verdicts.specs.Verdicts as verdict
@@ -35,15 +34,15 @@ use Rattle.verdicts.specs.VerdictsLaws.{verdictsFrom-length}
 use Rattle.expand.specs.declared.expand_call.Expanded.{Expanded}
 use Rattle.expand.specs.declared.expand_call.Expanded.the-variants as expanded
 use Rattle.expand.specs.ExpandCall.{expandedOf, expandedIn}
-use Rattle.listing.specs.declared.message_text.ReadMessage.{ReadMessage}
-use Rattle.listing.specs.declared.message_text.ReadMessage.the-variants as message
-use Rattle.listing.specs.declared.message_type.Stretch.{Stretch}
+use Rattle.message_text.specs.declared.message_text.ReadMessage.{ReadMessage}
+use Rattle.message_text.specs.declared.message_text.ReadMessage.the-variants as message
+use Rattle.message_text.specs.declared.message_type.Stretch.{Stretch}
 use Rattle.listing.specs.declared.list_text.Listed.{Listed}
 use Rattle.listing.specs.declared.list_text.Listed.the-variants.{Full, Refused}
-use Rattle.listing.specs.MessageText.{tableOf, readMessageOf, fieldsIn}
-use Rattle.listing.specs.MessageType.{typePlaceOf}
-use Rattle.listing.specs.MessageTable.{accepted-text, table-few, table-written, type-says}
-use Rattle.listing.specs.ListTextLaws.{HeldShape, Held}
+use Rattle.message_text.specs.MessageText.{tableOf, readMessageOf, fieldsIn}
+use Rattle.message_text.specs.MessageType.{typePlaceOf}
+use Rattle.message_text.specs.MessageTable.{accepted-text, table-few, table-written, type-says}
+use Rattle.listing.specs.ListText.{HeldShape, Held}
 use Rattle.message_list.specs.ListCall as list
 use Rattle.message_list.specs.ListCall.{shapeOf, onJudged, onWalked, walkedSpace, listOfLayout, verdictsOfLayout, onExpanded, expandedSpace, typeOfFields, layoutWritten, listOfFields, eventsOfFields, verdictsOfFields, onFields, fieldsSpace, tableWritten, listOfMessage, eventsOfMessage, verdictsOfMessage, onRead, readSpace, dictionaryWritten, listOf, eventsOf, verdictsOf}
 

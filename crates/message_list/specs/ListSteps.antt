@@ -27,15 +27,15 @@ use Rattle.validator.specs.MessageCall.{eventsIn}
 use Rattle.expand.specs.declared.expand_call.Expanded.{Expanded}
 use Rattle.expand.specs.declared.expand_call.Expanded.the-variants as expanded
 use Rattle.expand.specs.ExpandCall.{expandedOf, expandedIn}
-use Rattle.listing.specs.declared.message_text.ReadMessage.{ReadMessage}
-use Rattle.listing.specs.declared.message_text.ReadMessage.the-variants as message
-use Rattle.listing.specs.declared.message_type.Stretch.{Stretch}
+use Rattle.message_text.specs.declared.message_text.ReadMessage.{ReadMessage}
+use Rattle.message_text.specs.declared.message_text.ReadMessage.the-variants as message
+use Rattle.message_text.specs.declared.message_type.Stretch.{Stretch}
 use Rattle.listing.specs.declared.list_text.Listed.{Listed}
 use Rattle.listing.specs.declared.list_text.Listed.the-variants.{Full, Refused}
-use Rattle.listing.specs.MessageText.{readMessageOf, fieldsIn}
-use Rattle.listing.specs.MessageType.{typePlaceOf, partOf}
-use Rattle.listing.specs.MessageTable.{table-length, table-few, table-written}
-use Rattle.listing.specs.ListTextLaws.{Held}
+use Rattle.message_text.specs.MessageText.{readMessageOf, fieldsIn}
+use Rattle.message_text.specs.MessageType.{typePlaceOf, partOf}
+use Rattle.message_text.specs.MessageTable.{table-length, table-few, table-written}
+use Rattle.listing.specs.ListText.{Held}
 use Rattle.message_list.specs.ListCall.{listOfLayout, verdictsOfLayout, typeOfFields, layoutWritten, listOfFields, eventsOfFields, verdictsOfFields, tableWritten, listOfMessage, layoutOfMessage, eventsOfMessage, verdictsOfMessage, dictionaryWritten, listOf, layoutOf, fieldsOf, eventsOf, verdictsOf}
 use Rattle.message_list.specs.ListCallLaws.{type-inside, held-list}
 

@@ -3,10 +3,10 @@ use expand::expand_call::Expanded;
 use expand::expand_call::expand;
 use listing::list_text::Listed;
 use listing::list_text::Shape;
-use listing::message_text::ReadMessage;
-use listing::message_text::read_message;
-use listing::message_type::Stretch;
-use listing::message_type::message_type;
+use message_text::message_text::ReadMessage;
+use message_text::message_text::read_message;
+use message_text::message_type::Stretch;
+use message_text::message_type::message_type;
 use read_dictionary::read_dictionary::Read;
 use read_dictionary::read_dictionary::read_dictionary;
 use validator::message_call::WalkedMessage;
@@ -22,9 +22,9 @@ ghost use Rattle.validator.specs.MessageCall.{eventsIn};
 ghost use Rattle.verdicts.specs.Verdicts.{judgedOf, verdictsIn};
 ghost use Rattle.listing.specs.declared.list_text.Listed.the-variants.{Full};
 ghost use Rattle.expand.specs.ExpandCall.{expandedIn};
-ghost use Rattle.listing.specs.MessageText.{fieldsIn};
-ghost use Rattle.listing.specs.MessageType.{typePlaceOf};
-ghost use Rattle.listing.specs.ListTextLaws.{Held};
+ghost use Rattle.message_text.specs.MessageText.{fieldsIn};
+ghost use Rattle.message_text.specs.MessageType.{typePlaceOf};
+ghost use Rattle.listing.specs.ListText.{Held};
 ghost use Rattle.message_list.specs.ListCall.{shapeOf, onJudged, listOfLayout, verdictsOfLayout, typeOfFields, listOfFields, eventsOfFields, verdictsOfFields, listOfMessage, layoutOfMessage, eventsOfMessage, verdictsOfMessage, listOf, layoutOf, fieldsOf, eventsOf, verdictsOf};
 
 // The verdicts, behind a walk that wrote so many words of events.

@@ -1,14 +1,8 @@
--- Definitions and laws of the crate `validator`: the walk of a message. A definition's laws stand in the file of its name with `Laws`, its examples in the
--- one with `Cases`. To read: `MessageWalk`, then `MessageWords` and `MessageCall`, then `MessageWalkTheorem`.
-pub mod MessageWalk
-pub mod MessageWords
+-- Definitions and laws of the crate `validator`: the call `walk_message`. A definition's laws stand in the file of its name with `Laws`; the examples of
+-- the walk are in `MessageWalkCases`. To read: `MessageWalk` and `MessageWords` of message_level, then `MessageCall`, `MessageStretches` and `MessageWalkTheorem`.
 pub mod MessageCall
 pub mod MessageWalkCases
-pub mod MessageWalkLaws
-pub mod SeenTags
-pub mod SeenTagsLaws
-pub mod MessagePromises
-pub mod MessageTurnLaws
-pub mod MissingLaws
+pub mod CallPromises
 pub mod MessageCallLaws
+pub mod MessageStretches
 pub mod MessageWalkTheorem

@@ -1,21 +1,21 @@
 -- The call `walk_message` on lent words (document 01, 'The events of a walk' and 'When the gate says no'): what it answers, and what the event space holds
 -- afterwards. "Walk: lent words, 12, 14, 13", where the message walk knows no 14; of lent words "the dictionary first". "A refusal writes nothing; an answer
 -- leaves the words behind its last one as they were." `WalkedMessage` is declared in src/message_call.rt; number and place of a refusal are in
--- `Refusal.antt` of texts. Assumes nothing.
+-- `Refusal.antt` of refusals. Assumes nothing.
 --
+--   walkOf dictionary words fields message   the events of the message walk, where the dictionary's words define the tags (`DefinedTags.antt` of dictionary)
 --   neededFor events                   "space for a walk's events is five words each"
---   mostWords words rows               as many words as a walk over so many fields can need
 --   spaceAnswer, spaceWith events space   13, or the answer and the words written
 --   walkedOf dictionary words fields message space   what the call answers
 --   eventsIn dictionary words fields message space   what the event space holds afterwards
-use Prim.Native.Nat.{ℕ, _+_, _*_}
+use Prim.Native.Nat.{ℕ, _*_}
 use mathlib.Core.List.{List, _++_}
 use lib.ListN.{length, drop}
 use Rattle.ascii.specs.Notation.{_≤ᵇ_, if_then_else_}
 use Rattle.refusals.specs.declared.refusal.Refusal.the-variants.{UnknownForm, RuleBroken, BadField, SpaceShort}
+use Rattle.dictionary.specs.DefinedTags.{definedTags}
 use Rattle.dictionary.specs.DictionaryCheck.{isDictionary}
 use Rattle.layouts.specs.Limits.{gateLimits}
-use Rattle.layouts.specs.LayoutWords.{levelRequired, levelCountTags}
 use Rattle.layouts.specs.LayoutCheck.{isLayout}
 use Rattle.walk_memory.specs.declared.field_table.TableCheck.{TableCheck}
 use Rattle.walk_memory.specs.declared.field_table.TableCheck.the-variants as table
@@ -24,14 +24,13 @@ use Rattle.walk_memory.specs.Events.{eventsWords}
 use Rattle.walk_memory.specs.FieldTable.{tableCheckOf}
 use Rattle.validator.specs.declared.message_call.WalkedMessage.{WalkedMessage}
 use Rattle.validator.specs.declared.message_call.WalkedMessage.the-variants.{Done, Refused}
-use Rattle.validator.specs.MessageWords.{walkOf}
+use Rattle.message_level.specs.MessageWords.{eventsWith}
+
+abbrev pub walkOf : List ℕ → List ℕ → List ℕ → List ℕ → List Event
+walkOf dictionary words fields message = eventsWith (definedTags dictionary) words fields message
 
 abbrev pub neededFor : List Event → ℕ
 neededFor events = 5 * length events
-
--- 5 N events of the loop over N fields, and one for each required tag and each group of the top
-abbrev pub mostWords : List ℕ → ℕ → ℕ
-mostWords words rows = 5 * (5 * rows + length (levelRequired words 0) + length (levelCountTags words 0))
 
 -- 13, or the answer
 abbrev pub spaceAnswer : List Event → List ℕ → WalkedMessage

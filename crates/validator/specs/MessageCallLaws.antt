@@ -23,13 +23,14 @@ use Rattle.walk.specs.WalkWords.{inputOf}
 use Rattle.walk.specs.WalkWordsLaws.{groupOf-number, layoutOf-rules}
 use Rattle.validator.specs.declared.message_call.WalkedMessage.{WalkedMessage}
 use Rattle.validator.specs.declared.message_call.WalkedMessage.the-variants.{Done, Refused}
-use Rattle.validator.specs.MessageWalk.{messageTurns, missingTags, missingGroups, messageEvents}
-use Rattle.validator.specs.MessageWalkLaws.{missingTags-few, missingGroups-few, turns-few}
-use Rattle.validator.specs.MessageWords.{requiredFrom, levelOf, walkOf}
-use Rattle.validator.specs.MissingLaws.{requiredFrom-few}
-use Rattle.validator.specs.SeenTags.{SeenTags}
-use Rattle.validator.specs.MessagePromises.{Lent, SeenWords, Accepted, Walked}
-use Rattle.validator.specs.MessageCall.{neededFor, mostWords, spaceAnswer, spaceWith, tableAnswer, tableSpace, walkedOf, eventsIn}
+use Rattle.message_level.specs.MessageWalk.{messageTurns, missingTags, missingGroups, messageEvents}
+use Rattle.message_level.specs.MessageWalkLaws.{missingTags-few, missingGroups-few, turns-few}
+use Rattle.message_level.specs.MessageWords.{requiredFrom, levelOf}
+use Rattle.message_level.specs.MissingLaws.{requiredFrom-few}
+use Rattle.message_level.specs.SeenTags.{SeenTags}
+use Rattle.message_walk.specs.MessagePromises.{Lent, Walked}
+use Rattle.validator.specs.CallPromises.{Accepted, mostWords}
+use Rattle.validator.specs.MessageCall.{walkOf, neededFor, spaceAnswer, spaceWith, tableAnswer, tableSpace, walkedOf, eventsIn}
 
 -- ---- the refusals before a walk
 

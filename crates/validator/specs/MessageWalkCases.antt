@@ -36,8 +36,8 @@ use Rattle.group_reading.specs.GroupSteps.{openingAt, memberLeads, entryBegins,
 use Rattle.group_reading.specs.GroupWalk.{walkBy, walkGroup}
 use Rattle.validator.specs.declared.message_call.WalkedMessage.{WalkedMessage}
 use Rattle.validator.specs.declared.message_call.WalkedMessage.the-variants.{Done, Refused}
-use Rattle.validator.specs.MessageWalk.{turnAt, turnsFrom, missingTags, missingGroups, messageEvents}
-use Rattle.validator.specs.MessageWords.{requiredFrom, eventsWith}
+use Rattle.message_level.specs.MessageWalk.{turnAt, turnsFrom, missingTags, missingGroups, messageEvents}
+use Rattle.message_level.specs.MessageWords.{requiredFrom, eventsWith}
 use Rattle.validator.specs.MessageCall.{walkedOf, eventsIn}
 
 pub record Field : Type 0 where

@@ -3,11 +3,7 @@
 -- holds of each such stretch that `walk_message` writes (`message-call-finds-readings`): it has no fault event exactly where the fields from there on are a
 -- reading of the group. The call is meant by its contract: it answers `walkedOf` and leaves `eventsIn` (`MessageCall.antt`). Assumes nothing.
 --
---   FromEnterToLeave stretch         the stretch begins with an enter at depth 0 and ends with the first leave at depth 0 behind it
---   OwnWalk input level stretch      it is the walk of a top group
---   StretchFinds .. stretch          and that walk finds the readings of the group
---   MessageCallFinds ..              what the call tells
---
+-- Its words (`FromEnterToLeave`, `OwnWalk`, `MessageCallFinds`) are in `MessageStretches.antt`.
 -- The parts: `GroupBounds` (the walk of a top group has one enter and one leave at depth 0), `Parts` (the events of a message walk one behind the other).
 use mathlib.Core.Path.{_≡_, refl, sym, ap, _∙_}
 use Prim.Native.Nat.{ℕ, _*_, _≤_, _<_}
@@ -34,22 +30,14 @@ use Rattle.group_reading.specs.ReadingTheorem.{FindsReadings, walk-finds-readin
 use Rattle.walk.specs.WalkWords.{inputOf, topMembers}
 use Rattle.walk.specs.WalkWordsLaws.{groupOf-number, layoutOf-rules}
 use Rattle.validator.specs.declared.message_call.WalkedMessage.the-variants.{Done}
-use Rattle.validator.specs.MessageWalk.{MessageLevel, messageEvents}
-use Rattle.validator.specs.MessageWords.{levelOf, walkOf}
-use Rattle.validator.specs.MessageCall.{neededFor, walkedOf, eventsIn}
-use Rattle.validator.specs.MessageWalkTheorem.GroupBounds.{isEnter, isLeave, isBound, None, Bracketed, walkGroup-bracketed}
-use Rattle.validator.specs.MessageWalkTheorem.Parts.{WalkAt, BeginsWalk, message-parts, walk-begins}
+use Rattle.message_level.specs.MessageWalk.{MessageLevel, messageEvents}
+use Rattle.message_level.specs.MessageWords.{levelOf}
+use Rattle.validator.specs.MessageCall.{walkOf, neededFor, walkedOf, eventsIn}
+use Rattle.validator.specs.MessageStretches.{isEnter, isLeave, None, FromEnterToLeave, OwnWalk, StretchFinds, MessageCallFinds}
+use Rattle.validator.specs.MessageWalkTheorem.GroupBounds.{isBound, Bracketed, walkGroup-bracketed}
+use Rattle.validator.specs.MessageWalkTheorem.Parts.{BeginsWalk, message-parts, walk-begins}
 pub mod GroupBounds
 pub mod Parts
-
-pub record FromEnterToLeave (stretch : List Event) : Type 0 where
-  pub first : Event
-  pub middle : List Event
-  pub last : Event
-  pub enters : isEnter first ≡ true
-  pub none-leaves : None isLeave middle
-  pub leaves : isLeave last ≡ true
-  pub whole : stretch ≡ first ∷ (middle ++ (last ∷ []))
 
 -- ---- the first leave is one place
 
@@ -84,12 +72,6 @@ module _ (last other : Event) (leaves : isLeave last ≡ true) (leaves-too : isL
 -- ---- every stretch is the walk of a group
 
 module _ (input : Input) (level : MessageLevel (input .layout .Group)) where
-  pub record OwnWalk (stretch : List Event) : Type 0 where
-    pub index : ℕ
-    pub group : input .layout .Group
-    pub walk-at : WalkAt input level index group
-    pub is-walk : stretch ≡ walkGroup input group 0 (level .allows) index .events
-
   module _ (stretch after : List Event) (bounds : FromEnterToLeave stretch) where
     stretch-and : stretch ++ after ≡ bounds .first ∷ (bounds .middle ++ (bounds .last ∷ after))
     stretch-and =
@@ -112,7 +94,7 @@ module _ (input : Input) (level : MessageLevel (input .layout .Group)) where
         ∙ ap (λ (list : List Event). walk .first ∷ list) (same-rest ∙ sym (walk .closed .whole))
         ∙ sym (walk .whole)
 
-    own-walk : BeginsWalk input level (bounds .first ∷ (bounds .middle ++ (bounds .last ∷ after))) → OwnWalk stretch
+    own-walk : BeginsWalk input level (bounds .first ∷ (bounds .middle ++ (bounds .last ∷ after))) → OwnWalk input level stretch
     own-walk begins = record {
       index = begins .index;
       group = begins .group;
@@ -124,7 +106,7 @@ module _ (input : Input) (level : MessageLevel (input .layout .Group)) where
 
   pub message-walk-stretches : (before stretch after : List Event) → messageEvents input level ≡ before ++ (stretch ++ after)
       → FromEnterToLeave stretch
-      → OwnWalk stretch
+      → OwnWalk input level stretch
   message-walk-stretches before stretch after stands bounds =
       own-walk stretch after bounds
       (walk-begins input level (bounds .first) (bounds .middle ++ (bounds .last ∷ after)) (bounds .enters) (messageEvents input level) before (message-parts input level)
@@ -133,27 +115,11 @@ module _ (input : Input) (level : MessageLevel (input .layout .Group)) where
 -- ---- what the call tells
 
 module _ (dictionary words fields message space : List ℕ) where
-  pub record StretchFinds (stretch : List Event) : Type 0 where
-    -- the walk of a top group from its count field on
-    pub own : OwnWalk (inputOf words fields message) (levelOf (definedTags dictionary) words) stretch
-    -- demand 3: it finds exactly the readings of the group
-    pub finds : FindsReadings (inputOf words fields message) (own .group) (topMembers words) (own .index)
-
-  pub record MessageCallFinds : Type 0 where
-    -- the events written
-    pub events : List Event
-    pub answer : walkedOf dictionary words fields message space ≡ Done (5 * length events)
-    pub written : take (5 * length events) (eventsIn dictionary words fields message space) ≡ eventsWords events
-    -- the words behind them are as they were
-    pub kept : drop (5 * length events) (eventsIn dictionary words fields message space) ≡ drop (5 * length events) space
-    -- every stretch from an enter at depth 0 to its leave
-    pub stretches : (before stretch after : List Event) → events ≡ before ++ (stretch ++ after) → FromEnterToLeave stretch → StretchFinds stretch
-
-  abbrev pub walked : List Event
+  abbrev walked : List Event
   walked = walkOf dictionary words fields message
 
   module _ (defines : isDictionary dictionary ≡ true) (right : isLayout gateLimits words ≡ true) (table : tableCheckOf fields (length message) ≡ Accepted)
-      (room : neededFor walked ≤ length space) where
+      (room : neededFor (walkOf dictionary words fields message) ≤ length space) where
     left : eventsIn dictionary words fields message space ≡ eventsWords walked ++ drop (neededFor walked) space
     unfolding eventsIn
     left = rw (defines, right, table, le-leb (neededFor walked) (length space) room)
@@ -162,7 +128,8 @@ module _ (dictionary words fields message space : List ℕ) where
     unfolding walkedOf
     answered = rw (defines, right, table, le-leb (neededFor walked) (length space) room)
 
-    stretch-finds : (stretch : List Event) → OwnWalk (inputOf words fields message) (levelOf (definedTags dictionary) words) stretch → StretchFinds stretch
+    stretch-finds : (stretch : List Event) → OwnWalk (inputOf words fields message) (levelOf (definedTags dictionary) words) stretch
+        → StretchFinds dictionary words fields message space stretch
     stretch-finds stretch own =
         let passed : Passed gateLimits words = isLayout-passed gateLimits words right in
         record {
@@ -172,7 +139,7 @@ module _ (dictionary words fields message space : List ℕ) where
               (groupOf-number words passed 0 _ (own .group) (omega arith) (own .walk-at .counts)) (own .walk-at .inside);
         }
 
-    pub message-call-finds-readings : MessageCallFinds
+    pub message-call-finds-readings : MessageCallFinds dictionary words fields message space
     message-call-finds-readings = record {
       events = walked;
       answer = answered;

@@ -1,12 +1,12 @@
 // The walk of a message on lent words: a call that refuses what it cannot walk, and else writes the events of the walk. Ported from validator.rs,
 // `Validator::validate`.
-use crate::message_walk::walk_fields;
-use crate::missing::put_missing;
 use dictionary::defined_tags::defined_tags;
 use dictionary::dictionary_check::is_dictionary;
 use layouts::layout_check::is_layout;
 use layouts::layout_words::count_tags_at;
 use layouts::layout_words::required_at;
+use message_level::missing::put_missing;
+use message_walk::message_walk::walk_fields;
 use refusals::refusal::Refusal;
 use walk::group_steps::row_count;
 use walk_memory::field_table::TableCheck;
@@ -18,9 +18,8 @@ ghost use Rattle.layouts.specs.LayoutWords.{groupCount};
 ghost use Rattle.layouts.specs.LayoutCheckFacts.{Passed};
 ghost use Rattle.walk_memory.specs.FieldTable.{rowCount};
 ghost use Rattle.walk_memory.specs.EventSpaceLaws.{Wrote};
-ghost use Rattle.validator.specs.MessageWords.{walkOf};
-ghost use Rattle.validator.specs.MessagePromises.{Accepted};
-ghost use Rattle.validator.specs.MessageCall.{mostWords, spaceAnswer, spaceWith, walkedOf, eventsIn};
+ghost use Rattle.validator.specs.CallPromises.{Accepted, mostWords};
+ghost use Rattle.validator.specs.MessageCall.{walkOf, spaceAnswer, spaceWith, walkedOf, eventsIn};
 
 // What the call answers.
 pub enum WalkedMessage {

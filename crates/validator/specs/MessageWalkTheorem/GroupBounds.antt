@@ -1,8 +1,6 @@
 -- The walk of a top group begins with its enter and ends with its leave, and has no other enter and no other leave at depth 0. Assumes nothing.
 --
---   isEnter event, isLeave event   an enter, a leave at depth 0
---   isBound event                  one of both
---   None test events               no event of the list passes the test
+--   isBound event                  an enter or a leave at depth 0
 --   Closed events                  the last event is a leave at depth 0, and none before it bounds a group there
 --   Bracketed events               the same behind an enter at depth 0
 use mathlib.Core.Path.{_≡_, refl, sym, ap, _∙_}
@@ -26,19 +24,10 @@ use Rattle.walk_memory.specs.WalkInput.{Layout, Fields, Input, countAt, event}
 use Rattle.group_reading.specs.GroupSteps.{Opening, outside, too-deep, member-leads, entries-follow, Step, stops, plain-field, nested-group, memberLeads, entryBegins, openingAt, stepAt}
 use Rattle.group_reading.specs.GroupStepsLaws.{openingAt-member-leads, openingAt-entries-follow}
 use Rattle.group_reading.specs.GroupWalk.{WalkedGroup, WalkedEntries, ScannedEntry, badCount, repeatedTag, endedBy, ended, wholeGroup, leadingEntry, fieldThen, entryThen, walkBy, entriesBy, scanBy, walkGroup}
-
-abbrev pub isEnter : Event → Bool
-isEnter event = kindNumber (event .kind) ≡ᵇ 1 && event .depth ≡ᵇ 0
-
-abbrev pub isLeave : Event → Bool
-isLeave event = kindNumber (event .kind) ≡ᵇ 8 && event .depth ≡ᵇ 0
+use Rattle.validator.specs.MessageStretches.{isEnter, isLeave, None}
 
 abbrev pub isBound : Event → Bool
 isBound event = (kindNumber (event .kind) ≡ᵇ 1 || kindNumber (event .kind) ≡ᵇ 8) && event .depth ≡ᵇ 0
-
-abbrev pub None : (Event → Bool) → List Event → Type 0
-None test [] = Unit {0}
-None test (event ∷ rest) = (test event ≡ false) × None test rest
 
 pub record Closed (events : List Event) : Type 0 where
   pub middle : List Event

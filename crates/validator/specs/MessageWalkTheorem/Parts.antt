@@ -1,7 +1,6 @@
 -- The events of a message walk are one behind the other events of kinds 9 to 11 and whole walks of top groups; so where an enter at depth 0 stands, such a
 -- walk begins. Assumes nothing.
 --
---   WalkAt input level index group   a field of the message level at `index` is the count field of this top group
 --   Parts input level events         the events are such a row
 --   BeginsWalk input level events    the events begin with the walk of a top group
 use mathlib.Core.Path.{_≡_, refl, sym, ap, _∙_}
@@ -19,8 +18,9 @@ use Rattle.walk_memory.specs.Membership.{_∈ᵇ_}
 use Rattle.walk_memory.specs.Events.{kindNumber}
 use Rattle.walk_memory.specs.WalkInput.{Layout, Fields, Input}
 use Rattle.group_reading.specs.GroupWalk.{walkGroup}
-use Rattle.validator.specs.MessageWalk.{MessageLevel, twiceIf, foreignUnless, missingIf, Turns, turnAnd, definedTurn, placeAt, turnAt, turnsFrom, messageTurns, missingTags, missingGroups, messageEvents}
-use Rattle.validator.specs.MessageWalkTheorem.GroupBounds.{isEnter, isLeave, isBound, None, Closed, Bracketed, none-append, walkGroup-bracketed}
+use Rattle.message_level.specs.MessageWalk.{MessageLevel, twiceIf, foreignUnless, missingIf, Turns, turnAnd, definedTurn, placeAt, turnAt, turnsFrom, messageTurns, missingTags, missingGroups, messageEvents}
+use Rattle.validator.specs.MessageStretches.{isEnter, isLeave, None, WalkAt}
+use Rattle.validator.specs.MessageWalkTheorem.GroupBounds.{isBound, Closed, Bracketed, none-append, walkGroup-bracketed}
 
 module _ (input : Input) (level : MessageLevel (input .layout .Group)) where
   open Input input using (layout, fields)
@@ -28,22 +28,17 @@ module _ (input : Input) (level : MessageLevel (input .layout .Group)) where
   open Fields fields using (fieldCount, tagAt)
   open MessageLevel level using (isDefined, topGroup, allows, required, requiredGroups)
 
-  pub record WalkAt (index : ℕ) (group : Group) : Type 0 where
-    pub inside : index < fieldCount
-    pub defined : isDefined (tagAt index) ≡ true
-    pub counts : topGroup (tagAt index) ≡ some group
-
   pub data Parts : (events : List Event) → Type 0 where
     no-part : {events : List Event} → events ≡ [] → Parts events
     level-event : {events : List Event} (event : Event) (rest : List Event) → isBound event ≡ false → Parts rest → events ≡ event ∷ rest → Parts events
-    group-walk : {events : List Event} (index : ℕ) (group : Group) (rest : List Event) → WalkAt index group → Parts rest
+    group-walk : {events : List Event} (index : ℕ) (group : Group) (rest : List Event) → WalkAt input level index group → Parts rest
         → events ≡ walkGroup input group 0 allows index .events ++ rest → Parts events
 
   pub record BeginsWalk (events : List Event) : Type 0 where
     pub index : ℕ
     pub group : Group
     pub rest : List Event
-    pub walk-at : WalkAt index group
+    pub walk-at : WalkAt input level index group
     pub whole : events ≡ walkGroup input group 0 allows index .events ++ rest
 
   -- ---- the row

@@ -3,7 +3,7 @@
 use mathlib.Core.Path.{ap}
 use native.Mathlib.Omega.{arith}
 use lib.ListN.{length}
-use Rattle.validator.specs.MissingLaws.{required-part-few, groups-part-few}
+use Rattle.message_level.specs.MissingLaws.{required-part-few, groups-part-few}
 use borrow.Author.Needs.{needs}
 use Rattle.validator.proofs.message_call.most_words.Statement.{statement}
 use Rattle.validator.proofs.message_call.most_words.Tie as tie
