@@ -1,11 +1,10 @@
 -- The call `expand` (document 01, 'The layout of a message type' and 'When the gate says no'): what it answers, and what the lent words hold afterwards.
 -- "Expansion: 6, then 7 to 10 as met, then 13." Lent words that are no accepted dictionary's are refused before that: "it refuses dictionary words with 2
 -- .., place 0". Row 13: "event, verdict, dictionary or layout space short", place "words needed". "A refusal writes nothing; an answer leaves the words
--- behind its last one as they were." `Expanded` is declared in src/expand_call.rt; number and place of a refusal are in `Refusal.antt` of texts. Assumes nothing.
+-- behind its last one as they were." `Expanded` is declared in src/expand_call.rt; number and place of a refusal are in `Refusal.antt` of refusals. Assumes nothing.
 --
 --   layoutAnswer expansion space         13, or how many nodes were spent and how many words are written; 6 to 10 before it
 --   layoutWith expansion words           what the lent words hold afterwards
---   toldAnswer trace nodes space, toldWith trace nodes words   the same for the layout that a trace tells of
 --   expandedOf dictionary type space     what the call answers on these dictionary words, where so many words are lent
 --   expandedIn dictionary type words     what the lent words hold afterwards
 use mathlib.Core.Path.{_≡_}
@@ -19,8 +18,7 @@ use Rattle.layouts.specs.LayoutWords.{arranged}
 use Rattle.expand.specs.declared.expand_call.Expanded.{Expanded}
 use Rattle.expand.specs.declared.expand_call.Expanded.the-variants.{Done, Refused}
 use Rattle.expansion.specs.Expansion as definition
-use Rattle.expansion.specs.BuildPromises.{expansionIn}
-use Rattle.expand.specs.ArrangeGather.{layoutTold}
+use Rattle.bodies.specs.DictionaryInWords.{expansionIn}
 
 abbrev pub layoutAnswer : definition.Expansion → ℕ → Expanded
 layoutAnswer (definition.Expanded layout nodes) space =
@@ -31,13 +29,6 @@ abbrev pub layoutWith : definition.Expansion → List ℕ → List ℕ
 layoutWith (definition.Expanded layout nodes) words =
     if length (arranged layout) ≤ᵇ length words then arranged layout ++ drop (length (arranged layout)) words else words
 layoutWith (definition.Refused refusal) words = words
-
--- the same for the layout that a trace tells of
-abbrev pub toldAnswer : List ℕ → ℕ → ℕ → Expanded
-toldAnswer trace nodes space = layoutAnswer (definition.Expanded (layoutTold trace) nodes) space
-
-abbrev pub toldWith : List ℕ → ℕ → List ℕ → List ℕ
-toldWith trace nodes words = layoutWith (definition.Expanded (layoutTold trace) nodes) words
 
 unfoldable pub expandedOf : List ℕ → List ℕ → ℕ → Expanded
 expandedOf dictionary type space = if isDictionary dictionary then layoutAnswer (expansionIn dictionary type) space else Refused (UnknownForm 0)

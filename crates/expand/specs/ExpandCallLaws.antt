@@ -1,5 +1,5 @@
 -- Laws of `ExpandCall.antt`, and the steps of `expand`. `expanded-isLayout`: what `expand` wrote passes the check of lent layout words; `expanded-fits`: it is
--- no more than was lent. Assumes nothing.
+-- no more than was lent; `expanded-few`: the nodes spent are at most 4,096. Assumes nothing.
 use mathlib.Core.Path.{_≡_, refl, sym, ap, _∙_}
 use Prim.Native.Nat.{ℕ, suc, _+_, _*_, _-_, _≤_, _<_}
 use mathlib.Core.Bool.{Bool, true, false, cond}
@@ -24,23 +24,25 @@ use Rattle.expansion.specs.declared.builder.Builder as Code
 use Rattle.expansion.specs.declared.builder.Added.{Added}
 use Rattle.expansion.specs.declared.builder.Added.the-variants as added
 use Rattle.expansion.specs.declared.builder.Stop.the-variants.{Error, NoRoom}
-use Rattle.expand.specs.declared.arrange.Gathering.{Gathering}
+use Rattle.arrange.specs.declared.arrange.Gathering.{Gathering}
 use Rattle.expand.specs.declared.expand_call.Expanded.{Expanded}
 use Rattle.expand.specs.declared.expand_call.Expanded.the-variants.{Done, Refused}
-use Rattle.expansion.specs.DictionaryLookups.{dictionaryIn}
+use Rattle.bodies.specs.DictionaryInWords.{dictionaryIn, expansionIn}
 use Rattle.expansion.specs.Expansion as definition
 use Rattle.expansion.specs.Expansion.{OpenLevel, finish}
+use Rattle.expansion.specs.ExpansionLaws.{expanded-nodes}
 use Rattle.expansion.specs.ExpansionRules.{expanded-rules}
 use Rattle.expansion.specs.ExpansionLimits.{expanded-limits}
-use Rattle.expand.specs.ExpansionGroups.{expanded-groups}
+use Rattle.expansion.specs.ExpansionGroups.{expanded-groups}
 use Rattle.expansion.specs.Trace.{Fits}
-use Rattle.expansion.specs.BuildPromises.{expansionIn, topFrame, Traced}
-use Rattle.expand.specs.ArrangeTrace.{groupAt, topStart}
-use Rattle.expand.specs.ArrangeTraceLaws.{trace-told}
-use Rattle.expand.specs.ArrangeWeightLaws.{members-counted, required-counted, groups-counted}
-use Rattle.expand.specs.ArrangeGather.{layoutTold, levelCount, GatherRoom, GatheredIn}
-use Rattle.expand.specs.ArrangeGatherLaws.{levelCount-within}
-use Rattle.expand.specs.ExpandCall.{layoutAnswer, layoutWith, toldAnswer, toldWith, expandedOf, expandedIn}
+use Rattle.bodies.specs.BuildPromises.{topFrame, Traced}
+use Rattle.arrange.specs.ArrangeTrace.{groupAt, topStart}
+use Rattle.arrange.specs.ArrangeTraceLaws.{trace-told}
+use Rattle.arrange.specs.ArrangeWeightLaws.{members-counted, required-counted, groups-counted}
+use Rattle.arrange.specs.ArrangeGather.{layoutTold, levelCount, GatherRoom, GatheredIn}
+use Rattle.arrange.specs.ArrangeGatherLaws.{levelCount-within}
+use Rattle.expand.specs.ExpandCall.{layoutAnswer, layoutWith, expandedOf, expandedIn}
+use Rattle.expand.specs.ExpandSteps.{toldAnswer, toldWith}
 
 -- ---- the memory for arranging
 
@@ -262,3 +264,25 @@ module _ (dictionary type words : List ℕ) (nodes written : ℕ) where
   pub expanded-isLayout : expandedOf dictionary type (length words) ≡ Done nodes written → isLayout gateLimits (expandedIn dictionary type words) ≡ true
   unfolding expandedOf expandedIn
   expanded-isLayout given = check-by (isDictionary dictionary) given
+
+-- ---- the nodes spent
+
+module _ (dictionary type : List ℕ) (space nodes written : ℕ) where
+  few-by : (test : Bool) (size spent : ℕ) → spent ≤ 4096 → cond test (Done spent size) (Refused (SpaceShort size)) ≡ Done nodes written → nodes ≤ 4096
+  few-by true size spent few given = let same : spent ≡ nodes = cc in omega (arith, few, same)
+  few-by false size spent few given = let never : _≡_ {A = ℕ} 0 1 = cc in absurd (omega arith)
+
+  answer-few : (expansion : definition.Expansion) → expansionIn dictionary type ≡ expansion → layoutAnswer expansion space ≡ Done nodes written → nodes ≤ 4096
+  answer-few (definition.Expanded layout spent) is given =
+      few-by (leb (length (arranged layout)) space) (length (arranged layout)) spent
+      (expanded-nodes gateLimits (dictionaryIn dictionary) (dictionaryIn dictionary) type layout spent is)
+      given
+  answer-few (definition.Refused refusal) is given = let never : _≡_ {A = ℕ} 0 1 = cc in absurd (omega arith)
+
+  check-few : (test : Bool) → cond test (layoutAnswer (expansionIn dictionary type) space) (Refused (UnknownForm 0)) ≡ Done nodes written → nodes ≤ 4096
+  check-few true given = answer-few (expansionIn dictionary type) refl given
+  check-few false given = let never : _≡_ {A = ℕ} 0 1 = cc in absurd (omega arith)
+
+  pub expanded-few : expandedOf dictionary type space ≡ Done nodes written → nodes ≤ 4096
+  unfolding expandedOf
+  expanded-few given = check-few (isDictionary dictionary) given

@@ -1,16 +1,4 @@
--- Definitions and laws of the crate `expand`: what a trace tells of the layout of a message type, and the call `expand`. A definition's laws
--- stand in the file of its name with `Laws`, its examples in the one with `Cases`.
-pub mod ExpansionGroups
-pub mod ArrangeTrace
-pub mod ArrangeTraceLaws
-pub mod ArrangeGroups
-pub mod ArrangeGroupsLaws
-pub mod ArrangeCases
-pub mod ArrangeLevelLaws
-pub mod ArrangeRows
-pub mod ArrangeRowsLaws
-pub mod ArrangeWeightLaws
-pub mod ArrangeGather
-pub mod ArrangeGatherLaws
+-- Definitions and laws of the crate `expand`: the call `expand`. A definition's laws stand in the file of its name with `Laws`.
 pub mod ExpandCall
+pub mod ExpandSteps
 pub mod ExpandCallLaws

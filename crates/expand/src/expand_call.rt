@@ -1,5 +1,5 @@
 // The expansion of a message type, on lent words: from a dictionary's words to those of the type's layout.
-use crate::arrange::gather;
+use arrange::arrange::gather;
 use dictionary::dictionary_check::is_dictionary;
 use expansion::builder::Added;
 use expansion::builder::Stop;
@@ -10,8 +10,9 @@ ghost use mathlib.Core.Bool.{true};
 ghost use Prim.Native.Nat.{_≤_};
 ghost use lib.ListN.{length};
 ghost use Rattle.dictionary.specs.DictionaryCheck.{isDictionary};
-ghost use Rattle.expand.specs.ArrangeGather.{levelCount, GatherRoom};
-ghost use Rattle.expand.specs.ExpandCall.{toldAnswer, toldWith, expandedOf, expandedIn};
+ghost use Rattle.arrange.specs.ArrangeGather.{levelCount, GatherRoom};
+ghost use Rattle.expand.specs.ExpandCall.{expandedOf, expandedIn};
+ghost use Rattle.expand.specs.ExpandSteps.{toldAnswer, toldWith};
 
 // What the expansion of a message type gives.
 pub enum Expanded {
@@ -127,7 +128,7 @@ fn expand_long(dictionary: &[u32], message_type: &[u8], layout: &mut [u32]) -> E
     ensures memory { λ _. ⌜ now (layout .exit) ≡ expandedIn (now (dictionary .entry)) (now («message_type» .entry)) (now (layout .entry)) ⌝ }
 {
     let mut trace = [0u64; 14336];
-    match expansion::build::expand(dictionary, message_type, &mut trace) {
+    match bodies::build::expand(dictionary, message_type, &mut trace) {
         Added::Stopped(stop) => match stop {
             Stop::Error(refusal) => Expanded::Refused(refusal),
             Stop::NoRoom => Expanded::Refused(Refusal::MembersOver),
@@ -147,7 +148,7 @@ fn expand_short(dictionary: &[u32], message_type: &[u8], layout: &mut [u32]) -> 
     ensures memory { λ _. ⌜ now (layout .exit) ≡ expandedIn (now (dictionary .entry)) (now («message_type» .entry)) (now (layout .entry)) ⌝ }
 {
     let mut trace = [0u64; 1024];
-    match expansion::build::expand(dictionary, message_type, &mut trace) {
+    match bodies::build::expand(dictionary, message_type, &mut trace) {
         Added::Stopped(stop) => match stop {
             Stop::Error(refusal) => Expanded::Refused(refusal),
             Stop::NoRoom => expand_long(dictionary, message_type, layout),

@@ -1,5 +1,2 @@
-// From the trace of an expansion to the words of its layout, and the call `expand`.
-mod arrange;
-mod arrange_groups;
-mod arrange_level;
+// The call `expand`: from a dictionary's words to the words of a message type's layout.
 pub mod expand_call;

@@ -21,7 +21,7 @@
 --                             in work above the level around, which has the count tag
 --   Leaves delimiter builder before next after   the same for leaving a group
 --   Fits builder              what was added and spent is within the limits, and the trace has a word for each step so far
---   Grows builder added       the builder that is given fits as well
+--   Grows builder added       the builder that is given fits as well, with as many nodes spent or more
 use mathlib.Core.Path.{_≡_}
 use Prim.Native.Nat.{ℕ, _+_, _≤_, _<_, _/_, _%_}
 use mathlib.Core.Bool.{Bool, false}
@@ -137,9 +137,10 @@ pub record Fits (builder : Code.Builder) : Type 0 where
   pub required : builder .required ≤ 2048
   pub len : builder .len ≤ builder .members + builder .required + builder .nodes
 
--- the next builder fits too, and where more words than one for each step were left, they still are
+-- the next builder fits too, no node was given back, and where more words than one for each step were left, they still are
 pub record Grown (builder next : Code.Builder) : Type 0 where
   pub fits : Fits next
+  pub spent : builder .nodes ≤ next .nodes
   pub slack : next .len + (builder .members + builder .required + builder .nodes) ≤ builder .len + (next .members + next .required + next .nodes)
 
 unfoldable pub Grows : Code.Builder → Added → Type 0

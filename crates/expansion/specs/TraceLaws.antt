@@ -115,7 +115,11 @@ module _ (earlier later : Work → Work) (builder : Code.Builder) (before middle
       stops-later stop middle later begun (λ refusal met. keeps refusal begun met) (first frame outer stands)
 
 pub grown-then : (builder next last : Code.Builder) → Grown builder next → Grown next last → Grown builder last
-grown-then builder next last first second = record { fits = second .fits; slack = omega (arith, first .slack, second .slack) }
+grown-then builder next last first second = record {
+  fits = second .fits;
+  spent = omega (arith, first .spent, second .spent);
+  slack = omega (arith, first .slack, second .slack);
+}
 
 -- ---- add_member, add_required
 
@@ -145,6 +149,7 @@ module _ (builder : Code.Builder) (trace : List ℕ) (tag : ℕ) (narrow : tag <
   pub member-grows : builder .members < 8192 → Grown builder memberMore
   member-grows room = record {
     fits = record { nodes = fits .nodes; members = omega arith; required = fits .required; len = omega (arith, fits .len) };
+    spent = omega arith;
     slack = omega arith;
   }
 
@@ -167,6 +172,7 @@ module _ (builder : Code.Builder) (trace : List ℕ) (tag : ℕ) (narrow : tag <
   pub required-grows : builder .required < 2048 → Grown builder requiredMore
   required-grows room = record {
     fits = record { nodes = fits .nodes; members = fits .members; required = omega arith; len = omega (arith, fits .len) };
+    spent = omega arith;
     slack = omega arith;
   }
 
@@ -235,6 +241,7 @@ module _ (builder : Code.Builder) (name : ℕ) where
       → Grown builder (nodeMore builder)
   node-grows fits room = record {
     fits = record { nodes = omega arith; members = fits .members; required = fits .required; len = omega (arith, fits .len) };
+    spent = omega arith;
     slack = omega arith;
   }
 
@@ -305,6 +312,7 @@ module _ (builder : Code.Builder) (trace : List ℕ) (count : ℕ) (required : B
   pub enter-grows : builder .members + 1 < 8192 → Grown builder groupMore
   enter-grows room = record {
     fits = record { nodes = fits .nodes; members = omega arith; required = fits .required; len = omega (arith, fits .len) };
+    spent = omega arith;
     slack = omega arith;
   }
 

@@ -1,7 +1,4 @@
-// The expansion of a message type: from the definitions of a dictionary to the layout of a message.
-pub mod body_line;
-pub mod build;
+// What an expansion adds, a step at a time: the Rust's `ScopeBuilder` and `Level`.
 pub mod builder;
-pub mod expansion;
 pub mod required;
 pub mod seen;
