@@ -17,8 +17,7 @@ use layouts::layout_words::count_tags_at;
 use layouts::layout_words::delimiter_at;
 use layouts::layout_words::members_at;
 use walk_memory::entry_tags::EntryTags;
-use walk_memory::entry_tags::insert_wide;
-use walk_memory::entry_tags::rank_count;
+use walk_memory::entry_tags::WideEntryTags;
 use walk_memory::event::Kind;
 use walk_memory::field_table::count_at;
 ghost use Rattle.walk.specs.WalkPromises.{WalkAsks, Walks, ScanAsks, Scans};
@@ -38,7 +37,7 @@ pub struct EntryEnd {
 }
 
 // Walks one group instance, starting at its count field at `index`, and returns the index of the first field after the group. `enclosing` lists,
-// sorted, the tags the scope around the group accepts. The tags seen in an entry are kept in one set for a level of up to 128 members, else in 128 words.
+// sorted, the tags the scope around the group accepts. The tags seen in an entry are kept in a set of the level's width.
 pub fn walk_group<'a>(
     fields: &[u32],
     message: &[u8],
@@ -89,7 +88,7 @@ pub fn walk_group<'a>(
                 unparseable = true;
             }
         }
-        if members.len() <= 128 {
+        if members.len() <= 256 {
             let entry = scan_entry(fields, message, words, group, cursor, depth, events, to);
             let close = Kind::Close(entries, entry.seen);
             to = put_event(events, entry.at, tag, depth, close);
@@ -113,7 +112,7 @@ pub fn walk_group<'a>(
 }
 
 // Consumes one entry starting at `start`: its own fields, and the runs of the groups nested in it. Stops at the next delimiter (the next entry) or
-// at the first field that is not a member (the end of the group). For a level of up to 128 members.
+// at the first field that is not a member (the end of the group). For a level of up to 256 members.
 fn scan_entry<'a>(
     fields: &[u32],
     message: &[u8],
@@ -124,7 +123,7 @@ fn scan_entry<'a>(
     events: &mut [u64],
     at: usize,
 ) -> EntryEnd
-    requires { ⌜ ScanAsks (now words) (now fields) (now message) group start depth at 128 ⌝ }
+    requires { ⌜ ScanAsks (now words) (now fields) (now message) group start depth at 256 ⌝ }
     ensures { λ end. ⌜ Scans (now (words .entry)) (now (fields .entry)) (now (message .entry)) group start depth
         (now (events .entry)) (now (events .exit)) at (end .at) (end .next) (end .seen) (end .unparseable) ⌝ }
 {
@@ -182,7 +181,7 @@ fn scan_entry<'a>(
     }
 }
 
-// As `scan_entry`, for a wider level.
+// As `scan_entry`, for a wider level: only the set differs.
 fn scan_wide<'a>(
     fields: &[u32],
     message: &[u8],
@@ -202,7 +201,7 @@ fn scan_wide<'a>(
     let members = members_at(words, 1 + group);
     let tags = count_tags_at(words, 1 + group);
     let first = first_group_of(words, 1 + group);
-    let mut seen = [0u64; 128];
+    let mut seen = WideEntryTags::new();
     let mut cursor = start;
     let mut unparseable = false;
     let mut to = at;
@@ -212,15 +211,19 @@ fn scan_wide<'a>(
                 break;
             }
             EntryStep::Plain(rank, member) => {
-                let fresh = insert_wide(&mut seen, rank);
-                to = put_repeat(events, to, tag, depth, member, fresh);
-                unparseable = spoilt_by(unparseable, fresh);
+                let inserted = seen.insert_rank(rank);
+                let with = inserted.tags;
+                seen = with;
+                to = put_repeat(events, to, tag, depth, member, inserted.fresh);
+                unparseable = spoilt_by(unparseable, inserted.fresh);
                 cursor += 1;
             }
             EntryStep::Nested(rank, member, inner) => {
-                let fresh = insert_wide(&mut seen, rank);
-                to = put_repeat(events, to, tag, depth, member, fresh);
-                unparseable = spoilt_by(unparseable, fresh);
+                let inserted = seen.insert_rank(rank);
+                let with = inserted.tags;
+                seen = with;
+                to = put_repeat(events, to, tag, depth, member, inserted.fresh);
+                unparseable = spoilt_by(unparseable, inserted.fresh);
                 let below = depth + 1;
                 let nested = walk_group(
                     fields,
@@ -238,7 +241,7 @@ fn scan_wide<'a>(
             }
         }
     }
-    let count = rank_count(&seen, members.len());
+    let count = seen.close(members.len());
     EntryEnd {
         next: cursor,
         at: to,

@@ -1,6 +1,6 @@
 -- Laws of `EntryTags.antt`: one bit of a word, a rank of the words, and the set of ranks that the words stand for. One law serves every number of
 -- words. Assumes nothing.
-use mathlib.Core.Path.{_≡_, refl, ap, _∙_}
+use mathlib.Core.Path.{_≡_, refl, sym, ap, _∙_}
 use mathlib.Core.Logic.{_≢_}
 use Prim.Native.Nat.{ℕ, zero, suc, _+_, _*_, _-_, _/_, _%_, _^_, min, _≤_, _<_}
 use mathlib.Core.Bool.{Bool, true, false, not, _||_, false≢true}
@@ -105,7 +105,7 @@ module _ (words : List ℕ) (rank : ℕ) where
   unfolding insertRank
   inserted-is = refl
 
--- ---- the same by the first two words, each with its mask
+-- ---- the same by the words one by one, each with its mask
 
 module _ (word rank : ℕ) where
   pub mask-here : rank / 64 ≡ word → 2 ^ (rank % 64) ≡ maskIn word rank
@@ -116,80 +116,60 @@ module _ (word rank : ℕ) where
   unfolding maskIn
   mask-elsewhere differ = rw (ne-eqb (rank / 64) word differ)
 
-first-kept : (words : List ℕ) (bits : ℕ) → set (set words 0 (getD words 0 0)) 1 bits ≡ set words 1 bits
-first-kept [] bits = refl
-first-kept (first ∷ rest) bits = refl
-
-second-kept : (words : List ℕ) (bits : ℕ) → set (set words 0 bits) 1 (getD words 1 0) ≡ set words 0 bits
-second-kept [] bits = refl
-second-kept (first ∷ []) bits = refl
-second-kept (first ∷ second ∷ rest) bits = refl
-
 module _ (words : List ℕ) (rank : ℕ) where
-  two-inserted : (word : ℕ) → rank / 64 ≡ word → word < 2
-      → set (set words 0 (bitOr (getD words 0 0) (maskIn 0 rank))) 1 (bitOr (getD words 1 0) (maskIn 1 rank)) ≡ insertRank words rank
-  two-inserted zero at-word few =
-      rw (← mask-here 0 rank at-word, ← mask-elsewhere 1 rank (λ same. omega (arith, same, at-word)), or-zero-r (getD words 1 0))
-      (second-kept words (bitOr (getD words 0 0) (2 ^ (rank % 64))) ∙ (rw at-word at (inserted-is words rank)))
-  two-inserted (suc zero) at-word few =
-      rw (← mask-elsewhere 0 rank (λ same. omega (arith, same, at-word)), ← mask-here 1 rank at-word, or-zero-r (getD words 0 0))
-      (first-kept words (bitOr (getD words 1 0) (2 ^ (rank % 64))) ∙ (rw at-word at (inserted-is words rank)))
-  two-inserted (suc (suc word)) at-word few = absurd (omega (arith, few))
+  -- the words up to the one numbered `last`, each joined with its mask; and what they have of it
+  abbrev pub withMasks : ℕ → List ℕ
+  withMasks zero = set words 0 (bitOr (getD words 0 0) (maskIn 0 rank))
+  withMasks (suc last) = set (withMasks last) (suc last) (bitOr (getD words (suc last) 0) (maskIn (suc last) rank))
 
-  two-fresh : (word : ℕ) → rank / 64 ≡ word → word < 2
-      → eqb (bitOr (bitAnd (getD words 0 0) (maskIn 0 rank)) (bitAnd (getD words 1 0) (maskIn 1 rank))) 0 ≡ not (holdsRank words rank)
-  two-fresh zero at-word few =
-      rw (← mask-here 0 rank at-word, ← mask-elsewhere 1 rank (λ same. omega (arith, same, at-word)), and-zero-r (getD words 1 0), or-zero-r (bitAnd (getD words 0 0) (2 ^ (rank % 64))))
-      (rw at-word at (fresh-is words rank))
-  two-fresh (suc zero) at-word few =
-      rw (← mask-elsewhere 0 rank (λ same. omega (arith, same, at-word)), ← mask-here 1 rank at-word, and-zero-r (getD words 0 0), or-zero-l (bitAnd (getD words 1 0) (2 ^ (rank % 64))))
-      (rw at-word at (fresh-is words rank))
-  two-fresh (suc (suc word)) at-word few = absurd (omega (arith, few))
+  abbrev pub masksHit : ℕ → ℕ
+  masksHit zero = bitAnd (getD words 0 0) (maskIn 0 rank)
+  masksHit (suc last) = bitOr (masksHit last) (bitAnd (getD words (suc last) 0) (maskIn (suc last) rank))
 
-  module _ (few : rank / 64 < 2) where
-    pub inserted-two : set (set words 0 (bitOr (getD words 0 0) (maskIn 0 rank))) 1 (bitOr (getD words 1 0) (maskIn 1 rank)) ≡ insertRank words rank
-    inserted-two = two-inserted (rank / 64) refl few
+  -- a word that has not the rank's bit stays
+  kept-there : (word : ℕ) → (rank / 64 ≡ word → ⊥) → (others : List ℕ) → getD others word 0 ≡ getD words word 0
+      → set others word (bitOr (getD words word 0) (maskIn word rank)) ≡ others
+  kept-there word apart others same = rw (← mask-elsewhere word rank apart, or-zero-r (getD words word 0), ← same, set-getD)
 
-    pub fresh-two : eqb (bitOr (bitAnd (getD words 0 0) (maskIn 0 rank)) (bitAnd (getD words 1 0) (maskIn 1 rank))) 0 ≡ not (holdsRank words rank)
-    fresh-two = two-fresh (rank / 64) refl few
+  no-hit : (word : ℕ) → (rank / 64 ≡ word → ⊥) → bitAnd (getD words word 0) (maskIn word rank) ≡ 0
+  no-hit word apart = rw (← mask-elsewhere word rank apart) (and-zero-r (getD words word 0))
 
--- ---- the same by the set of the 128 ranks around a rank, in the words of a wider level
+  masks-below : (last : ℕ) → last < rank / 64 → withMasks last ≡ words
+  masks-below zero below = kept-there 0 (λ same. omega (arith, same, below)) words refl
+  masks-below (suc last) below =
+      rw (masks-below last (omega arith)) (kept-there (suc last) (λ same. omega (arith, same, below)) words refl)
 
-module _ (words : List ℕ) (rank : ℕ) where
-  -- the two words of that set
-  abbrev pub partOf : List ℕ
-  partOf = getD words (rank / 128 * 2) 0 ∷ getD words (rank / 128 * 2 + 1) 0 ∷ []
+  hits-below : (last : ℕ) → last < rank / 64 → masksHit last ≡ 0
+  hits-below zero below = no-hit 0 (λ same. omega (arith, same, below))
+  hits-below (suc last) below =
+      rw (hits-below last (omega arith), no-hit (suc last) (λ same. omega (arith, same, below))) (or-zero-r 0)
 
-  -- the words with such a set in place of their own
-  abbrev pub withPart : List ℕ → List ℕ
-  withPart part = set (set words (rank / 128 * 2) (getD part 0 0)) (rank / 128 * 2 + 1) (getD part 1 0)
-
-  same-bit : rank % 128 % 64 ≡ rank % 64
-  same-bit = omega arith
-
-  held-by : (word : ℕ) → rank % 128 / 64 ≡ word → holdsRank partOf (rank % 128) ≡ holdsRank words rank
-  unfolding holdsRank
-  held-by zero at-word = let here : rank / 64 ≡ rank / 128 * 2 = omega arith in rw (at-word, same-bit, here)
-  held-by (suc zero) at-word = let here : rank / 64 ≡ rank / 128 * 2 + 1 = omega arith in rw (at-word, same-bit, here)
-  held-by (suc (suc word)) at-word = absurd (omega arith)
-
-  pub part-holds : holdsRank partOf (rank % 128) ≡ holdsRank words rank
-  part-holds = held-by (rank % 128 / 64) refl
-
-  inserted-by : (word : ℕ) → rank % 128 / 64 ≡ word → withPart (insertRank partOf (rank % 128)) ≡ insertRank words rank
+  pub inserted-masks : (last : ℕ) → rank / 64 ≤ last → withMasks last ≡ insertRank words rank
   unfolding insertRank
-  inserted-by zero at-word =
-      let here : rank / 64 ≡ rank / 128 * 2 = omega arith in
-      let other : getD (set words (rank / 128 * 2) (bitOr (getD words (rank / 128 * 2) 0) (2 ^ (rank % 64)))) (rank / 128 * 2 + 1) 0 ≡ getD words (rank / 128 * 2 + 1) 0 =
-      getD-set-other words (rank / 128 * 2) (rank / 128 * 2 + 1) (bitOr (getD words (rank / 128 * 2) 0) (2 ^ (rank % 64))) 0 (λ (same : rank / 128 * 2 + 1 ≡ rank / 128 * 2). omega (arith, same)) in
-      rw (at-word, same-bit, here, ← other, set-getD)
-  inserted-by (suc zero) at-word =
-      let here : rank / 64 ≡ rank / 128 * 2 + 1 = omega arith in
-      rw (at-word, same-bit, here, set-getD)
-  inserted-by (suc (suc word)) at-word = absurd (omega arith)
+  inserted-masks zero within =
+      let here : rank / 64 ≡ 0 = omega arith in
+      rw (← mask-here 0 rank here, here)
+  inserted-masks (suc last) within = go (inserted-masks last) (ℕ-discrete (rank / 64) (suc last))
+    where
+      go : (rank / 64 ≤ last → withMasks last ≡ insertRank words rank) → Dec (rank / 64 ≡ suc last) → withMasks (suc last) ≡ insertRank words rank
+      go before (yes here) = rw (masks-below last (omega arith), ← mask-here (suc last) rank here, here)
+      go before (no apart) =
+          rw (before (omega arith))
+          (kept-there (suc last) apart (insertRank words rank) (getD-set-other words (rank / 64) (suc last) _ 0 (λ same. apart (sym same))))
 
-  pub part-inserted : withPart (insertRank partOf (rank % 128)) ≡ insertRank words rank
-  part-inserted = inserted-by (rank % 128 / 64) refl
+  hit-by : (last : ℕ) → rank / 64 ≤ last → masksHit last ≡ bitAnd (getD words (rank / 64) 0) (2 ^ (rank % 64))
+  hit-by zero within =
+      let here : rank / 64 ≡ 0 = omega arith in
+      rw (← mask-here 0 rank here, here)
+  hit-by (suc last) within = go (hit-by last) (ℕ-discrete (rank / 64) (suc last))
+    where
+      go : (rank / 64 ≤ last → masksHit last ≡ bitAnd (getD words (rank / 64) 0) (2 ^ (rank % 64))) → Dec (rank / 64 ≡ suc last)
+          → masksHit (suc last) ≡ bitAnd (getD words (rank / 64) 0) (2 ^ (rank % 64))
+      go before (yes here) = rw (hits-below last (omega arith), ← mask-here (suc last) rank here, here) (or-zero-l _)
+      go before (no apart) = rw (no-hit (suc last) apart, or-zero-r (masksHit last)) (before (omega arith))
+
+  pub fresh-masks : (last : ℕ) → rank / 64 ≤ last → eqb (masksHit last) 0 ≡ not (holdsRank words rank)
+  fresh-masks last within = rw (hit-by last within) (fresh-is words rank)
 
 -- ---- onesOf
 

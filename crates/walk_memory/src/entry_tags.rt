@@ -1,5 +1,6 @@
-// The tags seen at one entry's own level, as a set of ranks: each tag's rank in the group's sorted member list. Ported from walk.rs, `EntryTags`,
-// by value: inserting gives the set back with whether the rank was new. A level of more than 128 members keeps one such set for each 128 of them.
+// The tags seen at one entry's own level, as a set of ranks: each tag's rank in the group's sorted
+// member list. Ported from walk.rs, `EntryTags`, by value: a method takes the set, and inserting gives
+// it back with whether the rank was new. Two widths, as the Rust has an inline set and one on the heap.
 ghost use mathlib.Core.Path.{_≡_};
 ghost use Prim.Native.Nat.{_+_, _*_, _/_, _%_, _^_, _≤_, _<_};
 ghost use mathlib.Core.Bool.{not};
@@ -7,15 +8,25 @@ ghost use lib.Count as Count;
 ghost use lib.ListN.{length};
 ghost use Rattle.walk_memory.specs.EntryTags.{noRanks, holdsRank, insertRank, maskIn, rankCount};
 
-// The ranks of up to 128 members. Two words stay in registers; the eight of the Rust's INLINE_MEMBERS would be copied through memory at each insert
-// (docs/SPEED.md).
+// A level of up to 256 members. Four words stay in registers; the eight of the Rust's INLINE_MEMBERS
+// would be copied through memory at each insert (docs/SPEED.md).
 pub struct EntryTags {
-    pub words: [u64; 2],
+    pub words: [u64; 4],
 }
 
 // The set with a rank, and whether it was not there before.
 pub struct Inserted {
     pub tags: EntryTags,
+    pub fresh: bool,
+}
+
+// A wider level, of up to 8,192 members. The Rust's set on the heap.
+pub struct WideEntryTags {
+    pub words: [u64; 128],
+}
+
+pub struct WideInserted {
+    pub tags: WideEntryTags,
     pub fresh: bool,
 }
 
@@ -52,7 +63,7 @@ fn ones_in(word: u64) -> u64
 }
 
 // How many ranks the words have, of a level of so many members: the ones of the words in use.
-pub fn rank_count(words: &[u64], members: usize) -> u64
+fn rank_count(words: &[u64], members: usize) -> u64
     requires { ⌜ (members ≤ 8192) × (members ≤ 64 * length (now words)) ⌝ }
     ensures { λ seen. ⌜ seen ≡ rankCount (now (words .entry)) members ⌝ }
 {
@@ -68,25 +79,30 @@ pub fn rank_count(words: &[u64], members: usize) -> u64
 
 impl EntryTags {
     pub fn new() -> Self
-        ensures { λ tags. ⌜ tags .words ≡ noRanks 2 ⌝ }
+        ensures { λ tags. ⌜ tags .words ≡ noRanks 4 ⌝ }
     {
-        EntryTags { words: [0u64; 2] }
+        EntryTags { words: [0u64; 4] }
     }
 
-    // Records the member ranked `rank`; `fresh` is false if it was already recorded. Both words are reached by numbers and not by a variable, so that the
-    // compiled walk keeps them in registers (docs/SPEED.md).
+    // Records the member ranked `rank`; `fresh` is false if it was already recorded. The words are
+    // reached by numbers and not by a variable, so that the compiled walk keeps them in registers.
     pub fn insert_rank(self, rank: usize) -> Inserted
-        requires { ⌜ rank < 128 ⌝ }
-        ensures { λ inserted. ⌜ (inserted .tags .words ≡ insertRank (self .words) rank) × (inserted .fresh ≡ not (holdsRank (self .words) rank)) ⌝ }
+        requires { ⌜ rank < 256 ⌝ }
+        ensures { λ inserted. ⌜ (inserted .tags .words ≡ insertRank (self .words) rank)
+            × (inserted .fresh ≡ not (holdsRank (self .words) rank)) ⌝ }
     {
-        let low = mask_in(0, rank);
-        let high = mask_in(1, rank);
-        let first = self.words[0];
-        let second = self.words[1];
-        let hit = (first & low) | (second & high);
+        let first = mask_in(0, rank);
+        let second = mask_in(1, rank);
+        let third = mask_in(2, rank);
+        let fourth = mask_in(3, rank);
+        let words = self.words;
+        let low = (words[0] & first) | (words[1] & second);
+        let hit = low | (words[2] & third) | (words[3] & fourth);
         let mut tags = self;
-        tags.words[0] = first | low;
-        tags.words[1] = second | high;
+        tags.words[0] = words[0] | first;
+        tags.words[1] = words[1] | second;
+        tags.words[2] = words[2] | third;
+        tags.words[3] = words[3] | fourth;
         Inserted {
             tags,
             fresh: hit == 0,
@@ -95,7 +111,7 @@ impl EntryTags {
 
     // How many ranks the set has, of a level of so many members.
     pub fn close(self, members: usize) -> u64
-        requires { ⌜ members ≤ 128 ⌝ }
+        requires { ⌜ members ≤ 256 ⌝ }
         ensures { λ seen. ⌜ seen ≡ rankCount (self .words) members ⌝ }
     {
         let words = self.words;
@@ -103,21 +119,36 @@ impl EntryTags {
     }
 }
 
-// Records the member ranked `rank` in the words of a wider level, of up to 8,192 members: takes the set of the 128 ranks around it out of the words, and puts
-// it back with the rank. False if it was already recorded.
-pub fn insert_wide(words: &mut [u64], rank: usize) -> bool
-    requires { ⌜ (rank < 8192) × (length (now words) ≡ 128) ⌝ }
-    ensures outcome { λ fresh. ⌜ fresh ≡ not (holdsRank (now (words .entry)) rank) ⌝ }
-    ensures memory { λ _. ⌜ now (words .exit) ≡ insertRank (now (words .entry)) rank ⌝ }
-{
-    let even = rank / 128 * 2;
-    let odd = even + 1;
-    let part = EntryTags {
-        words: [words[even], words[odd]],
-    };
-    let inserted = part.insert_rank(rank % 128);
-    let tags = inserted.tags;
-    words[even] = tags.words[0];
-    words[odd] = tags.words[1];
-    inserted.fresh
+impl WideEntryTags {
+    pub fn new() -> Self
+        ensures { λ tags. ⌜ tags .words ≡ noRanks 128 ⌝ }
+    {
+        WideEntryTags { words: [0u64; 128] }
+    }
+
+    // As `EntryTags::insert_rank`.
+    pub fn insert_rank(mut self, rank: usize) -> WideInserted
+        requires { ⌜ rank < 8192 ⌝ }
+        ensures { λ inserted. ⌜ (inserted .tags .words ≡ insertRank (self .words) rank)
+            × (inserted .fresh ≡ not (holdsRank (self .words) rank)) ⌝ }
+    {
+        let word = rank / 64;
+        let mask = mask_of(rank);
+        let old = self.words[word];
+        let hit = old & mask;
+        self.words[word] = old | mask;
+        WideInserted {
+            tags: self,
+            fresh: hit == 0,
+        }
+    }
+
+    // As `EntryTags::close`.
+    pub fn close(self, members: usize) -> u64
+        requires { ⌜ members ≤ 8192 ⌝ }
+        ensures { λ seen. ⌜ seen ≡ rankCount (self .words) members ⌝ }
+    {
+        let words = self.words;
+        rank_count(&words, members)
+    }
 }
