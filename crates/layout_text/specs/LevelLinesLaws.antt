@@ -115,9 +115,6 @@ unfolding least leastBytes levelLineOf
 least-unknown = refl
 
 module _ (bytes : List ℕ) where
-  Short : Line → Type 0
-  Short line = least line ≤ length bytes + 1
-
   -- a line that begins with a key has the bytes of the key
   by-key : (key : List ℕ) (starts : Bool) → startsWith key bytes ≡ starts → (this that : Line) → least this ≤ length key + 1 → least that ≤ length bytes + 1
       → least (cond starts this that) ≤ length bytes + 1

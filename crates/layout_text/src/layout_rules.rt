@@ -80,16 +80,16 @@ fn group_broken(members: &[u32], delimiter: u32, tags: &[u32], count: u32) -> Fi
 }
 
 // The lowest of rules 5 to 7 that the top breaks.
-fn top_broken(members: &[u32], tags: &[u32]) -> FirstBroken
-    ensures { λ broken. ⌜ broken ≡ levelBroken (now (members .entry)) (now (tags .entry)) ⌝ }
+fn top_broken(top_members: &[u32], top_tags: &[u32]) -> FirstBroken
+    ensures { λ broken. ⌜ broken ≡ levelBroken (now (top_members .entry)) (now (top_tags .entry)) ⌝ }
 {
-    if !is_strictly_ascending(tags) {
+    if !is_strictly_ascending(top_tags) {
         return FirstBroken::BrokenRule(5, 0);
     }
-    if !is_strictly_ascending(members) {
+    if !is_strictly_ascending(top_members) {
         return FirstBroken::BrokenRule(6, 0);
     }
-    if !are_among(members, tags) {
+    if !are_among(top_members, top_tags) {
         return FirstBroken::BrokenRule(7, 0);
     }
     FirstBroken::Unbroken

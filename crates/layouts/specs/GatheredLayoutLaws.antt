@@ -252,11 +252,6 @@ module _ (groups : ℕ) (members required rows w0 : List ℕ) (w1 w2 w3 w4 w5 w6
 
 -- ---- endsFrom
 
-pub length-endsFrom : (before : ℕ) (lists : List (List ℕ)) → length (endsFrom before lists) ≡ length lists
-unfolding endsFrom
-length-endsFrom before [] = refl
-length-endsFrom before (list ∷ lists) = ap suc (length-endsFrom (before + length list) lists)
-
 -- the places of lists, from their ends
 pub placesFrom-ends : (first before : ℕ) (lists : List (List ℕ)) → placesFrom (first + before) lists ≡ (first + before) ∷ shifted first (endsFrom before lists)
 unfolding placesFrom endsFrom shifted

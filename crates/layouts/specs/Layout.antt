@@ -13,7 +13,7 @@
 --   allGroups layout                     the groups of all levels: those of the top, then those of their entries, then those one deeper ..
 --   allLevels layout                     the top, and then the entry level of each group, in the order of `allGroups`
 --   joined lists                         the lists one behind the other
---   allMembers layout, allRequired layout, allCountTags layout   the members, required tags and count tags of all levels, in that order
+--   allMembers layout, allRequired layout   the members and the required tags of all levels, in that order
 use Prim.Native.Nat.{ℕ, zero, suc, _+_}
 use mathlib.Core.Bool.{Bool}
 use mathlib.Core.List.{List, [], _∷_, _++_, map}
@@ -95,6 +95,3 @@ allMembers layout = joined (map membersOf (allLevels layout))
 
 abbrev pub allRequired : Layout → List ℕ
 allRequired layout = joined (map requiredOf (allLevels layout))
-
-abbrev pub allCountTags : Layout → List ℕ
-allCountTags layout = joined (map countTagsOf (allLevels layout))

@@ -50,22 +50,6 @@ ascending-lower lower least [] below holds = refl
 ascending-lower lower least (tag ∷ rest) below holds =
     and-both (leb lower tag) _ (le-leb lower tag (omega (arith, leb-true least tag (and-left (leb least tag) _ holds)))) (and-right (leb least tag) _ holds)
 
--- any two tags in their order
-pub ascending-at : (least : ℕ) (tags : List ℕ) → isAscendingFrom least tags ≡ true → (i : ℕ) → i < length tags → least ≤ getD tags i 0
-unfolding isAscendingFrom
-ascending-at least [] holds i inside = absurd (omega arith)
-ascending-at least (tag ∷ rest) holds zero inside = leb-true least tag (and-left (leb least tag) _ holds)
-ascending-at least (tag ∷ rest) holds (suc i) inside =
-    omega (arith, leb-true least tag (and-left (leb least tag) _ holds), ascending-at (suc tag) rest (and-right (leb least tag) _ holds) i (omega arith))
-
-pub ascending-pair : (least : ℕ) (tags : List ℕ) → isAscendingFrom least tags ≡ true → (i j : ℕ) → i < j → j < length tags → getD tags i 0 < getD tags j 0
-unfolding isAscendingFrom
-ascending-pair least [] holds i j before inside = absurd (omega arith)
-ascending-pair least (tag ∷ rest) holds i zero before inside = absurd (omega arith)
-ascending-pair least (tag ∷ rest) holds zero (suc j) before inside = ascending-at (suc tag) rest (and-right (leb least tag) _ holds) j (omega arith)
-ascending-pair least (tag ∷ rest) holds (suc i) (suc j) before inside =
-    ascending-pair (suc tag) rest (and-right (leb least tag) _ holds) i j (omega arith) (omega arith)
-
 -- ---- _∈ᵇ_
 
 pub member-first : (tag first : ℕ) (rest : List ℕ) → first ≡ tag → tag ∈ᵇ (first ∷ rest) ≡ true

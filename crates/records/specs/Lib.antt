@@ -7,6 +7,7 @@ pub mod RecordsCases
 pub mod LineTexts
 pub mod NumeralLaws
 pub mod TypeTextLaws
+pub mod TypeSpellings
 pub mod WordTextLaws
 pub mod LineTextsLaws
 pub mod LinePartReadLaws

@@ -6,13 +6,11 @@
 --   isBadField fields messageLength position "a field that starts behind its end or ends behind the message"
 --   badFrom fields messageLength rows position   the first bad field among so many rows from the position on
 --   tableCheckOf fields messageLength        row 12 of the refusals: whether it finds something, and its place
---   refusalOf check                          document 01's number and place of each case
 --   AcceptedTable fields messageLength       what holds of a table in which row 12 finds nothing
 --   fieldsOf fields message                  the fields as the walk sees them
 use mathlib.Core.Path.{_≡_}
 use Prim.Native.Nat.{ℕ, zero, suc, _+_, _*_, _-_, _/_, _%_, _≤_, _<_}
 use mathlib.Core.Bool.{Bool, not, _||_}
-use mathlib.Core.Option.{Option, none, some}
 use mathlib.Core.List.{List}
 use lib.ListN.{length, getD, take, drop}
 use Rattle.ascii.specs.Notation.{_≡ᵇ_, _<ᵇ_, if_then_else_}
@@ -49,10 +47,6 @@ tableCheckOf fields messageLength =
     if not (length fields % 3 ≡ᵇ 0) || 4096 <ᵇ rowCount fields
     then Refused 0
     else badFrom fields messageLength (rowCount fields) 0
-
-abbrev pub refusalOf : TableCheck → Option (ℕ × ℕ)
-refusalOf Accepted = none
-refusalOf (Refused place) = some (12, place)
 
 pub record AcceptedTable (fields : List ℕ) (messageLength : ℕ) : Type 0 where
   pub threes : length fields ≡ 3 * rowCount fields
