@@ -4,6 +4,7 @@
     tools/answers.py CRATE [FUNCTION ..]     write crates/CRATE/proofs/FUNCTION/Proof.antt from tools/answers/CRATE/FUNCTION.answers
     tools/answers.py --things CRATE FUNCTION what is known at each need: the names that @ may stand before
     tools/answers.py --check [CRATE ..]      compare the proof files with their templates, of every crate or of these
+    tools/answers.py --mend [CRATE ..]       write anew, without asking rt, the proof files that differ in comments, imports or heads alone
 
 FUNCTION is the path below proofs/, as count/parse_count; without one, every template of the crate is written.
 
@@ -32,8 +33,12 @@ from its template, formats it, and compares the two. It finds a proof file edite
 a proof without a template, a clause for a need that is not there, and a comment that quotes no line of the source. It does not find
 a path with another number of `.before` that the prover takes too, nor a comment that quotes another line of the source; for these, write
 the crate's proofs again and look at `git diff`.
+
+--mend writes the files that --check makes. A comment that quotes no line of the source gets the line that is most like it. Check the crate
+afterwards. Where an answer differs from its clause, only the prover knows the paths, and the function's proof is to be written in full.
 """
 import contextlib
+import difflib
 import glob
 import hashlib
 import os
@@ -45,6 +50,7 @@ import tempfile
 
 ROOT = os.path.dirname(os.path.dirname(os.path.abspath(__file__)))
 CACHE = os.path.join(ROOT, "target", "answers")
+NEEDS = "use borrow.Author.Needs.{needs}"
 
 
 def run(root, *words):
@@ -330,7 +336,7 @@ def cycle_text(crate, function, skeleton, known, claims):
     text = "\n".join(out)
     imports = list(uses)
     if "search needs" in text and not any("Author.Needs." in use for use in uses):
-        imports.append("use borrow.Author.Needs.{needs}")
+        imports.append(NEEDS)
     for line in skeleton.split("\n"):
         match = re.match(r"use \S+ as (\S+)$", line)
         if line.startswith("use ") and (not match or re.search(r"(?<![\w-])" + re.escape(match.group(1)) + r"\.", text)):
@@ -418,7 +424,7 @@ def plain_text(crate, function, skeleton, known):
     module = f"Rattle.{crate}.proofs.{function.replace('/', '.')}"
     imports = list(uses)
     if "search needs" in text and not any("Author.Needs." in use for use in uses):
-        imports.append("use borrow.Author.Needs.{needs}")
+        imports.append(NEEDS)
     imports.append(f"use {module}.Statement.{{statement}}")
     imports.append(f"use {module}.Tie as tie")
     for line in skeleton.split("\n"):
@@ -501,27 +507,30 @@ def declarations(lines):
     return found
 
 
-def quoted_line(crate, function, comment):
-    """The place of the source line that a comment quotes, as a check prints it: the function's own file is looked into first."""
+def quoted_line(crate, function, comment, mend):
+    """The place of the source line that a comment quotes, as a check prints it: the function's own file is looked into first. To mend, the
+    line may be one that is like it."""
     folder = f"{ROOT}/crates/{crate}/src/"
     paths = [path[len(folder):] for path in sorted(glob.glob(folder + "**/*.rt", recursive=True))]
     for path in sorted(paths, key=lambda path: not (function + "/").startswith(path[:-len(".rt")] + "/")):
         lines = [line.strip() for line in open(folder + path).read().split("\n")]
-        if comment[3:] in lines:
-            return f"-- src/{path}:{lines.index(comment[3:]) + 1}:1"
+        found = [comment[3:]] if comment[3:] in lines else difflib.get_close_matches(comment[3:], lines, 1) if mend else []
+        if found:
+            return f"-- src/{path}:{lines.index(found[0]) + 1}:1"
     sys.exit(f"no line of the source is as the comment {comment}")
 
 
-def committed(crate, function):
+def committed(crate, function, mend):
     """What a check would have printed, as far as the proof file shows it: the skeleton, the paths, and the claims of a cycle."""
     proof = f"{ROOT}/crates/{crate}/proofs/{function}/Proof.antt"
     _, uses, clauses, facts = read_template(f"{ROOT}/tools/answers/{crate}/{function}.answers")
     lines = open(proof).read().split("\n")
-    if lines[0] != first_line(crate, function):
+    if lines[0] != first_line(crate, function) and not mend:
         sys.exit("the first line does not name the template")
     imports = [line for line in lines if line.startswith("use ")]
-    # the template's own stand first, then that of `needs`
-    skeleton = [line for line in imports[len(uses):] if "borrow.Author.Needs.{needs}" not in line]
+    # the template's own stand first, then that of `needs`, then the skeleton's
+    needs = [index for index, line in enumerate(imports) if line == NEEDS]
+    skeleton = imports[needs[0] + 1:] if needs else imports[len(uses):]
     start = next((i for i, line in enumerate(lines) if not line.startswith(("use ", "--"))), len(lines))
     known, claims, quoted = {}, {}, None
     for comment, name, type_, left, answer in declarations(lines[start:]):
@@ -537,7 +546,7 @@ def committed(crate, function):
             claims[name[:-len("-claims")]] = answer.strip()[1:-1]
             continue
         if is_need and comment:
-            quoted = quoted_line(crate, function, comment)
+            quoted = quoted_line(crate, function, comment, mend)
         if is_need:
             learn(clauses.get(key, (" search needs", ""))[0], answer, known.setdefault(name, {}), name)
             skeleton += ["", quoted or "-- ", *type_, left + " = ?"]
@@ -551,8 +560,8 @@ def committed(crate, function):
     return "\n".join(skeleton) + "\n", known, claims
 
 
-def check(crates):
-    """Says which proof files are not what their templates give, and how many there are."""
+def check(crates, mend):
+    """Says which proof files are not what their templates give, and how many there are; or writes them."""
     crates = crates or sorted({*os.listdir(f"{ROOT}/crates"), *os.listdir(f"{ROOT}/tools/answers")})
     faults, texts, count = [], {}, 0
     for crate in crates:
@@ -566,7 +575,7 @@ def check(crates):
                 faults.append(f"crates/{crate}/proofs/{function}: the proof file has no template")
             else:
                 try:
-                    skeleton, known, claims = committed(crate, function)
+                    skeleton, known, claims = committed(crate, function, mend)
                     cycle = is_cycle(function)
                     text = cycle_text(crate, function, skeleton, known, claims) if cycle else plain_text(crate, function, skeleton, known)
                     texts[f"crates/{crate}/proofs/{function}/Proof.antt"] = text
@@ -581,6 +590,10 @@ def check(crates):
             give_up("the files are not formatted", printed, status)
         for path in texts:
             if open(f"{root}/{path}").read() != open(f"{ROOT}/{path}").read():
+                if mend:
+                    put_text(f"{ROOT}/{path}", open(f"{root}/{path}").read())
+                    print("wrote", path)
+                    continue
                 made, stored = (open(f"{top}/{path}").read().split("\n") for top in (root, ROOT))
                 line = next((i for i, pair in enumerate(zip(made, stored)) if pair[0] != pair[1]), min(len(made), len(stored)))
                 faults.append(f"{os.path.dirname(path)}: line {line + 1} is not what the template gives")
@@ -604,8 +617,8 @@ def main():
             if not need.startswith("place "):
                 print(need + ": " + "  ".join(f"{name}" for name in things))
         return
-    if words[0] == "--check":
-        sys.exit(check(words[1:]))
+    if words[0] in ("--check", "--mend"):
+        sys.exit(check(words[1:], words[0] == "--mend"))
     crate, functions = words[0], words[1:] or templates(words[0])
     collect(crate, functions)
     for function in functions:

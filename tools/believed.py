@@ -64,7 +64,9 @@ def theorems(repository):
     for in_crates, name in wanted:
         named = [made for made in repository.named_in(name) if made.crate() in in_crates]
         if not named:
-            sys.exit(f"docs/PROOFS.md or PINS: no {name} in the specs of {' '.join(in_crates)}")
+            places = " ".join(made.place() for made in repository.named_in(name)) or "nowhere"
+            where = " ".join(in_crates)
+            sys.exit(f"docs/PROOFS.md or PINS: {name} is not in the specs of {where}, but {places}")
         found += [made for made in named if made.is_law() and made not in found]
     return found
 
