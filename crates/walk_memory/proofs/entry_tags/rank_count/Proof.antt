@@ -45,7 +45,7 @@ loop-less c = search needs
 loop-again : tie.Need-loop-again Inv-loop μ-loop
 loop-again c = ones-add _ _ _ _ (c .before .before .before .loop .inv) _ (c .before .before .loop-test .taken) (c .ones-in .ensures .0) (c .ones-in .ensures .1)
 
--- pub fn rank_count(words: &[u64], members: usize) -> u64
+-- fn rank_count(words: &[u64], members: usize) -> u64
 returns : tie.Need-returns Inv-loop μ-loop
 returns c = ones-end _ _ _ _ (c .before .loop .inv) _ (c .loop-test .left) (c .before .before .words-used .ensures)
 
