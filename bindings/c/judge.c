@@ -20,8 +20,9 @@
  *
  * A pass does not mean more than that. Not checked: that an entry of a group has the fields it
  * requires, that a field stands in the entry its sender meant, the order of fields outside groups
- * and within an entry, BodyLength and CheckSum (docs/DIFFERENCES.md; tests/not-seen.pipe). A Data
- * value ends at the next separator, whatever its Length field says.
+ * and within an entry, BodyLength and CheckSum (docs/DIFFERENCES.md,
+ * examples/block-order/README.md). A Data value ends at the next separator, whatever its Length
+ * field says.
  *
  * Exit status: 0 where every message passed; 1 where one was stopped; 2 where not every message was
  * judged: a wrong command line, a dictionary or an input that cannot be read, no message at all, or

@@ -49,6 +49,10 @@ fn block_orders_are_judged() {
         ),
         ("count-lies", &["group 78, depth 0: its count says 2, its entries are 3"]),
         ("nested-count-lies", &["group 539, depth 1: its count says 2, its entries are 1"]),
+        // What a walk does not see (examples/block-order/README.md).
+        ("parties-in-another-entry", &[]),
+        ("quantity-missing", &[]),
+        ("allocation-named-twice", &[]),
     ] {
         let message = example(&format!("examples/block-order/{name}.msg"));
         assert_eq!(reasons(&mut gate, &message), expected, "{name}");
