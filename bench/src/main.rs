@@ -63,7 +63,7 @@ use cases::{Case, Message, TOP_GROUP};
 use group::GroupSpec;
 use ironfix_core::field::FieldRef;
 use layouts::Expansion;
-use order_gate::{Refusal, Walked};
+use order_gate::{Error, Walked};
 use std::hint::black_box;
 use std::time::Instant;
 use walk::Recorder;
@@ -143,7 +143,7 @@ impl<'c> Walks<'c> {
         next
     }
 
-    fn gate(&self, message: usize, events: &mut [u64]) -> Result<Walked, Refusal> {
+    fn gate(&self, message: usize, events: &mut [u64]) -> Result<Walked, Error> {
         let Message { bytes, table } = &self.case.messages[message];
         order_gate::walk_group(&self.case.words, table, bytes, 0, TOP_GROUP, events)
     }
@@ -177,7 +177,7 @@ fn bench_rust(walks: &Walks<'_>, message: usize, events: &mut Vec<[u64; 5]>) -> 
 
 #[unsafe(no_mangle)]
 #[inline(never)]
-fn bench_gate(walks: &Walks<'_>, message: usize, events: &mut [u64]) -> Result<Walked, Refusal> {
+fn bench_gate(walks: &Walks<'_>, message: usize, events: &mut [u64]) -> Result<Walked, Error> {
     walks.gate(message, events)
 }
 

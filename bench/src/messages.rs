@@ -115,7 +115,9 @@ fn comparison(
     let Message { bytes, table } = message;
     let walked =
         order_gate::walk_message(&words, &layout, table, bytes, &mut events).expect("no refusal");
-    assert!(order_gate::events(&events[..walked]).all(|event| !event.kind.is_fault()));
+    let clean = order_gate::events_in(&events[..walked])
+        .all(|event| event.is_ok_and(|event| !event.kind.stops()));
+    assert!(clean);
     assert_eq!(
         order_gate::verdicts(&words, table, bytes, false, &mut verdicts),
         Ok(count)

@@ -122,7 +122,7 @@ impl Word for u64 {
 pub type Expected<W> = Result<(Vec<W>, u64), Refusal>;
 
 /// What the gate gave: how many words, and what it says beside them.
-pub type Given = Result<(usize, u64), order_gate::Refusal>;
+pub type Given = Result<(usize, u64), order_gate::Error>;
 
 /// Makes a call with spaces of several lengths and compares. `ample` is a
 /// length that is more than enough.
@@ -159,7 +159,7 @@ pub fn compare<W: Word>(
         let (words, extra) = expected.unwrap_or((&[], 0));
         let same = match (expected, given) {
             (Ok(_), Ok(given)) => given == (words.len(), extra),
-            (Err(refusal), Err(given)) => {
+            (Err(refusal), Err(order_gate::Error::Refused(given))) => {
                 (u64::from(refusal.number), refusal.place) == (given.number(), given.place())
             }
             _ => false,

@@ -197,7 +197,7 @@ pub fn members(run: &mut Run, numbers: &mut Numbers, lent: &[u32], layout: &Plai
         run.called("level_members");
         let same = match (level, given) {
             (Some(level), Ok(given)) => level.members == given,
-            (None, Err(given)) => {
+            (None, Err(order_gate::Error::Refused(given))) => {
                 let tag = u64::from(*path.last().expect("a tag not found"));
                 run.refused(Refusal::new(14, tag));
                 (given.number(), given.place()) == (14, tag)
@@ -411,7 +411,10 @@ fn damaged_layout(run: &mut Run, numbers: &mut Numbers, words: &[u32]) -> Result
         let passes = is_layout(&words);
         let same = match given {
             Ok(_) => passes,
-            Err(refusal) => !passes && (refusal.number(), refusal.place()) == (11, 0),
+            Err(order_gate::Error::Refused(refusal)) => {
+                !passes && (refusal.number(), refusal.place()) == (11, 0)
+            }
+            Err(_) => false,
         };
         if !same {
             return Err(format!("level_members of {words:?}: is a layout {passes}, the gate {given:?}"));
