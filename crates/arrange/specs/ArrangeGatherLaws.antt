@@ -247,10 +247,6 @@ order-ends : levelOrder (groupTotal []) [] ≡ []
 unfolding groupTotal levelOrder
 order-ends = refl
 
-total-none : groupTotal [] ≡ 0
-unfolding groupTotal
-total-none = refl
-
 -- each group is counted
 groups-within : (groups : List Group) → length groups ≤ groupTotal groups
 unfolding groupTotal
@@ -882,9 +878,6 @@ module _ (words part now : List ℕ) (from past kept : ℕ) (order : from ≤ pa
   where
     abbrev pub lent : List ℕ
     lent = take (past - from) (drop from words)
-
-    lent-length : length lent ≤ past - from
-    lent-length = omega (arith, length-take (past - from) (drop from words))
 
     pub members-ordered : kept ≡ length (deduped (sorted lent)) → part ≡ dedupedIn (sorted lent) → LevelKept words from (deduped (sorted lent)) (from + kept) now
     members-ordered many same =
