@@ -1,16 +1,16 @@
 // Levels of a layout in lent words: by the count tags that lead there from the top, and their members as a part of the words.
-use crate::layout_check::is_layout;
-use crate::layout_words::stretch_at;
-use crate::layout_words::wide;
+use layouts::layout_check::is_layout;
+use layouts::layout_words::stretch_at;
+use layouts::layout_words::wide;
 use refusals::refusal::Refusal;
 use sorting::search::Found;
 use sorting::search::binary_search;
 ghost use mathlib.Core.Path.{_≡_};
 ghost use Prim.Native.Nat.{_≤_};
 ghost use Rattle.layouts.specs.Limits.{gateLimits};
 ghost use Rattle.layouts.specs.LayoutWords.{groupCount};
 ghost use Rattle.layouts.specs.LayoutCheckFacts.{Passed};
-ghost use Rattle.layouts.specs.Members.{nestedLevel, levelOutcome, levelPart};
+ghost use Rattle.levels.specs.Members.{nestedLevel, levelOutcome, levelPart};
 
 // Where a path of count tags leads: to the level of that number, or to a refusal.
 pub enum LevelOutcome {

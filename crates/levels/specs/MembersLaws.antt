@@ -1,41 +1,25 @@
 -- Laws of `Members.antt`, in its order, and the loop of `level_of`, turn by turn. Assumes nothing.
 use mathlib.Core.Path.{_≡_, refl, sym, ap, _∙_}
-use Prim.Native.Nat.{ℕ, suc, _+_, _*_, _-_, _≤_, _<_}
+use Prim.Native.Nat.{ℕ, _+_, _*_, _-_, _≤_, _<_}
 use mathlib.Core.Bool.{Bool, true, false, cond}
 use mathlib.Core.List.{List, [], _∷_}
 use native.Mathlib.Omega.{arith}
 use lib.ListN.{length, getD, drop, drop-of-length-le}
-use lib.Dec.{eqb}
 use Rattle.ascii.specs.BytesLaws.{drop-step}
 use Rattle.sorting.specs.declared.search.Found.{Found}
 use Rattle.sorting.specs.declared.search.Found.the-variants.{At, Nothing}
-use Rattle.sorting.specs.Search.{StrictlyAscending, rankFrom, rankIn}
-use Rattle.sorting.specs.SearchLaws.{isStrictlyAscending-true}
+use Rattle.sorting.specs.Search.{StrictlyAscending, rankIn}
+use Rattle.sorting.specs.SearchLaws.{isStrictlyAscending-true, rankIn-inside}
 use Rattle.refusals.specs.declared.refusal.Refusal.{Refusal}
 use Rattle.refusals.specs.declared.refusal.Refusal.the-variants.{RuleBroken, NoSuchGroup}
-use Rattle.layouts.specs.declared.members.LevelOutcome.{LevelOutcome}
-use Rattle.layouts.specs.declared.members.LevelOutcome.the-variants.{Reached, Refused}
+use Rattle.levels.specs.declared.members.LevelOutcome.{LevelOutcome}
+use Rattle.levels.specs.declared.members.LevelOutcome.the-variants.{Reached, Refused}
 use Rattle.layouts.specs.Limits.{Limits}
 use Rattle.layouts.specs.LayoutWords.{groupPlaces, firstCountTag, groupCount, stretch, levelMembers, levelCountTags, firstGroup}
 use Rattle.layouts.specs.LayoutWordsLaws.{StretchInside, length-stretch}
 use Rattle.layouts.specs.LayoutCheck.{isLayout}
 use Rattle.layouts.specs.LayoutCheckFacts.{Passed, isLayout-passed, members-inside, countTags-inside, countTags-ascending, groups-place, firstGroup-within}
-use Rattle.layouts.specs.Members.{entryFrom, nestedLevel, levelAlong, levelOutcome, levelPart}
-
--- ---- a rank that was found
-
-rankFrom-inside : (index : ℕ) (words : List ℕ) (tag rank : ℕ) → rankFrom index words tag ≡ At rank → rank < index + length words
-unfolding rankFrom
-rankFrom-inside index [] tag rank found = let never : _≡_ {A = ℕ} 0 1 = cc in absurd (omega arith)
-rankFrom-inside index (word ∷ rest) tag rank found = go (eqb word tag) found (rankFrom-inside (index + 1) rest tag rank)
-  where
-    go : (test : Bool) → cond test (At index) (rankFrom (index + 1) rest tag) ≡ At rank → (rankFrom (index + 1) rest tag ≡ At rank → rank < index + 1 + length rest) → rank < index + suc (length rest)
-    go true here later = let same : index ≡ rank = cc in omega arith
-    go false there later = omega (arith, later there)
-
-pub rankIn-inside : (words : List ℕ) (tag rank : ℕ) → rankIn words tag ≡ At rank → rank < length words
-unfolding rankIn
-rankIn-inside words tag rank found = omega (arith, rankFrom-inside 0 words tag rank found)
+use Rattle.levels.specs.Members.{entryFrom, nestedLevel, levelAlong, levelOutcome, levelPart}
 
 -- ---- nestedLevel
 

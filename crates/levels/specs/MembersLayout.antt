@@ -14,15 +14,16 @@ use lib.Dec.{eqb}
 use Rattle.sorting.specs.declared.search.Found.{Found}
 use Rattle.sorting.specs.declared.search.Found.the-variants.{At, Nothing}
 use Rattle.sorting.specs.Search.{rankFrom, rankIn}
+use Rattle.sorting.specs.SearchLaws.{rankIn-inside}
 use Rattle.layouts.specs.Limits.{Limits}
 use Rattle.layouts.specs.Layout.{Level, Group, level-of, grouped, groupsOf, countTag, entry}
 use Rattle.layouts.specs.LayoutLaws.{listed-grouped}
 use Rattle.layouts.specs.LayoutWords.{groupCount, levelMembers, levelRequired, levelCountTags, firstGroup, groupAt, groupsFrom, layoutIn}
 use Rattle.layouts.specs.LayoutCheck.{isLayout}
 use Rattle.layouts.specs.LayoutCheckFacts.{Passed, isLayout-passed, firstGroup-first, firstGroup-ahead}
 use Rattle.layouts.specs.LayoutCheckSound.{tags-in}
-use Rattle.layouts.specs.Members.{entryFrom, nestedLevel, levelAlong, membersReached, levelPart, groupNamed, levelBelow, membersBelow}
-use Rattle.layouts.specs.MembersLaws.{rankIn-inside, length-levelCountTags, nestedLevel-within, levelOutcome-along}
+use Rattle.levels.specs.Members.{entryFrom, nestedLevel, levelAlong, membersReached, levelPart, groupNamed, levelBelow, membersBelow}
+use Rattle.levels.specs.MembersLaws.{length-levelCountTags, nestedLevel-within, levelOutcome-along}
 
 -- ---- lists
 

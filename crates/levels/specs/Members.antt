@@ -17,12 +17,12 @@ use Rattle.sorting.specs.declared.search.Found.{Found}
 use Rattle.sorting.specs.declared.search.Found.the-variants.{At, Nothing}
 use Rattle.sorting.specs.Search.{rankIn}
 use Rattle.refusals.specs.declared.refusal.Refusal.the-variants.{RuleBroken, NoSuchGroup}
-use Rattle.layouts.specs.declared.members.LevelOutcome.{LevelOutcome}
-use Rattle.layouts.specs.declared.members.LevelOutcome.the-variants.{Reached, Refused}
+use Rattle.levels.specs.declared.members.LevelOutcome.{LevelOutcome}
+use Rattle.levels.specs.declared.members.LevelOutcome.the-variants.{Reached, Refused}
 use Rattle.layouts.specs.Limits.{Limits}
 use Rattle.layouts.specs.Layout.{Level, Group, membersOf, groupsOf, countTag, entry}
 use Rattle.layouts.specs.LayoutWords.{levelMembers, levelCountTags, firstGroup}
 use Rattle.layouts.specs.LayoutCheck.{isLayout}
 
 -- the entry level of group `number` is level `number + 1`
 abbrev pub entryFrom : ℕ → Found → Found
