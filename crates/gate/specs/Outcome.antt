@@ -12,11 +12,11 @@ use mathlib.Core.List.{List}
 use lib.ListN.{length, getD}
 use Rattle.refusals.specs.declared.refusal.Refusal.{Refusal}
 use Rattle.refusals.specs.Refusal.{refusalNumber, refusalPlace}
-use Rattle.layouts.specs.declared.members.LevelOutcome.{LevelOutcome}
-use Rattle.layouts.specs.declared.members.LevelOutcome.the-variants as level
+use Rattle.levels.specs.declared.members.LevelOutcome.{LevelOutcome}
+use Rattle.levels.specs.declared.members.LevelOutcome.the-variants as level
 use Rattle.layouts.specs.Limits.{gateLimits}
 use Rattle.layouts.specs.LayoutWords.{memberPlaces, levelMembers}
-use Rattle.layouts.specs.Members.{levelOutcome}
+use Rattle.levels.specs.Members.{levelOutcome}
 use Rattle.read_dictionary.specs.declared.read_dictionary.Read.{Read}
 use Rattle.read_dictionary.specs.declared.read_dictionary.Read.the-variants as read
 use Rattle.validator.specs.declared.message_call.WalkedMessage.{WalkedMessage}

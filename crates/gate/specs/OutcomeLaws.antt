@@ -6,12 +6,12 @@ use mathlib.Core.List.{List}
 use lib.ListN.{length, getD, take, drop}
 use Rattle.refusals.specs.declared.refusal.Refusal.{Refusal}
 use Rattle.refusals.specs.Refusal.{refusalNumber, refusalPlace}
-use Rattle.layouts.specs.declared.members.LevelOutcome.the-variants.{Reached, Refused}
+use Rattle.levels.specs.declared.members.LevelOutcome.the-variants.{Reached, Refused}
 use Rattle.layouts.specs.Limits.{gateLimits}
 use Rattle.layouts.specs.LayoutWords.{stretch}
 use Rattle.layouts.specs.LayoutWordsLaws.{length-stretch, stretch-part}
-use Rattle.layouts.specs.Members.{levelOutcome, levelPart}
-use Rattle.layouts.specs.MembersLaws.{reached-inside, levelPart-reached, levelPart-refused}
+use Rattle.levels.specs.Members.{levelOutcome, levelPart}
+use Rattle.levels.specs.MembersLaws.{reached-inside, levelPart-reached, levelPart-refused}
 use Rattle.gate.specs.declared.outcome.Outcome.{Outcome}
 use Rattle.gate.specs.Outcome.{refusedWith, answeredWith, membersOutcome}
 

@@ -3,12 +3,12 @@ use crate::outcome::Outcome;
 use crate::outcome::refused;
 use layouts::layout_words::stretch_at;
 use layouts::layout_words::wide;
-use layouts::members::LevelOutcome;
-use layouts::members::level_of;
+use levels::members::LevelOutcome;
+use levels::members::level_of;
 ghost use mathlib.Core.Path.{_≡_};
 ghost use lib.ListN.{take, drop};
 ghost use Rattle.layouts.specs.Limits.{gateLimits};
-ghost use Rattle.layouts.specs.Members.{levelPart};
+ghost use Rattle.levels.specs.Members.{levelPart};
 ghost use Rattle.gate.specs.Outcome.{membersOutcome};
 
 // `words`: how many members the level has that the path of count tags leads to; `extra`: where they stand in the layout's words.

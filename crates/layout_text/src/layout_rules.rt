@@ -79,17 +79,17 @@ fn group_broken(members: &[u32], delimiter: u32, tags: &[u32], count: u32) -> Fi
     FirstBroken::Unbroken
 }
 
-// The lowest of rules 5 to 7 that the top breaks.
-fn top_broken(top_members: &[u32], top_tags: &[u32]) -> FirstBroken
-    ensures { λ broken. ⌜ broken ≡ levelBroken (now (top_members .entry)) (now (top_tags .entry)) ⌝ }
+// The lowest of rules 5 to 7 that the top breaks, by its members and the count tags of its groups.
+fn top_broken(top: &[u32], counts: &[u32]) -> FirstBroken
+    ensures { λ broken. ⌜ broken ≡ levelBroken (now (top .entry)) (now (counts .entry)) ⌝ }
 {
-    if !is_strictly_ascending(top_tags) {
+    if !is_strictly_ascending(counts) {
         return FirstBroken::BrokenRule(5, 0);
     }
-    if !is_strictly_ascending(top_members) {
+    if !is_strictly_ascending(top) {
         return FirstBroken::BrokenRule(6, 0);
     }
-    if !are_among(top_members, top_tags) {
+    if !are_among(top, counts) {
         return FirstBroken::BrokenRule(7, 0);
     }
     FirstBroken::Unbroken

@@ -17,6 +17,3 @@ pub mod LayoutCheckUnique
 pub mod GatheredLayout
 pub mod GatheredLayoutLaws
 pub mod LayoutCases
-pub mod Members
-pub mod MembersLaws
-pub mod MembersLayout

@@ -1,11 +1,12 @@
--- TYPE's spelling, its number and its meaning. `typeNames` (lines) lists the names that a `def` line may spell, `fieldTypes` (field_types)
--- the types that the numbers in a dictionary's words stand for; both are in the order of schema.rs. Here they are joined by `spellingOf`,
--- which writes each name beside its variant: exchange two names, two types or two numbers, and these laws fail. Assumes nothing.
+-- TYPE's spelling, its number and its meaning. `typeNames` (lines) lists the names that a `def` line may
+-- spell, `fieldTypes` (field_types) the types that the numbers in a dictionary's words stand for; both
+-- are in the order of schema.rs. `spellingOf`, which writes each name beside its variant, joins them:
+-- exchange two names, two types or two numbers, and these laws fail. Assumes nothing.
 --
 --   names-spelled    the names are the spellings of the types, in their order
---   types-numbered   the types are numbered from 0 in their order
---   type-spelled     each type's spelling is read as the type's number, and that number stands for the type
---   name-read        a name that is read as a number is the spelling of the type that the number stands for
+--   types-numbered   the types are numbered from 0, in their order
+--   type-spelled     a type's spelling is read as its number, and the number stands for the type
+--   name-read        a name that is read as a number is the spelling of the type it stands for
 use mathlib.Core.Path.{_≡_, refl, sym, ap, _∙_}
 use Prim.Native.Nat.{ℕ, zero, suc, _+_, _-_, _≤_, _<_}
 use mathlib.Core.Bool.{Bool, true, false, cond, _&&_, false≢true}
@@ -94,15 +95,18 @@ starts-same [] [] long starts = refl
 starts-same [] (first ∷ rest) long starts = absurd (omega arith)
 starts-same (byte ∷ name) [] long starts = absurd (omega arith)
 starts-same (byte ∷ name) (first ∷ rest) long starts =
-    let same-byte : byte ≡ first = eqb-true byte first (and-left (eqb byte first) (startsWith name rest) starts) in
-    let same-rest : name ≡ rest = starts-same name rest (omega arith) (and-right (eqb byte first) (startsWith name rest) starts) in
+    let here = and-left (eqb byte first) (startsWith name rest) starts in
+    let later = and-right (eqb byte first) (startsWith name rest) starts in
+    let same-byte : byte ≡ first = eqb-true byte first here in
+    let same-rest : name ≡ rest = starts-same name rest (omega arith) later in
     rw (same-byte, same-rest)
 
 same-bytes : (name bytes : List ℕ) → isSame name bytes ≡ true → name ≡ bytes
 unfolding isSame
 same-bytes name bytes same =
-    let long : length name ≡ length bytes = eqb-true _ _ (and-left (eqb (length name) (length bytes)) (startsWith name bytes) same) in
-    starts-same name bytes long (and-right (eqb (length name) (length bytes)) (startsWith name bytes) same)
+    let as-long = eqb (length name) (length bytes) in
+    let long : length name ≡ length bytes = eqb-true _ _ (and-left as-long (startsWith name bytes) same) in
+    starts-same name bytes long (and-right as-long (startsWith name bytes) same)
 
 -- the pieces are the spellings of the first types
 abbrev areSpelled : Pieces → List FieldType → Bool
@@ -113,10 +117,13 @@ areSpelled (piece bytes others) (type ∷ rest) = isSame bytes (spellingOf type)
 
 -- of types numbered from `first` on, the one that is found is spelled by the name
 abbrev FoundBy : List ℕ → ℕ → List FieldType → TypeName → Type 0
-FoundBy name first types (TypeAt number) = (first ≤ number) × ((number < first + length types) × (name ≡ spellingOf (getD types (number - first) Int)))
+FoundBy name first types (TypeAt number) =
+    (first ≤ number)
+    × ((number < first + length types) × (name ≡ spellingOf (getD types (number - first) Int)))
 FoundBy name first types NoType = Unit
 
-found-last : (name bytes : List ℕ) (first : ℕ) (type : FieldType) (rest : List FieldType) (same : Bool)
+found-last : (name bytes : List ℕ) (first : ℕ) (type : FieldType) (rest : List FieldType)
+    (same : Bool)
     → isSame name bytes ≡ same
     → bytes ≡ spellingOf type
     → FoundBy name first (type ∷ rest) (cond same (TypeAt first) NoType)
@@ -125,7 +132,8 @@ found-last name bytes first type rest true test spelled =
     (omega arith, (omega arith, rw none (same-bytes name bytes test ∙ spelled)))
 found-last name bytes first type rest false test spelled = tt
 
-found-later : (name : List ℕ) (first : ℕ) (type : FieldType) (rest : List FieldType) (found : TypeName)
+found-later : (name : List ℕ) (first : ℕ) (type : FieldType) (rest : List FieldType)
+    (found : TypeName)
     → FoundBy name (first + 1) rest found
     → FoundBy name first (type ∷ rest) found
 found-later name first type rest (TypeAt number) later =
@@ -133,23 +141,30 @@ found-later name first type rest (TypeAt number) later =
     (omega (arith, later .0), (omega (arith, later .1 .0), rw next (later .1 .1)))
 found-later name first type rest NoType later = tt
 
-found-piece : (name bytes : List ℕ) (first : ℕ) (others : Pieces) (type : FieldType) (rest : List FieldType) (same : Bool)
+found-piece : (name bytes : List ℕ) (first : ℕ) (others : Pieces) (type : FieldType)
+    (rest : List FieldType) (same : Bool)
     → isSame name bytes ≡ same
     → bytes ≡ spellingOf type
     → FoundBy name (first + 1) rest (typeIn name (first + 1) others)
     → FoundBy name first (type ∷ rest) (cond same (TypeAt first) (typeIn name (first + 1) others))
-found-piece name bytes first others type rest true test spelled later = found-last name bytes first type rest true test spelled
-found-piece name bytes first others type rest false test spelled later = found-later name first type rest (typeIn name (first + 1) others) later
+found-piece name bytes first others type rest true test spelled later =
+    found-last name bytes first type rest true test spelled
+found-piece name bytes first others type rest false test spelled later =
+    found-later name first type rest (typeIn name (first + 1) others) later
 
-found-by : (name : List ℕ) (first : ℕ) (pieces : Pieces) (types : List FieldType) → areSpelled pieces types ≡ true → FoundBy name first types (typeIn name first pieces)
+found-by : (name : List ℕ) (first : ℕ) (pieces : Pieces) (types : List FieldType)
+    → areSpelled pieces types ≡ true
+    → FoundBy name first types (typeIn name first pieces)
 unfolding typeIn
 found-by name first (last bytes) [] spelled = absurd (false≢true spelled)
-found-by name first (last bytes) (type ∷ rest) spelled = found-last name bytes first type rest (isSame name bytes) refl (same-bytes bytes (spellingOf type) spelled)
+found-by name first (last bytes) (type ∷ rest) spelled =
+    found-last name bytes first type rest (isSame name bytes) refl (same-bytes bytes _ spelled)
 found-by name first (piece bytes others) [] spelled = absurd (false≢true spelled)
 found-by name first (piece bytes others) (type ∷ rest) spelled =
-    let this : bytes ≡ spellingOf type = same-bytes bytes (spellingOf type) (and-left (isSame bytes (spellingOf type)) (areSpelled others rest) spelled) in
-    let deeper = found-by name (first + 1) others rest (and-right (isSame bytes (spellingOf type)) (areSpelled others rest) spelled) in
-    found-piece name bytes first others type rest (isSame name bytes) refl this deeper
+    let here = and-left (isSame bytes (spellingOf type)) (areSpelled others rest) spelled in
+    let there = and-right (isSame bytes (spellingOf type)) (areSpelled others rest) spelled in
+    let deeper = found-by name (first + 1) others rest there in
+    found-piece name bytes first others type rest (isSame name bytes) refl (same-bytes bytes _ here) deeper
 
 are-spelled : areSpelled (cut comma typeNames) fieldTypes ≡ true
 unfolding spellingOf startsWith isSame longer cut
@@ -162,7 +177,8 @@ pub record Named (name : List ℕ) (number : ℕ) : Type 0 where
 pub name-read : (name : List ℕ) (number : ℕ) → typeOf name ≡ TypeAt number → Named name number
 unfolding typeOf typeNumbered
 name-read name number read =
-    let found : FoundBy name 0 fieldTypes (TypeAt number) = rw read at (found-by name 0 (cut comma typeNames) fieldTypes are-spelled) in
+    let by = found-by name 0 (cut comma typeNames) fieldTypes are-spelled in
+    let found : FoundBy name 0 fieldTypes (TypeAt number) = rw read at by in
     let same : number - 0 ≡ number = omega arith in
     let few : number < 34 = omega (arith, found .1 .0) in
     record { spelled = rw same at (found .1 .1); meant = rw (lt-ltb number 34 few) }

@@ -155,6 +155,20 @@ pub isFound-rank : (words : List ℕ) (tag : ℕ) → isFound (rankIn words tag)
 unfolding rankIn
 isFound-rank words tag = isFound-from 0 words tag
 
+-- a rank that was found is a place
+rankFrom-inside : (index : ℕ) (words : List ℕ) (tag rank : ℕ) → rankFrom index words tag ≡ At rank → rank < index + length words
+unfolding rankFrom
+rankFrom-inside index [] tag rank found = let never : _≡_ {A = ℕ} 0 1 = cc in absurd (omega arith)
+rankFrom-inside index (word ∷ rest) tag rank found = go (eqb word tag) found (rankFrom-inside (index + 1) rest tag rank)
+  where
+    go : (test : Bool) → cond test (At index) (rankFrom (index + 1) rest tag) ≡ At rank → (rankFrom (index + 1) rest tag ≡ At rank → rank < index + 1 + length rest) → rank < index + suc (length rest)
+    go true here later = let same : index ≡ rank = cc in omega arith
+    go false there later = omega (arith, later there)
+
+pub rankIn-inside : (words : List ℕ) (tag rank : ℕ) → rankIn words tag ≡ At rank → rank < length words
+unfolding rankIn
+rankIn-inside words tag rank found = omega (arith, rankFrom-inside 0 words tag rank found)
+
 -- ---- Holds
 
 pub holds-at : (words : List ℕ) (tag place : ℕ) (found : Found)

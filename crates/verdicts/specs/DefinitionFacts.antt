@@ -23,7 +23,7 @@ use Rattle.records.specs.LineTexts.{lengthOf}
 use Rattle.dictionary.specs.DictionaryCheck.{isTaken, accepts, countOf, standsAt, standsEach, isIndex, tagsAt, isDictionary}
 use Rattle.dictionary.specs.Definitions.{numberAt, recordIn, definitionAt, definitionOf}
 use Rattle.dictionary.specs.DefinitionsLaws.{stands-nth, isDictionary-parts}
-use Rattle.layouts.specs.MembersLaws.{rankIn-inside}
+use Rattle.sorting.specs.SearchLaws.{rankIn-inside}
 
 -- ---- the lines of an accepted dictionary
 

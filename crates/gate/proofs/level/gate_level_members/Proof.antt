@@ -3,7 +3,7 @@
 use mathlib.Core.Path.{sym, _∙_}
 use native.Mathlib.Omega.{arith}
 use Rattle.layouts.specs.Limits.{gateLimits}
-use Rattle.layouts.specs.MembersLaws.{reached-inside}
+use Rattle.levels.specs.MembersLaws.{reached-inside}
 use Rattle.gate.specs.OutcomeLaws.{hands-out-members, hands-out-none}
 use borrow.Author.Needs.{needs}
 use Rattle.gate.proofs.level.gate_level_members.Statement.{statement}

@@ -8,7 +8,7 @@ use borrow.Author.Needs.{needs}
 use Rattle.layout_text.proofs.layout_rules.top_broken.Statement.{statement}
 use Rattle.layout_text.proofs.layout_rules.top_broken.Tie as tie
 
--- if !is_strictly_ascending(top_tags) {
+-- if !is_strictly_ascending(counts) {
 is-strictly-ascending-requires : tie.Need-is-strictly-ascending-requires
 is-strictly-ascending-requires c κs = search needs
 
@@ -16,7 +16,7 @@ is-strictly-ascending-requires c κs = search needs
 returns : tie.Need-returns
 returns c = sym (top-breaks-5 _ _ (sym (c .before .is-strictly-ascending .ensures) ∙ not-true _ (c .if1 .taken)))
 
--- if !is_strictly_ascending(top_members) {
+-- if !is_strictly_ascending(top) {
 is-strictly-ascending-requires-2 : tie.Need-is-strictly-ascending-requires-2
 is-strictly-ascending-requires-2 c κs = search needs
 
@@ -24,7 +24,7 @@ is-strictly-ascending-requires-2 c κs = search needs
 returns-2 : tie.Need-returns-2
 returns-2 c = sym (top-breaks-6 _ _ (sym (c .before .before .before .is-strictly-ascending .ensures) ∙ not-false _ (c .before .before .if1 .left)) (sym (c .before .is-strictly-ascending2 .ensures) ∙ not-true _ (c .if2 .taken)))
 
--- if !are_among(top_members, top_tags) {
+-- if !are_among(top, counts) {
 are-among-requires : tie.Need-are-among-requires
 are-among-requires c κs = isStrictlyAscending-true _ (sym (c .before .is-strictly-ascending2 .ensures) ∙ not-false _ (c .if2 .left))
 
@@ -32,7 +32,7 @@ are-among-requires c κs = isStrictlyAscending-true _ (sym (c .before .is-strict
 returns-3 : tie.Need-returns-3
 returns-3 c = sym (top-breaks-7 _ _ (sym (c .before .before .before .before .before .is-strictly-ascending .ensures) ∙ not-false _ (c .before .before .before .before .if1 .left)) (sym (c .before .before .before .is-strictly-ascending2 .ensures) ∙ not-false _ (c .before .before .if2 .left)) (sym (c .before .are-among .ensures) ∙ not-true _ (c .if3 .taken)))
 
--- fn top_broken(top_members: &[u32], top_tags: &[u32]) -> FirstBroken
+-- fn top_broken(top: &[u32], counts: &[u32]) -> FirstBroken
 returns-4 : tie.Need-returns-4
 returns-4 c = sym (top-unbroken _ _ (sym (c .before .before .before .before .before .is-strictly-ascending .ensures) ∙ not-false _ (c .before .before .before .before .if1 .left)) (sym (c .before .before .before .is-strictly-ascending2 .ensures) ∙ not-false _ (c .before .before .if2 .left)) (sym (c .before .are-among .ensures) ∙ not-false _ (c .if3 .left)))
 
