@@ -1,13 +1,13 @@
 -- Laws of `Split.antt`, in its order, for any separator. The last section is for code that searches a separator from `from` on and finds
 -- it, or the end, at `found`. Assumes nothing.
-use mathlib.Core.Path.{_≡_, refl, sym, ap, _∙_}
+use mathlib.Core.Path.{_≡_, refl, ap, _∙_}
 use Prim.Native.Nat.{ℕ, suc, _+_, _-_, _≤_, _<_}
 use mathlib.Core.Bool.{Bool, true, false, not, cond}
 use mathlib.Core.List.{List, [], _∷_, _++_}
 use native.Mathlib.Omega.{arith}
 use lib.Dec.{eqb}
 use lib.ListN.{length, getD, take, drop, drop-of-length-le, length-drop}
-use lib.Seq.{drop-drop, getD-drop}
+use lib.Seq.{drop-drop}
 use borrow.Author.Tests.{eqb-true, not-true, eq-eqb, ne-eqb}
 use Rattle.ascii.specs.NotationLaws.{and-left, and-right}
 use Rattle.ascii.specs.Bytes.{every}
@@ -38,22 +38,6 @@ pub indexOf-within : (separator : ℕ) (value : List ℕ) → indexOf separator 
 unfolding indexOf
 indexOf-within separator [] = omega arith
 indexOf-within separator (byte ∷ rest) = indexOf-within-by (eqb byte separator) _ _ (indexOf-within separator rest)
-
-indexOf-separator-by : (separator : ℕ) (test : Bool) (byte : ℕ) (rest : List ℕ)
-    → eqb byte separator ≡ test
-    → cond test 0 (suc (indexOf separator rest)) < suc (length rest)
-    → (indexOf separator rest < length rest → getD rest (indexOf separator rest) 0 ≡ separator)
-    → getD (byte ∷ rest) (cond test 0 (suc (indexOf separator rest))) 0 ≡ separator
-indexOf-separator-by separator true byte rest same inside of-rest = eqb-true byte separator same
-indexOf-separator-by separator false byte rest other inside of-rest = of-rest (omega arith)
-
--- where it is not the length, there the separator stands
-pub indexOf-separator : (separator : ℕ) (value : List ℕ) → indexOf separator value < length value
-    → getD value (indexOf separator value) 0 ≡ separator
-unfolding indexOf
-indexOf-separator separator [] inside = absurd (omega arith)
-indexOf-separator separator (byte ∷ rest) inside =
-    indexOf-separator-by separator (eqb byte separator) byte rest refl inside (indexOf-separator separator rest)
 
 -- ---- split
 
@@ -186,11 +170,6 @@ module _ (separator : ℕ) (value : List ℕ) (from found : ℕ) (starts : from 
     (place : found ≡ from + indexOf separator (drop from value)) where
   pub found-within : (from ≤ found) × (found ≤ length value)
   found-within = (omega arith, omega (arith, indexOf-within separator (drop from value), length-drop from value))
-
-  pub found-separator : (found ≡ length value → ⊥) → getD value found 0 ≡ separator
-  found-separator inside =
-      let here : indexOf separator (drop from value) < length (drop from value) = omega (arith, found-within, length-drop from value) in
-      rw place (sym (getD-drop from value _ 0) ∙ indexOf-separator separator (drop from value) here)
 
   pub split-at-found : (found ≡ length value → ⊥)
       → split separator (drop from value) ≡ part (take (found - from) (drop from value)) (split separator (drop (found + 1) value))

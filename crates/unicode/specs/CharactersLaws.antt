@@ -9,8 +9,8 @@ use lib.ListN.{length, getD, drop, drop-of-length-le}
 use borrow.Author.Tests.{ltb-true, le-leb, lt-leb, lt-ltb, le-ltb}
 use Rattle.unicode.specs.declared.characters.Expected.{Expected}
 use Rattle.ascii.specs.Notation.{isBetween}
-use Rattle.ascii.specs.NotationLaws.{and-left, and-right, and-false, isBetween-below, isBetween-from}
-use Rattle.ascii.specs.Bytes.{nonEmpty, every}
+use Rattle.ascii.specs.NotationLaws.{and-left, and-false, isBetween-below, isBetween-from}
+use Rattle.ascii.specs.Bytes.{nonEmpty}
 use Rattle.ascii.specs.BytesLaws.{drop-step}
 use Rattle.unicode.specs.Characters.{expects, nothingExpected, expectedAfter, continues, next, charactersFrom, characters, leadsFrom, leads}
 
@@ -209,15 +209,6 @@ pub characters-parted : (ascii : ℕ) → ascii < 0x80 → (before behind : List
 unfolding characters
 characters-parted ascii small before behind =
     omega (arith, charactersFrom-parted ascii small nothingExpected (record { from = omega arith }) before behind)
-
--- a value of ASCII bytes alone has a character for each
-pub characters-ascii : (value : List ℕ) → every (λ byte. ltb byte 0x80) value ≡ true → characters value ≡ length value
-unfolding characters charactersFrom every
-characters-ascii [] all-ascii = refl
-characters-ascii (byte ∷ rest) all-ascii =
-    let small : byte < 0x80 = ltb-true byte 0x80 (and-left _ _ all-ascii) in
-    rw (continues-ascii nothingExpected byte (record { from = omega arith }) small, expectedAfter-below byte (omega arith))
-    (ap suc (characters-ascii rest (and-right (ltb byte 0x80) _ all-ascii)))
 
 -- ---- leadsFrom
 
