@@ -19,7 +19,7 @@ use Rattle.counts.specs.declared.count.Count.the-variants.{Number, Nothing}
 use Rattle.walk_memory.specs.declared.event.Kind.the-variants.{Enter, BadCount, Delim, Repeat, Close, Miscount, Deep, Leave}
 use Rattle.walk_memory.specs.declared.event.Event.{Event}
 use Rattle.walk_memory.specs.Membership.{_∈ᵇ_}
-use Rattle.walk_memory.specs.EntryTags.{insertIf}
+use Rattle.walk_memory.specs.Membership.{insertIf}
 use Rattle.walk_memory.specs.WalkInput.{Layout, Fields, Input, countAt, event}
 use Rattle.group_reading.specs.GroupSteps.{Opening, outside, too-deep, member-leads, entries-follow, Step, stops, plain-field, nested-group, openingAt, entryBegins, stepAt}
 

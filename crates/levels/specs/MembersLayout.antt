@@ -92,7 +92,7 @@ named-at index (first ∷ others) tag rank place sum found = go (eqb (countTag f
 
 -- ---- levels by their numbers
 
-abbrev levelNumbered : List ℕ → ℕ → Level
+abbrev pub levelNumbered : List ℕ → ℕ → Level
 levelNumbered words number =
     level-of
     (levelMembers words number)
@@ -112,7 +112,7 @@ module _ (words : List ℕ) where
       ∙ ap (λ (from : ℕ). drop from groups) (sym next)
 
 module _ (limits : Limits) (words : List ℕ) (passed : Passed limits words) where
-  group-numbered : (number : ℕ) → number < groupCount words
+  pub group-numbered : (number : ℕ) → number < groupCount words
       → getElem? (groupsFrom words 0 (groupCount words)) number ≡ some (groupAt words number (drop (number + 1) (groupsFrom words 0 (groupCount words))))
   unfolding groupsFrom
   group-numbered number inside =
@@ -122,7 +122,7 @@ module _ (limits : Limits) (words : List ℕ) (passed : Passed limits words) whe
       element-first number groups (groupAt words number (groupsFrom words (number + 1) left)) (groupsFrom words (number + 1) left) here
       ∙ ap (λ (later : List Group). some (groupAt words number later)) (groups-behind words (number + 1) left (omega arith))
 
-  entry-numbered : (number : ℕ) → number < groupCount words → entry (groupAt words number (drop (number + 1) (groupsFrom words 0 (groupCount words)))) ≡ levelNumbered words (number + 1)
+  pub entry-numbered : (number : ℕ) → number < groupCount words → entry (groupAt words number (drop (number + 1) (groupsFrom words 0 (groupCount words)))) ≡ levelNumbered words (number + 1)
   entry-numbered number inside =
       let groups = groupsFrom words 0 (groupCount words) in
       let ahead = firstGroup-ahead limits words passed number inside in
@@ -134,7 +134,7 @@ module _ (limits : Limits) (words : List ℕ) (passed : Passed limits words) whe
       (λ (behind : List Group). level-of (levelMembers words (number + 1)) (levelRequired words (number + 1)) (grouped (take (firstGroup words (number + 1 + 1) - firstGroup words (number + 1)) behind)))
       (drop-drop (firstGroup words (number + 1) - (number + 1)) (number + 1) groups ∙ ap (λ (from : ℕ). drop from groups) reach)
 
-  top-numbered : layoutIn words ≡ levelNumbered words 0
+  pub top-numbered : layoutIn words ≡ levelNumbered words 0
   unfolding layoutIn
   top-numbered =
       let groups = groupsFrom words 0 (groupCount words) in
@@ -154,12 +154,12 @@ module _ (limits : Limits) (words : List ℕ) (passed : Passed limits words) whe
         ∙ ap (λ (from : ℕ). map countTag (take (firstGroup words (number + 1) - firstGroup words number) (drop from groups))) same
         ∙ tags-in limits words passed number 0 (groupCount words) level (omega arith) (omega arith)
 
-    no-group-numbered : (tag : ℕ) → rankIn (levelCountTags words number) tag ≡ Nothing → groupNamed tag (groupsOf (levelNumbered words number)) ≡ none
+    pub no-group-numbered : (tag : ℕ) → rankIn (levelCountTags words number) tag ≡ Nothing → groupNamed tag (groupsOf (levelNumbered words number)) ≡ none
     unfolding rankIn
     no-group-numbered tag found =
         named-nothing 0 (groupsOf (levelNumbered words number)) tag (ap (λ (tags : List ℕ). rankFrom 0 tags tag) tags-numbered ∙ found)
 
-    some-group-numbered : (tag rank : ℕ) → rankIn (levelCountTags words number) tag ≡ At rank → firstGroup words number + rank + 1 ≤ groupCount words
+    pub some-group-numbered : (tag rank : ℕ) → rankIn (levelCountTags words number) tag ≡ At rank → firstGroup words number + rank + 1 ≤ groupCount words
         → groupNamed tag (groupsOf (levelNumbered words number)) ≡ some (groupAt words (firstGroup words number + rank) (drop (firstGroup words number + rank + 1) (groupsFrom words 0 (groupCount words))))
     unfolding rankIn
     some-group-numbered tag rank found within =

@@ -20,7 +20,7 @@ use Rattle.walk_memory.specs.declared.event.Kind.{Kind}
 use Rattle.walk_memory.specs.declared.event.Kind.the-variants.{Twice, Foreign, Missing}
 use Rattle.walk_memory.specs.declared.event.Event.{Event}
 use Rattle.walk_memory.specs.Membership.{_∈ᵇ_}
-use Rattle.walk_memory.specs.EntryTags.{insertIf}
+use Rattle.walk_memory.specs.Membership.{insertIf}
 use Rattle.walk_memory.specs.WalkInput.{Layout, Fields, Input}
 use Rattle.group_reading.specs.GroupWalk.{WalkedGroup, walkGroup}
 

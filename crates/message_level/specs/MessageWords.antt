@@ -10,7 +10,7 @@ use lib.ListN.{length}
 use Rattle.ascii.specs.Notation.{_≡ᵇ_, if_then_else_}
 use Rattle.layouts.specs.LayoutWords.{levelRequired, levelCountTags, countTagAt, flagAt}
 use Rattle.walk_memory.specs.declared.event.Event.{Event}
-use Rattle.walk.specs.WalkWords.{among, groupOf, inputOf, topMembers}
+use Rattle.walk_steps.specs.WalkWords.{among, groupOf, inputOf, topMembers}
 use Rattle.message_level.specs.MessageWalk.{MessageLevel, messageEvents}
 
 unfoldable pub requiredFrom : List ℕ → ℕ → ℕ → List ℕ

@@ -21,8 +21,8 @@ use Rattle.layouts.specs.LayoutCheckFacts.{Passed, required-inside}
 use Rattle.walk_memory.specs.declared.event.Kind.the-variants.{Missing}
 use Rattle.walk_memory.specs.Membership.{_∈ᵇ_}
 use Rattle.walk_memory.specs.EventSpaceLaws.{Wrote, wrote-none, wrote-then}
-use Rattle.walk.specs.WalkWordsLaws.{groups-few}
-use Rattle.walk.specs.WrittenEvents.{tagEvent}
+use Rattle.walk_steps.specs.WalkWordsLaws.{groups-few}
+use Rattle.walk_steps.specs.WrittenEvents.{tagEvent}
 use Rattle.message_level.specs.MessageWalk.{missingIf, missingTags, missingGroups}
 use Rattle.message_level.specs.MessageWords.{requiredFrom}
 use Rattle.message_level.specs.SeenTags.{SeenTags}

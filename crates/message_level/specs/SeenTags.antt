@@ -10,7 +10,8 @@ use mathlib.Core.List.{List}
 use lib.ListN.{length}
 use Rattle.sorting.specs.Search.{StrictlyAscending}
 use Rattle.walk_memory.specs.EntryTags.{TagsSeen}
-use Rattle.walk.specs.WalkWords.{among, rankOf}
+use Rattle.walk_steps.specs.WalkWords.{among}
+use Rattle.walk_steps.specs.WalkWordsLaws.{rankOf}
 
 abbrev pub seenWords : ℕ
 seenWords = 171

@@ -11,10 +11,12 @@ use Rattle.sorting.specs.declared.search.Found.{Found}
 use Rattle.sorting.specs.declared.search.Found.the-variants.{At, Nothing}
 use Rattle.sorting.specs.Search.{StrictlyAscending, rankIn}
 use Rattle.walk_memory.specs.Membership.{_∈ᵇ_}
-use Rattle.walk_memory.specs.EntryTags.{noRanks, holdsRank, insertRank, insertIf}
+use Rattle.walk_memory.specs.EntryTags.{noRanks, holdsRank, insertRank}
+use Rattle.walk_memory.specs.Membership.{insertIf}
 use Rattle.walk_memory.specs.EntryTagsLaws.{fresh-is, stands-empty, seen-empty, seen-holds, seen-insert}
-use Rattle.walk.specs.WalkWords.{among, rankOf}
-use Rattle.walk.specs.WalkWordsLaws.{member-found, member-nowhere, rankIn-there, rankOf-found, rankOf-low, rankOf-apart}
+use Rattle.walk_steps.specs.WalkWords.{among}
+use Rattle.walk_steps.specs.WalkWordsLaws.{rankOf}
+use Rattle.walk_steps.specs.WalkWordsLaws.{member-found, member-nowhere, rankIn-there, rankOf-found, rankOf-low, rankOf-apart}
 use Rattle.message_level.specs.SeenTags.{seenWords, SeenTags}
 
 pub not-not : (test : Bool) → not (not test) ≡ test

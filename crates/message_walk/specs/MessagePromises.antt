@@ -16,10 +16,11 @@ use Rattle.sorting.specs.Search.{StrictlyAscending}
 use Rattle.layouts.specs.Limits.{gateLimits}
 use Rattle.layouts.specs.LayoutWords.{groupCount}
 use Rattle.layouts.specs.LayoutCheckFacts.{Passed}
-use Rattle.walk_memory.specs.FieldTable.{rowCount, tagOf, AcceptedTable}
+use Rattle.walk_memory.specs.FieldTable.{rowCount, tagOf}
+use Rattle.walk_memory.specs.FieldTableLaws.{AcceptedTable}
 use Rattle.walk_memory.specs.EventSpaceLaws.{Wrote}
 use Rattle.walk_memory.specs.EntryTags.{holdsRank}
-use Rattle.walk.specs.WalkWords.{groupOf, inputOf}
+use Rattle.walk_steps.specs.WalkWords.{groupOf, inputOf}
 use Rattle.message_level.specs.MessageWalk.{placeAt, turnAt, messageTurns}
 use Rattle.message_level.specs.MessageWords.{levelOf}
 use Rattle.message_level.specs.SeenTags.{seenWords, SeenTags}

@@ -22,9 +22,9 @@ use Rattle.walk_memory.specs.FieldTable.{rowCount, tagOf}
 use Rattle.walk_memory.specs.EntryTags.{noRanks, holdsRank, insertRank}
 use Rattle.walk_memory.specs.EventSpaceLaws.{Wrote, wrote-none, wrote-then}
 use Rattle.group_reading.specs.GroupWalk.{walkGroup}
-use Rattle.walk.specs.WrittenEvents.{tagEvent}
-use Rattle.walk.specs.WalkWords.{among, numberFound, groupOf, inputOf, topMembers}
-use Rattle.walk.specs.WalkWordsLaws.{member-found, member-nowhere, groupOf-number, layoutOf-rules, top-ascends}
+use Rattle.walk_steps.specs.WrittenEvents.{tagEvent}
+use Rattle.walk_steps.specs.WalkWords.{among, numberFound, groupOf, inputOf, topMembers}
+use Rattle.walk_steps.specs.WalkWordsLaws.{member-found, member-nowhere, groupOf-number, layoutOf-rules, top-ascends}
 use Rattle.walk.specs.WalkPromises.{Walks}
 use Rattle.message_level.specs.MessageWalk.{twiceIf, foreignUnless, Turn, placeAt, turnAt, messageTurns}
 use Rattle.message_level.specs.MessageWalkLaws.{Passes, turn-undefined, turn-defined, turn-passes, TurnsSoFar, turns-begin, turns-end, turns-go-on}

@@ -19,8 +19,8 @@ use Rattle.walk_memory.specs.declared.event.Event.{Event}
 use Rattle.walk_memory.specs.Events.{eventsWords}
 use Rattle.walk_memory.specs.EventSpaceLaws.{Wrote, wrote-then, putAllIn-room, putAllIn-empty}
 use Rattle.walk_memory.specs.FieldTable.{rowCount, tableCheckOf}
-use Rattle.walk.specs.WalkWords.{inputOf}
-use Rattle.walk.specs.WalkWordsLaws.{groupOf-number, layoutOf-rules}
+use Rattle.walk_steps.specs.WalkWords.{inputOf}
+use Rattle.walk_steps.specs.WalkWordsLaws.{groupOf-number, layoutOf-rules}
 use Rattle.validator.specs.declared.message_call.WalkedMessage.{WalkedMessage}
 use Rattle.validator.specs.declared.message_call.WalkedMessage.the-variants.{Done, Refused}
 use Rattle.message_level.specs.MessageWalk.{messageTurns, missingTags, missingGroups, messageEvents}

@@ -21,7 +21,7 @@ use Rattle.walk_memory.specs.Events.{kindNumber, eventsWords}
 use Rattle.walk_memory.specs.WalkInput.{Layout, Fields, Input}
 use Rattle.group_reading.specs.GroupWalk.{walkGroup}
 use Rattle.group_reading.specs.ReadingTheorem.{FindsReadings}
-use Rattle.walk.specs.WalkWords.{inputOf, topMembers}
+use Rattle.walk_steps.specs.WalkWords.{inputOf, topMembers}
 use Rattle.message_level.specs.MessageWalk.{MessageLevel}
 use Rattle.message_level.specs.MessageWords.{levelOf}
 use Rattle.validator.specs.declared.message_call.WalkedMessage.the-variants.{Done}

@@ -27,8 +27,8 @@ use Rattle.walk_memory.specs.FieldTable.{tableCheckOf}
 use Rattle.walk_memory.specs.WalkInput.{Input}
 use Rattle.group_reading.specs.GroupWalk.{walkGroup}
 use Rattle.group_reading.specs.ReadingTheorem.{FindsReadings, walk-finds-readings}
-use Rattle.walk.specs.WalkWords.{inputOf, topMembers}
-use Rattle.walk.specs.WalkWordsLaws.{groupOf-number, layoutOf-rules}
+use Rattle.walk_steps.specs.WalkWords.{inputOf, topMembers}
+use Rattle.walk_steps.specs.WalkWordsLaws.{groupOf-number, layoutOf-rules}
 use Rattle.validator.specs.declared.message_call.WalkedMessage.the-variants.{Done}
 use Rattle.message_level.specs.MessageWalk.{MessageLevel, messageEvents}
 use Rattle.message_level.specs.MessageWords.{levelOf}

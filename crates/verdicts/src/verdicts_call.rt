@@ -15,7 +15,8 @@ ghost use mathlib.Core.Bool.{true};
 ghost use Prim.Native.Nat.{_≤_, _<_};
 ghost use lib.ListN.{length};
 ghost use Rattle.dictionary.specs.DictionaryCheck.{isDictionary};
-ghost use Rattle.walk_memory.specs.FieldTable.{rowCount, AcceptedTable, fieldsOf};
+ghost use Rattle.walk_memory.specs.FieldTable.{rowCount, fieldsOf};
+ghost use Rattle.walk_memory.specs.FieldTableLaws.{AcceptedTable};
 ghost use Rattle.verdicts.specs.Verdicts.{fieldVerdict, writtenIn, spaceAnswer, spaceWith, judgedOf, verdictsIn};
 ghost use Rattle.verdicts.specs.FieldRecords.{fieldRecord, filledIn, Holds};
 

@@ -1,6 +1,8 @@
 -- What the call `walk_group` tells of a top group (document 01, 'Reading of a group'): for lent layout words that pass the check, an accepted field
 -- table, a position inside it, a top group, and space for the events of its walk. The call is meant by its contract: it answers `walkedOf` and leaves
 -- `eventsIn` (`WalkCall.antt`). The readings are those of `GroupReading.antt` of group_reading at the words' input (`WalkWords.antt`). Assumes nothing.
+-- That a group's number, its members, its delimiter and its nested groups are those of the layout with whose arrangement the words begin is
+-- `top-group-read` and `walk-reads-layout` (`LayoutLookups.antt` of walk_steps).
 --
 --   isFaultNumber number          the number is that of a kind of fault event
 --   NoFaultWords space count      none of the first `count` events in the words is a fault event
@@ -31,8 +33,8 @@ use Rattle.group_reading.specs.GroupReading.{Reading, readingEvents}
 use Rattle.group_reading.specs.ReadingTheorem.{FindsReadings, walk-finds-readings}
 use Rattle.group_reading.specs.ReadingTheorem.Complete.{reading-walked}
 use Rattle.walk.specs.declared.walk_call.Walked.the-variants.{Done}
-use Rattle.walk.specs.WalkWords.{groupOf, inputOf, topMembers}
-use Rattle.walk.specs.WalkWordsLaws.{groupOf-number, layoutOf-rules}
+use Rattle.walk_steps.specs.WalkWords.{groupOf, inputOf, topMembers}
+use Rattle.walk_steps.specs.WalkWordsLaws.{groupOf-number, layoutOf-rules}
 use Rattle.walk.specs.WalkCall.{topWalk, neededFor, walkedOf, eventsIn}
 
 -- "Kinds 2, 3, 4, 6, 7 are the fault events."

@@ -1,11 +1,5 @@
 -- Definitions and laws of the crate `walk`: the walk of a group on lent words, and that its call finds the readings of the group. A definition's laws stand
--- in the file of its name with `Laws`. To read: `WalkWords` and `WalkCall`, then `CallTheorem`.
-pub mod WalkWords
-pub mod WalkWordsLaws
-pub mod WordSteps
-pub mod WordStepsLaws
-pub mod WrittenEvents
-pub mod WrittenEventsLaws
+-- in the file of its name with `Laws`. To read: `WalkCall`, then `CallTheorem`.
 pub mod WalkPromises
 pub mod WalkLoops
 pub mod WalkCall

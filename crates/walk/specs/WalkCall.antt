@@ -4,10 +4,9 @@
 --
 --   topWalk words fields message group position the walk of the top group of this number, from the position on
 --   neededFor walk                              "space for a walk's events is five words each"
---   mostWords rows position                     as many words as a walk from the position on can need
 --   walkedOf words fields message position tag space   what the call answers
 --   eventsIn words fields message position tag space   what the event space holds afterwards
-use Prim.Native.Nat.{ℕ, _+_, _*_, _-_}
+use Prim.Native.Nat.{ℕ, _+_, _*_}
 use mathlib.Core.Option.{Option, none, some}
 use mathlib.Core.List.{List, _++_}
 use lib.ListN.{length, drop}
@@ -22,17 +21,13 @@ use Rattle.walk_memory.specs.FieldTable.{tableCheckOf}
 use Rattle.group_reading.specs.GroupWalk.{WalkedGroup, walkGroup}
 use Rattle.walk.specs.declared.walk_call.Walked.{Walked}
 use Rattle.walk.specs.declared.walk_call.Walked.the-variants.{Done, Refused}
-use Rattle.walk.specs.WalkWords.{groupOf, inputOf, topMembers}
+use Rattle.walk_steps.specs.WalkWords.{groupOf, inputOf, topMembers}
 
 abbrev pub topWalk : List ℕ → List ℕ → List ℕ → ℕ → ℕ → WalkedGroup
 topWalk words fields message group position = walkGroup (inputOf words fields message) group 0 (topMembers words) position
 
 abbrev pub neededFor : WalkedGroup → ℕ
 neededFor walk = 5 * length (walk .events)
-
--- 5 * N - 2 events where N fields are left
-abbrev pub mostWords : ℕ → ℕ → ℕ
-mostWords rows position = 5 * (5 * (rows - position) - 2)
 
 -- 13, or the answer
 abbrev pub spaceAnswer : WalkedGroup → List ℕ → Walked

@@ -23,10 +23,11 @@ use Rattle.group_reading.specs.GroupWalkLaws.Equations.{walkGroup-outside}
 use Rattle.group_reading.specs.GroupWalkLaws.EventBound.{walkGroup-few-in-table}
 use Rattle.walk.specs.declared.walk_call.Walked.{Walked}
 use Rattle.walk.specs.declared.walk_call.Walked.the-variants.{Done, Refused}
-use Rattle.walk.specs.WalkWords.{among, numberFound, groupOf, inputOf, topMembers}
-use Rattle.walk.specs.WalkWordsLaws.{groupOf-number, layoutOf-rules}
+use Rattle.walk_steps.specs.WalkWords.{among, numberFound, groupOf, inputOf, topMembers}
+use Rattle.walk_steps.specs.WalkWordsLaws.{groupOf-number, layoutOf-rules}
 use Rattle.walk.specs.WalkPromises.{Walks}
-use Rattle.walk.specs.WalkCall.{topWalk, neededFor, mostWords, spaceAnswer, spaceWith, groupAnswer, groupSpace, tableAnswer, tableSpace, walkedOf, eventsIn}
+use Rattle.walk.specs.WalkCall.{topWalk, neededFor, spaceAnswer, spaceWith, groupAnswer, groupSpace, tableAnswer, tableSpace, walkedOf, eventsIn}
+use Rattle.walk.specs.WalkPromises.{mostWords}
 
 -- ---- the refusals before a walk
 

@@ -22,7 +22,8 @@ use Rattle.layouts.specs.LayoutCheckFacts.{Passed}
 use Rattle.walk_memory.specs.declared.event.Kind.the-variants.{Enter, Close, Delim, Deep}
 use Rattle.walk_memory.specs.declared.event.Event.{Event}
 use Rattle.walk_memory.specs.Membership.{_∈ᵇ_}
-use Rattle.walk_memory.specs.EntryTags.{noRanks, holdsRank, insertRank, rankCount, insertIf, TagsSeen}
+use Rattle.walk_memory.specs.EntryTags.{noRanks, holdsRank, insertRank, rankCount, TagsSeen}
+use Rattle.walk_memory.specs.Membership.{insertIf}
 use Rattle.walk_memory.specs.EntryTagsLaws.{seen-empty, seen-count, seen-holds, seen-insert}
 use Rattle.walk_memory.specs.FieldTable.{rowCount, tagOf, fieldsOf}
 use Rattle.walk_memory.specs.WalkInput.{Input, countAt, event}
@@ -33,11 +34,12 @@ use Rattle.group_reading.specs.GroupWalk.{WalkedGroup, ScannedEntry, badCount, 
 use Rattle.group_reading.specs.GroupWalkLaws.Equations.{walkGroup-outside, walkGroup-too-deep}
 use Rattle.group_reading.specs.GroupWalkLaws.EventBound.{walkGroup-passes, walkGroup-few-events}
 use Rattle.group_reading.specs.GroupWalkLaws.Loops.{EntrySoFar, entry-begins, entry-ends, entry-takes-field, entry-takes-group, GroupSoFar, group-begins, group-leads, group-takes-entry, group-ends}
-use Rattle.walk.specs.WalkWords.{among, rankOf, layoutOf, groupOf, inputOf}
-use Rattle.walk.specs.WalkWordsLaws.{member-found, rankOf-found, rankOf-low, rankOf-apart, groupOf-number, layoutOf-rules}
-use Rattle.walk.specs.WordStepsLaws.{FieldHere}
-use Rattle.walk.specs.WrittenEvents.{tagEvent, begunBy, repeatBy, leftBy}
-use Rattle.walk.specs.WrittenEventsLaws.{begun-few, repeat-few, begun-is, repeat-is, left-is}
+use Rattle.walk_steps.specs.WalkWords.{among, layoutOf, groupOf, inputOf}
+use Rattle.walk_steps.specs.WalkWordsLaws.{rankOf}
+use Rattle.walk_steps.specs.WalkWordsLaws.{member-found, rankOf-found, rankOf-low, rankOf-apart, groupOf-number, layoutOf-rules}
+use Rattle.walk_steps.specs.WordStepsLaws.{FieldHere}
+use Rattle.walk_steps.specs.WrittenEvents.{tagEvent, begunBy, repeatBy, leftBy}
+use Rattle.walk_steps.specs.WrittenEventsLaws.{begun-few, repeat-few, begun-is, repeat-is, left-is}
 use Rattle.walk.specs.WalkPromises.{Walks, Scans}
 
 not-not : (a : Bool) → not (not a) ≡ a

@@ -2,11 +2,12 @@
 -- Assumes nothing.
 --
 --   WalkAsks, Walks   `walk_group`: the walk's events are written from `at` on, and the positions given are the walk's
+--   mostWords rows position   as many words as a walk from the position on can need
 --   ScanAsks, Scans   `scan_entry` and `scan_wide`: the same for an entry from its first field on, of a level with no more members than the limit
 --
 -- No more than 25 words are written for a field that is passed: so the place behind the words stays far below what a place can be.
 use mathlib.Core.Path.{_≡_}
-use Prim.Native.Nat.{ℕ, _+_, _*_, _≤_, _<_}
+use Prim.Native.Nat.{ℕ, _+_, _*_, _-_, _≤_, _<_}
 use mathlib.Core.Bool.{Bool, true, false}
 use mathlib.Core.List.{List, []}
 use lib.ListN.{length}
@@ -14,11 +15,16 @@ use Rattle.sorting.specs.Search.{StrictlyAscending}
 use Rattle.layouts.specs.Limits.{gateLimits}
 use Rattle.layouts.specs.LayoutWords.{groupCount, levelMembers}
 use Rattle.layouts.specs.LayoutCheckFacts.{Passed}
-use Rattle.walk_memory.specs.FieldTable.{rowCount, AcceptedTable}
+use Rattle.walk_memory.specs.FieldTable.{rowCount}
+use Rattle.walk_memory.specs.FieldTableLaws.{AcceptedTable}
 use Rattle.walk_memory.specs.EventSpaceLaws.{Wrote}
 use Rattle.group_reading.specs.GroupSteps.{entryStops}
 use Rattle.group_reading.specs.GroupWalk.{walkGroup, scanEntry}
-use Rattle.walk.specs.WalkWords.{among, inputOf}
+use Rattle.walk_steps.specs.WalkWords.{among, inputOf}
+
+-- 5 * N - 2 events where N fields are left
+abbrev pub mostWords : ℕ → ℕ → ℕ
+mostWords rows position = 5 * (5 * (rows - position) - 2)
 
 -- layout words that passed the check, with a group of theirs, and an accepted field table
 pub record Accepted (words fields message : List ℕ) (group : ℕ) : Type 0 where

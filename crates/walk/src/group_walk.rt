@@ -1,17 +1,5 @@
 // The walk of a group and the scan of an entry, which call each other: a call falls on the fields left and the depth left. Ported from walk.rs,
 // `walk_group` and `scan_entry`; the Visitor is the event space.
-use crate::group_events::either;
-use crate::group_events::put_end;
-use crate::group_events::put_event;
-use crate::group_events::put_repeat;
-use crate::group_events::put_start;
-use crate::group_events::spoilt_by;
-use crate::group_steps::EntryStep;
-use crate::group_steps::Turn;
-use crate::group_steps::opening_at;
-use crate::group_steps::row_count;
-use crate::group_steps::step_at;
-use crate::layout_input::first_group_of;
 use layouts::layout_words::count_tag_at;
 use layouts::layout_words::count_tags_at;
 use layouts::layout_words::delimiter_at;
@@ -20,6 +8,18 @@ use walk_memory::entry_tags::EntryTags;
 use walk_memory::entry_tags::WideEntryTags;
 use walk_memory::event::Kind;
 use walk_memory::field_table::count_at;
+use walk_steps::group_events::either;
+use walk_steps::group_events::put_end;
+use walk_steps::group_events::put_event;
+use walk_steps::group_events::put_repeat;
+use walk_steps::group_events::put_start;
+use walk_steps::group_events::spoilt_by;
+use walk_steps::group_steps::EntryStep;
+use walk_steps::group_steps::Turn;
+use walk_steps::group_steps::opening_at;
+use walk_steps::group_steps::row_count;
+use walk_steps::group_steps::step_at;
+use walk_steps::layout_input::first_group_of;
 ghost use Rattle.walk.specs.WalkPromises.{WalkAsks, Walks, ScanAsks, Scans};
 
 // The first field behind a group, and the place behind the events' words.
@@ -93,7 +93,7 @@ pub fn walk_group<'a>(
             let close = Kind::Close(entries, entry.seen);
             to = put_event(events, entry.at, tag, depth, close);
             cursor = entry.next;
-            unparseable = either(unparseable, entry.unparseable);
+            unparseable = either(unparseable, entry.unparseable); // by each entry
             entries += 1;
         } else {
             let entry = scan_wide(fields, message, words, group, cursor, depth, events, to);
@@ -130,7 +130,7 @@ fn scan_entry<'a>(
     let tag = count_tag_at(words, group);
     let delimiter = delimiter_at(words, group);
     let members = members_at(words, 1 + group);
-    let tags = count_tags_at(words, 1 + group);
+    let tags = count_tags_at(words, 1 + group); // of the groups nested in the entry
     let first = first_group_of(words, 1 + group);
     let mut seen = EntryTags::new();
     let mut cursor = start;
@@ -151,11 +151,11 @@ fn scan_entry<'a>(
             }
             EntryStep::Nested(rank, member, inner) => {
                 let inserted = seen.insert_rank(rank);
-                let with = inserted.tags;
+                let with = inserted.tags; // the set is this entry's alone
                 seen = with;
                 to = put_repeat(events, to, tag, depth, member, inserted.fresh);
-                unparseable = spoilt_by(unparseable, inserted.fresh);
-                let below = depth + 1;
+                unparseable = spoilt_by(unparseable, inserted.fresh); // by no nested fault
+                let below = depth + 1; // a nested group is one deeper
                 let nested = walk_group(
                     fields,
                     message,

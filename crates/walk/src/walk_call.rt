@@ -1,22 +1,24 @@
 // The walk of a top group on lent words: a call that refuses what it cannot walk, and else writes the events of the walk. Ported from walk.rs,
 // `walk_group` with a recording visitor.
-use crate::group_steps::row_count;
-use crate::layout_input::top_group;
 use layouts::layout_check::is_layout;
 use layouts::layout_words::members_at;
 use refusals::refusal::Refusal;
 use sorting::search::Found;
 use walk_memory::field_table::TableCheck;
 use walk_memory::field_table::check_field_table;
+use walk_steps::group_steps::row_count;
+use walk_steps::layout_input::top_group;
 ghost use mathlib.Core.Path.{_≡_};
 ghost use Prim.Native.Nat.{_≤_, _<_};
 ghost use lib.ListN.{length};
 ghost use Rattle.layouts.specs.Limits.{gateLimits};
 ghost use Rattle.layouts.specs.LayoutCheckFacts.{Passed};
-ghost use Rattle.walk_memory.specs.FieldTable.{rowCount, AcceptedTable};
+ghost use Rattle.walk_memory.specs.FieldTable.{rowCount};
+ghost use Rattle.walk_memory.specs.FieldTableLaws.{AcceptedTable};
 ghost use Rattle.walk.specs.WalkPromises.{Accepted};
-ghost use Rattle.walk.specs.WalkWords.{groupOf};
-ghost use Rattle.walk.specs.WalkCall.{topWalk, mostWords, spaceAnswer, spaceWith, groupAnswer, groupSpace, walkedOf, eventsIn};
+ghost use Rattle.walk_steps.specs.WalkWords.{groupOf};
+ghost use Rattle.walk.specs.WalkCall.{topWalk, spaceAnswer, spaceWith, groupAnswer, groupSpace, walkedOf, eventsIn};
+ghost use Rattle.walk.specs.WalkPromises.{mostWords};
 
 // What the call answers.
 pub enum Walked {
@@ -118,7 +120,7 @@ fn walk_top(
         0,
     );
     Walked::Done {
-        position: end.next,
+        position: end.next, // the first field after the group
         words: end.at,
     }
 }

@@ -7,7 +7,6 @@
 --   maskIn word rank         that bit as a mask, in the word with this number: 0 in another
 --   onesOf words             how many bits of the words are set
 --   rankCount words members  how many are set in the words that a level of so many members uses, (members + 63) / 64 of them
---   insertIf repeated tag seen   the tags of an entry with one more, unless it repeats
 --   Stands words width members ranks   the words, so many, stand for the set of these ranks of a level of so many members, each listed once
 --   TagsSeen words width members isMember rankOf seen   the words stand for the tags seen, members of the level, by their ranks
 use mathlib.Core.Path.{_≡_}
@@ -38,10 +37,6 @@ onesOf (word ∷ rest) = ones word + onesOf rest
 
 unfoldable pub rankCount : List ℕ → ℕ → ℕ
 rankCount words members = onesOf (take ((members + 63) / 64) words)
-
--- the tags of an entry with one more; the Rust's `insert_rank`
-abbrev pub insertIf : Bool → ℕ → List ℕ → List ℕ
-insertIf repeated tag seen = if repeated then seen else tag ∷ seen
 
 pub record Stands (words : List ℕ) (width members : ℕ) (ranks : List ℕ) : Type 0 where
   pub wide : length words ≡ width

@@ -17,7 +17,8 @@ use lib.Pow.{shl-exact, pow-pos}
 use lib.Seq.{take-suc, take-set-lt, getD-take, length-take-le, getD-set-same, getD-set-other, set-getD}
 use borrow.Author.Tests.{eq-eqb, ne-eqb, eqb-true, eqb-false}
 use Rattle.walk_memory.specs.Membership.{_∈ᵇ_}
-use Rattle.walk_memory.specs.EntryTags.{noRanks, holdsRank, insertRank, maskIn, onesOf, rankCount, insertIf, Stands, TagsSeen}
+use Rattle.walk_memory.specs.EntryTags.{noRanks, holdsRank, insertRank, maskIn, onesOf, rankCount, Stands, TagsSeen}
+use Rattle.walk_memory.specs.Membership.{insertIf}
 
 -- ---- one bit of a word
 

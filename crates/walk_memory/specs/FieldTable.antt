@@ -6,10 +6,8 @@
 --   isBadField fields messageLength position "a field that starts behind its end or ends behind the message"
 --   badFrom fields messageLength rows position   the first bad field among so many rows from the position on
 --   tableCheckOf fields messageLength        row 12 of the refusals: whether it finds something, and its place
---   AcceptedTable fields messageLength       what holds of a table in which row 12 finds nothing
 --   fieldsOf fields message                  the fields as the walk sees them
-use mathlib.Core.Path.{_≡_}
-use Prim.Native.Nat.{ℕ, zero, suc, _+_, _*_, _-_, _/_, _%_, _≤_, _<_}
+use Prim.Native.Nat.{ℕ, zero, suc, _+_, _*_, _-_, _/_, _%_}
 use mathlib.Core.Bool.{Bool, not, _||_}
 use mathlib.Core.List.{List}
 use lib.ListN.{length, getD, take, drop}
@@ -47,12 +45,6 @@ tableCheckOf fields messageLength =
     if not (length fields % 3 ≡ᵇ 0) || 4096 <ᵇ rowCount fields
     then Refused 0
     else badFrom fields messageLength (rowCount fields) 0
-
-pub record AcceptedTable (fields : List ℕ) (messageLength : ℕ) : Type 0 where
-  pub threes : length fields ≡ 3 * rowCount fields
-  pub few : rowCount fields ≤ 4096
-  pub ordered : (position : ℕ) → position < rowCount fields → firstOf fields position ≤ pastOf fields position
-  pub inside : (position : ℕ) → position < rowCount fields → pastOf fields position ≤ messageLength
 
 abbrev pub fieldsOf : List ℕ → List ℕ → Fields
 fieldsOf fields message = record {

@@ -1,7 +1,10 @@
--- Laws of `FieldTable.antt`: what `tableCheckOf` gives in each case, the loop of `check_field_table`, and what an accepted table is. Assumes nothing.
+-- Laws of `FieldTable.antt`: what `tableCheckOf` gives in each case, the loop of `check_field_table`, and what an accepted table is.
+-- Assumes nothing.
+--
+--   AcceptedTable fields messageLength   what holds of a table in which row 12 finds nothing
 use mathlib.Core.Path.{_≡_, refl, _∙_}
 use mathlib.Core.Logic.{_↔_}
-use Prim.Native.Nat.{ℕ, zero, suc, _+_, _-_, _%_, _≤_, _<_}
+use Prim.Native.Nat.{ℕ, zero, suc, _+_, _*_, _-_, _%_, _≤_, _<_}
 use mathlib.Core.Bool.{Bool, true, false, not, _||_, true≢false}
 use mathlib.Core.List.{List}
 use native.Mathlib.Omega.{arith}
@@ -12,7 +15,13 @@ use lib.ListN.{length, take, drop}
 use borrow.Author.Tests.{eq-eqb, ne-eqb, eqb-true, lt-ltb, le-ltb, ltb-false}
 use Rattle.ascii.specs.Notation.{if_then_else_}
 use Rattle.walk_memory.specs.declared.field_table.TableCheck.the-variants.{Accepted, Refused}
-use Rattle.walk_memory.specs.FieldTable.{rowCount, firstOf, pastOf, isBadField, badFrom, tableCheckOf, AcceptedTable, fieldsOf}
+use Rattle.walk_memory.specs.FieldTable.{rowCount, firstOf, pastOf, isBadField, badFrom, tableCheckOf, fieldsOf}
+
+pub record AcceptedTable (fields : List ℕ) (messageLength : ℕ) : Type 0 where
+  pub threes : length fields ≡ 3 * rowCount fields
+  pub few : rowCount fields ≤ 4096
+  pub ordered : (position : ℕ) → position < rowCount fields → firstOf fields position ≤ pastOf fields position
+  pub inside : (position : ℕ) → position < rowCount fields → pastOf fields position ≤ messageLength
 
 -- ---- isBadField
 

@@ -4,7 +4,8 @@ use counts::count::Count;
 ghost use mathlib.Core.Path.{_≡_};
 ghost use Prim.Native.Nat.{_<_};
 ghost use lib.ListN.{length};
-ghost use Rattle.walk_memory.specs.FieldTable.{rowCount, tagOf, firstOf, pastOf, tableCheckOf, AcceptedTable, fieldsOf};
+ghost use Rattle.walk_memory.specs.FieldTable.{rowCount, tagOf, firstOf, pastOf, tableCheckOf, fieldsOf};
+ghost use Rattle.walk_memory.specs.FieldTableLaws.{AcceptedTable};
 ghost use Rattle.walk_memory.specs.WalkInput.{countAt};
 
 // Whether a field table is accepted, or refused with 12 at this place.

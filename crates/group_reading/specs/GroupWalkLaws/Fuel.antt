@@ -6,8 +6,9 @@ use mathlib.Core.List.{List, []}
 use native.Mathlib.Omega.{arith}
 use Rattle.counts.specs.declared.count.Count.{Count}
 use Rattle.walk_memory.specs.Membership.{_∈ᵇ_}
-use Rattle.walk_memory.specs.EntryTags.{insertIf}
-use Rattle.walk_memory.specs.WalkInput.{Layout, Fields, Input, LayoutRules, countAt}
+use Rattle.walk_memory.specs.Membership.{insertIf}
+use Rattle.walk_memory.specs.WalkInput.{Layout, Fields, Input, countAt}
+use Rattle.walk_memory.specs.ReliedRules.{LayoutRules}
 use Rattle.group_reading.specs.GroupSteps.{Opening, outside, too-deep, member-leads, entries-follow, Step, stops, plain-field, nested-group, entryBegins, openingAt, stepAt}
 use Rattle.group_reading.specs.GroupStepsLaws.{entryStops-within, entryStops-first, entryBegins-delimiter, stepAt-tells}
 use Rattle.group_reading.specs.GroupWalk.{walkBy, entriesBy, scanBy}

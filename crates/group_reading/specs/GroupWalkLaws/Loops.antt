@@ -15,8 +15,9 @@ use Rattle.counts.specs.declared.count.Count.{Count}
 use Rattle.walk_memory.specs.declared.event.Kind.the-variants.{Enter, Close}
 use Rattle.walk_memory.specs.declared.event.Event.{Event}
 use Rattle.walk_memory.specs.Membership.{_∈ᵇ_}
-use Rattle.walk_memory.specs.EntryTags.{insertIf}
-use Rattle.walk_memory.specs.WalkInput.{Layout, Fields, Input, LayoutRules, countAt, event}
+use Rattle.walk_memory.specs.Membership.{insertIf}
+use Rattle.walk_memory.specs.WalkInput.{Layout, Fields, Input, countAt, event}
+use Rattle.walk_memory.specs.ReliedRules.{LayoutRules}
 use Rattle.group_reading.specs.GroupSteps.{memberLeads, entryBegins, entryStops}
 use Rattle.group_reading.specs.GroupWalk.{WalkedGroup, WalkedEntries, ScannedEntry, badCount, repeatedTag, ended, leadingEntry, walkGroup, walkEntries, scanEntry}
 use Rattle.group_reading.specs.GroupWalkLaws.Equations.{walkGroup-entries-follow, walkGroup-member-leads, walkEntries-ends, walkEntries-goes-on, scanEntry-stops, scanEntry-plain, scanEntry-nested}

@@ -14,7 +14,8 @@ use native.Mathlib.Decide.{ℕ-discrete}
 use Rattle.counts.specs.declared.count.Count.{Count}
 use Rattle.counts.specs.declared.count.Count.the-variants.{Number, Nothing}
 use Rattle.walk_memory.specs.Membership.{_∈ᵇ_}
-use Rattle.walk_memory.specs.WalkInput.{Layout, Fields, Input, LayoutRules, countAt}
+use Rattle.walk_memory.specs.WalkInput.{Layout, Fields, Input, countAt}
+use Rattle.walk_memory.specs.ReliedRules.{LayoutRules}
 use Rattle.group_reading.specs.GroupReading.{mayFollow, Reading, Entries, Items, Item, reading, no-entry, entry, no-item, item, plain, nested}
 use Rattle.group_reading.specs.GroupReadingLaws.{items-advance, item-advances}
 use Rattle.group_reading.specs.GroupSteps.{entryStops}
@@ -174,9 +175,3 @@ module _ (input : Input) (rules : LayoutRules (input .layout)) where
     item-unique (nested inner found _) (plain nothing _) valid = absurd (none-or-some nothing found)
     item-unique {group = group} {first = first} (nested inner found read) (nested inner′ found′ read′) valid =
         nested-path inner found read (λ other. reading-unique read other (nested-valid group inner (tagAt first) valid found)) inner′ found′ read′
-
-  -- ---- the end and the derivation together
-
-  pub one-reading : {group : Group} {depth : ℕ} {around : ℕ → Bool} {first : ℕ} → Valid group
-      → IsProp ((past : ℕ) × Reading input group depth around first past)
-  one-reading valid this that = Σ-prop-path (λ past read read′. reading-unique read read′ valid) (reading-ends (this .1) (that .1) valid)

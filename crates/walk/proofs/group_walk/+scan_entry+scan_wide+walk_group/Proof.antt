@@ -9,8 +9,8 @@ use lib.ListN.{length}
 use Rattle.walk_memory.specs.EntryTags.{rankCount}
 use Rattle.walk_memory.specs.EventSpaceLaws.{wrote-length}
 use Rattle.walk_memory.specs.FieldTable.{rowCount}
-use Rattle.walk.specs.WalkWordsLaws.{level-searches, level-ascends, level-length, members-few-here}
-use Rattle.walk.specs.WordStepsLaws.{level-step, level-turn, entry-stops, entry-plain, entry-nested, turn-over, turn-entry, turn-lead}
+use Rattle.walk_steps.specs.WalkWordsLaws.{level-searches, level-ascends, level-length, members-few-here}
+use Rattle.walk_steps.specs.WordStepsLaws.{level-step, level-turn, entry-stops, entry-plain, entry-nested, turn-over, turn-entry, turn-lead}
 use Rattle.walk.specs.WalkLoops.{EntryWritten, entry-starts, field-inside, rank-low, repeat-room, entry-adds-plain, inner-valid, nested-moves, entry-adds-nested, entry-stopped, GroupWritten, group-starts, entry-opens, lead-opens, one-opens, group-ended, walk-outside, walk-too-deep, begun-room}
 use borrow.Author.Needs.{needs}
 use Prim.Native.Nat.{ℕ, _<_}
@@ -29,16 +29,16 @@ use Rattle.layouts.proofs.layout_words.count_tag_at.Reads as count-tag-at-reads
 use Rattle.layouts.proofs.layout_words.count_tags_at.Reads as count-tags-at-reads
 use Rattle.layouts.proofs.layout_words.delimiter_at.Reads as delimiter-at-reads
 use Rattle.layouts.proofs.layout_words.members_at.Reads as members-at-reads
-use Rattle.walk.proofs.group_events.either.Reads as either-reads
-use Rattle.walk.proofs.group_events.put_end.Reads as put-end-reads
-use Rattle.walk.proofs.group_events.put_event.Reads as put-event-reads
-use Rattle.walk.proofs.group_events.put_repeat.Reads as put-repeat-reads
-use Rattle.walk.proofs.group_events.put_start.Reads as put-start-reads
-use Rattle.walk.proofs.group_events.spoilt_by.Reads as spoilt-by-reads
-use Rattle.walk.proofs.group_steps.opening_at.Reads as opening-at-reads
-use Rattle.walk.proofs.group_steps.row_count.Reads as row-count-reads
-use Rattle.walk.proofs.group_steps.step_at.Reads as step-at-reads
-use Rattle.walk.proofs.layout_input.first_group_of.Reads as first-group-of-reads
+use Rattle.walk_steps.proofs.group_events.either.Reads as either-reads
+use Rattle.walk_steps.proofs.group_events.put_end.Reads as put-end-reads
+use Rattle.walk_steps.proofs.group_events.put_event.Reads as put-event-reads
+use Rattle.walk_steps.proofs.group_events.put_repeat.Reads as put-repeat-reads
+use Rattle.walk_steps.proofs.group_events.put_start.Reads as put-start-reads
+use Rattle.walk_steps.proofs.group_events.spoilt_by.Reads as spoilt-by-reads
+use Rattle.walk_steps.proofs.group_steps.opening_at.Reads as opening-at-reads
+use Rattle.walk_steps.proofs.group_steps.row_count.Reads as row-count-reads
+use Rattle.walk_steps.proofs.group_steps.step_at.Reads as step-at-reads
+use Rattle.walk_steps.proofs.layout_input.first_group_of.Reads as first-group-of-reads
 use Rattle.walk_memory.proofs.entry_tags.EntryTags.close.Reads as entry-tags-EntryTags-close-reads
 use Rattle.walk_memory.proofs.entry_tags.EntryTags.insert_rank.Reads as entry-tags-EntryTags-insert-rank-reads
 use Rattle.walk_memory.proofs.entry_tags.EntryTags.new.Reads as entry-tags-EntryTags-new-reads
