@@ -33,7 +33,7 @@ use Rattle.texts.specs.declared.dictionary_order.Step.{Step}
 use Rattle.texts.specs.DictionaryOrder.{start, standing, taken, notAllowed, openedBlock, closedBlock, usedIn, isNumber, isLetters, openGroup, closeGroup, closeComponent, closeMessage, endStep, stepOf}
 use Rattle.dictionary.specs.DictionaryWords.{isOf, nameOf, placeOf}
 use Rattle.dictionary.specs.DictionaryCheck.{isTaken, accepts}
-use Rattle.records.specs.LineTexts.{lengthOf}
+use Rattle.records.specs.LineLengths.{lengthOf}
 use Rattle.records.specs.Records.{recordOf}
 use Rattle.expansion.specs.Dictionary.{FieldRef, ComponentRef, Body, body-of, GroupDef, groupClosed, no-group-defs, group-def, fieldsOf, groupDefsOf, usesOf, emptyBody, Blocks, changed, withField, withGroup, withUse, innermost, aroundIt, before, blocksOf}
 use Rattle.bodies.specs.DictionaryPlaces.{SomeBody, OneBody, OnlyUses, InPlace, InOrder}

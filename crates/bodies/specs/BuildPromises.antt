@@ -15,7 +15,8 @@ use Rattle.layouts.specs.Limits.{gateLimits}
 use Rattle.expansion.specs.declared.builder.Added.{Added}
 use Rattle.expansion.specs.declared.builder.Added.the-variants.{Done, Stopped}
 use Rattle.expansion.specs.declared.builder.Stop.the-variants.{Error, NoRoom}
-use Rattle.bodies.specs.DictionaryInWords.{wordLines, dictionaryIn, expansionIn}
+use Rattle.dictionary.specs.DictionaryWords.{wordLines}
+use Rattle.bodies.specs.DictionaryInWords.{dictionaryIn, expansionIn}
 use Rattle.bodies.specs.DictionaryLookups.{bodyAt}
 use Rattle.expansion.specs.Expansion.{OpenLevel, Work, finish, build, Expanded}
 use Rattle.expansion.specs.Expansion as Definition

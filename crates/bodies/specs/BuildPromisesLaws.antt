@@ -19,8 +19,8 @@ use Rattle.lines.specs.LineParts.{messageTypeOf}
 use Rattle.layouts.specs.Limits.{gateLimits}
 use Rattle.sorting.specs.declared.search.Found.{Found}
 use Rattle.sorting.specs.declared.search.Found.the-variants.{At, Nothing}
-use Rattle.records.specs.RecordsLaws.{Words32}
-use Rattle.dictionary.specs.DictionaryWords.{isOf, nameOf, placeOf}
+use Rattle.records.specs.Records.{Words32}
+use Rattle.dictionary.specs.DictionaryWords.{isOf, nameOf, placeOf, wordLines}
 use Rattle.dictionary.specs.DictionaryCheck.{standsAt, messagesAt, isDictionary}
 use Rattle.dictionary.specs.Definitions as Words
 use Rattle.expansion.specs.declared.builder.Builder as Code
@@ -31,8 +31,9 @@ use Rattle.expansion.specs.declared.builder.Stop.the-variants.{Error, NoRoom}
 use Rattle.expansion.specs.Dictionary.{Body, usesOf, messageOf}
 use Rattle.expansion.specs.Dictionary as Tree
 use Rattle.bodies.specs.AcceptedPlaces.{Parted, isDefinition, place-behind}
-use Rattle.bodies.specs.DictionaryInWords.{wordLines, dictionaryIn, expansionIn}
-use Rattle.bodies.specs.DictionaryLookups.{bodyAt, lines-counted, kind-at, stands-line, definitions-first, header-comes, Begins, header-begins, trailer-begins, message-found, message-missing}
+use Rattle.bodies.specs.DictionaryInWords.{dictionaryIn, expansionIn}
+use Rattle.dictionary.specs.WordLinesLaws.{lines-counted}
+use Rattle.bodies.specs.DictionaryLookups.{bodyAt, kind-at, stands-line, definitions-first, header-comes, Begins, header-begins, trailer-begins, message-found, message-missing}
 use Rattle.expansion.specs.Expansion.{Work, Builder, OpenLevel, emptyLevel, nothingSpent, eachUse, addEnvelope, addMessage, build, outcomeOf, expandOf, Expanded, finish}
 use Rattle.expansion.specs.Expansion as Definition
 use Rattle.expansion.specs.Trace.{Frame, First, InWork, run, atStart, builderOf, workOf, Fits, Grown, Grows, Adds}

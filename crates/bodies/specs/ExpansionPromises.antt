@@ -23,7 +23,8 @@ use Rattle.bodies.specs.declared.add_body.Filled.the-variants as filled
 use Rattle.bodies.specs.declared.add_body.GroupLine.{GroupLine}
 use Rattle.expansion.specs.Dictionary.{GroupDef, group-def}
 use Rattle.bodies.specs.DictionaryPlaces.{openAt}
-use Rattle.bodies.specs.DictionaryInWords.{wordLines, dictionaryIn}
+use Rattle.dictionary.specs.DictionaryWords.{wordLines}
+use Rattle.bodies.specs.DictionaryInWords.{dictionaryIn}
 use Rattle.bodies.specs.DictionaryLookups.{bodyAt, aroundAt, BodyAt}
 use Rattle.expansion.specs.Expansion.{Work, fillBody, addGroup, addComponent}
 use Rattle.expansion.specs.Trace.{Adds, Fits, Grows}

@@ -16,7 +16,7 @@ use Rattle.line_forms.specs.declared.line.Line.{Line}
 use Rattle.line_forms.specs.declared.line.Line.the-variants.{Def, Value, BeginHeader, BeginTrailer, EndHeader, EndTrailer, Component, Message, Field, Group, Use, End, Member, RequiredTag, Unknown}
 use Rattle.layouts.specs.Limits.{gateLimits}
 use Rattle.sorting.specs.Sort.{isIn}
-use Rattle.records.specs.RecordsLaws.{Words32}
+use Rattle.records.specs.Records.{Words32}
 use Rattle.dictionary.specs.DictionaryCheck.{isDictionary}
 use Rattle.expansion.specs.declared.builder.Builder as Code
 use Rattle.expansion.specs.declared.builder.Added.{Added}
@@ -27,8 +27,10 @@ use Rattle.bodies.specs.declared.add_body.Filled.{Filled}
 use Rattle.bodies.specs.declared.add_body.Filled.the-variants as filled
 use Rattle.expansion.specs.Dictionary.{FieldRef, ComponentRef, Body, GroupDef, Dictionary, Found, NotFound, group-def, emptyBody, withField, withGroup, withUse, innermost, aroundIt, componentOf, fieldsOf, delimiterOf, countTagOf}
 use Rattle.bodies.specs.DictionaryPlaces.{openAt, InOrder, OnlyUses, IsOther, inside-body, at-field, at-group, at-use, at-end}
-use Rattle.bodies.specs.DictionaryInWords.{wordLines, dictionaryIn}
-use Rattle.bodies.specs.DictionaryLookups.{bodyAt, aroundAt, BodyAt, body-there, lines-counted, line-at, lines-in-order}
+use Rattle.dictionary.specs.DictionaryWords.{wordLines}
+use Rattle.bodies.specs.DictionaryInWords.{dictionaryIn}
+use Rattle.dictionary.specs.WordLinesLaws.{lines-counted, line-at}
+use Rattle.bodies.specs.DictionaryLookups.{bodyAt, aroundAt, BodyAt, body-there, lines-in-order}
 use Rattle.expansion.specs.Expansion.{OpenLevel, Work, Granted, Denied, Spent, onGranted, spend, noted, addMember, addField, openEntry, closeGroup, fillBody, addGroup, addComponent}
 use Rattle.expansion.specs.Trace.{Frame, First, InWork, withLevel, builderOf, workOf, nodeMore, wordMore, Adds, SpendsNode, Fits, Grown, Grows, Enters, Leaves, entered, left}
 use Rattle.expansion.specs.TraceLaws.{stops-later, same-work, adds-then, adds-stops, grown-then, grows-then, grown-grows, done-grown, stopped-grows}

@@ -41,7 +41,7 @@ use Rattle.texts.specs.DictionaryOrder.{start, stepOf, behindTrailer, behindMes
 use Rattle.texts.specs.DictionaryText.{counted, counts, definedBy, orderFrom, orderOf, onFault, keyOf, isIn, onKey, againFrom, againOf, firstOf, dictionaryTextOf}
 use Rattle.records.specs.Records.{recordOf, linesFrom}
 use Rattle.records.specs.RecordsLaws.{Held, HeldEnd, lineFrom-recordOf, recordOf-length}
-use Rattle.records.specs.LineTexts.{digitCountFrom, digitCount, endLength, lengthOf}
+use Rattle.records.specs.LineLengths.{digitCountFrom, digitCount, endLength, lengthOf}
 use Rattle.records.specs.WordTextLaws.{lettersLength-range}
 use Rattle.records.specs.LineTextsLaws.{some-digit-by}
 use Rattle.lines.specs.declared.line_parts.Number32.{Number32}
@@ -49,10 +49,10 @@ use Rattle.lines.specs.declared.line_parts.Number32.the-variants.{Number, NoNum
 use Rattle.lines.specs.declared.line_parts.MessageType.{MessageType}
 use Rattle.lines.specs.declared.line_parts.MessageType.the-variants.{Letters, NoLetters}
 use Rattle.records.specs.LineReadLaws.{Usable, lineOf-fits}
-use Rattle.dictionary.specs.DictionaryWords.{isOf, nameOf, namesOf, placeOf, recordsOf, indexOf, dictionaryWords}
+use Rattle.dictionary.specs.DictionaryWords.{isOf, nameOf, namesOf, placeOf, recordsOf, indexOf, dictionaryWords, linesIn}
 use Rattle.dictionary.specs.DictionaryCheck.{isTaken, accepts, countOf, standsAt, standsEach, isIndex, tagsAt, componentsAt, sizeOf, isDictionary}
 use Rattle.dictionary.specs.IndexLaws.{once-same, often-at, record-word, record-drop, record-behind, getD-any, countOf-names, Stands}
-use Rattle.dictionary.specs.PassAccepted.{linesIn, AllHeld, counted-lines, keyIn, keysOf, tag-keys, component-keys, message-keys, tags-step, components-step, messages-step, held-small, tagIn, componentIn, messageIn, SmallNames, once-other, howOften-append}
+use Rattle.dictionary.specs.PassAccepted.{AllHeld, counted-lines, keyIn, keysOf, tag-keys, component-keys, message-keys, tags-step, components-step, messages-step, held-small, tagIn, componentIn, messageIn, SmallNames, once-other, howOften-append}
 
 -- ---- the bytes of a text
 

@@ -1,4 +1,5 @@
--- What a dictionary defines, looked up in its words (`DictionaryWords.antt`). A name is searched in its index; what is found is the number of its record.
+-- What a dictionary defines, looked up in its words (`DictionaryWords.antt`) as the code does it. A name is searched in its index; what is found is the number of its
+-- record. That this is what the lines of the text define is `DefinedFieldsLaws.antt`, of components and messages expansion's DictionaryLookups.antt.
 -- Assumes nothing.
 --
 --   recordIn at count name words    the number of the record that the index at this place, of so many names, gives the name, or Nothing

@@ -140,9 +140,6 @@ module _ (kind at count name : ℕ) (words : List ℕ) (fits : at + 2 * count �
 pub below-number : (lines number : ℕ) (found : Found) → found ≡ At number → Below lines found → number < lines
 below-number lines number found there below = rw there at below
 
-pub below-nothing : (lines : ℕ) (found : Found) → found ≡ Nothing → Below lines found
-below-nothing lines found missing = rw missing tt
-
 -- ---- isAmong: the loop of `is_among`
 
 pub record AmongSoFar (value : Admitted) (records first : ℕ) (words : List ℕ) (left at : ℕ) : Type 0 where

@@ -20,7 +20,7 @@ use Rattle.lines.specs.LineParts.{noLeadingZero, numberOf, isAlphanumeric}
 use Rattle.texts.specs.DictionaryOrder.{stepOf}
 use Rattle.dictionary.specs.declared.definitions.Definition.the-variants.{Defined, Undefined}
 use Rattle.records.specs.Records.{holdsByte, holdsPart, lettersLength, lettersText, holdsLetters, recordOf, isUnused, outerFrom, bodyFrom, lineFrom, linesFrom}
-use Rattle.records.specs.LineTexts.{digitCount, lengthOf}
+use Rattle.records.specs.LineLengths.{digitCount, lengthOf}
 use Rattle.dictionary.specs.DictionaryWords.{isOf, nameOf, namesOf, placeOf, recordsOf, indexOf, dictionaryWords}
 use Rattle.dictionary.specs.DictionaryCheck.{accepts, countOf, standsAt, standsEach, isIndex, isDictionary}
 use Rattle.dictionary.specs.Definitions.{recordIn, definitionOf, componentOf}

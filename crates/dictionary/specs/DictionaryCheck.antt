@@ -3,7 +3,6 @@
 -- their texts are added up ("text over 65,536 bytes"), and each index names what the records define, each name once. Assumes nothing.
 --
 --   accepts state number total lines   lines from this number on, read in this state behind so many bytes, are those of an accepted text, but for row 5
---   takes state number lines     lines from this number on, read in this state, are taken, each
 --   isIndex kind at count words  the index at this place has the names of all records of this kind, each once, and where they stand
 --   isDictionary words           the words begin with the arrangement of an accepted dictionary
 use mathlib.Core.Path.{_≡_}
@@ -19,7 +18,7 @@ use Rattle.texts.specs.declared.dictionary_order.Fault.{Fault}
 use Rattle.texts.specs.declared.dictionary_order.Fault.the-variants.{NoFault, Faulty}
 use Rattle.texts.specs.DictionaryOrder.{start, stepOf, behindTrailer, behindMessage}
 use Rattle.records.specs.Records.{linesFrom}
-use Rattle.records.specs.LineTexts.{lengthOf}
+use Rattle.records.specs.LineLengths.{lengthOf}
 use Rattle.dictionary.specs.DictionaryWords as kinds
 
 -- ---- the lines
@@ -35,28 +34,12 @@ accepts state number total (line ∷ rest) =
     isTaken (step .fault)
     && (total + (lengthOf line + 1) ≤ᵇ 65536 && accepts (step .next) (number + 1) (total + (lengthOf line + 1)) rest)
 
--- ---- lines that are taken, whatever their lengths
-
--- every line is taken, and the text may end behind the last
-unfoldable pub takes : State → ℕ → List Line → Bool
-takes state number [] = isBetween behindTrailer behindMessage (state .stage)
-takes state number (line ∷ rest) = let step = stepOf state number line in isTaken (step .fault) && takes (step .next) (number + 1) rest
-
 -- ---- an index
 
 -- how many of so many records are of this kind
 unfoldable pub countOf : ℕ → ℕ → List ℕ → ℕ
 countOf kind zero words = 0
 countOf kind (suc count) words = if getD words 0 0 ≡ᵇ kind then suc (countOf kind count (drop 10 words)) else countOf kind count (drop 10 words)
-
-abbrev pub countOne : ℕ → ℕ → ℕ
-countOne found kind = if found ≡ᵇ kind then 1 else 0
-
--- so many records are definitions, components and messages
-pub record Counted (lines : ℕ) (words : List ℕ) (tags components messages : ℕ) : Type 0 where
-  pub of-tags : tags ≡ countOf kinds.definitions lines words
-  pub of-components : components ≡ countOf kinds.components lines words
-  pub of-messages : messages ≡ countOf kinds.messages lines words
 
 -- the record with this number is of this kind and has this name
 unfoldable pub standsAt : ℕ → ℕ → ℕ → List ℕ → Bool

@@ -17,8 +17,9 @@ use Rattle.line_forms.specs.declared.line.Line.the-variants.{Def, Value, BeginH
 use Rattle.texts.specs.declared.dictionary_order.State.{State}
 use Rattle.texts.specs.DictionaryOrder.{start, stepOf, behindTrailer, behindMessage}
 use Rattle.texts.specs.DictionaryOrderLaws.{step-depth}
-use Rattle.records.specs.Records.{lineFrom, isKnown, linesFrom, AreKnown}
-use Rattle.records.specs.LineTexts.{lengthOf, textLength}
+use Rattle.records.specs.Records.{lineFrom, linesFrom}
+use Rattle.records.specs.KnownLines.{isKnown, AreKnown}
+use Rattle.records.specs.LineLengths.{lengthOf, textLength}
 use Rattle.dictionary.specs.declared.line_order.Standing.{Standing}
 use Rattle.dictionary.specs.LineOrder.{stateOf, standingOf}
 use Rattle.dictionary.specs.LineOrderLaws.{state-again}
@@ -26,7 +27,8 @@ use Rattle.dictionary.specs.LineRuns.{PassedOver}
 use Rattle.dictionary.specs.LineRunsLaws.{countOf-step, countOf-behind}
 use Rattle.records.specs.LineLengthLaws.{lineFrom-few, textLength-after}
 use Rattle.dictionary.specs.DictionaryWords as kinds
-use Rattle.dictionary.specs.DictionaryCheck.{isTaken, accepts, takes, countOf, countOne, Counted, standsAt, standsEach, isIndex, tagsAt, componentsAt, messagesAt, sizeOf, isDictionary}
+use Rattle.dictionary.specs.DictionaryCheck.{isTaken, accepts, countOf, standsAt, standsEach, isIndex, tagsAt, componentsAt, messagesAt, sizeOf, isDictionary}
+use Rattle.dictionary.specs.LinesTaken.{takes, countOne, Counted}
 
 -- ---- linesFrom
 

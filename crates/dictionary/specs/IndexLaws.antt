@@ -57,10 +57,6 @@ pub once-same : (word : ℕ) → once word word ≡ 1
 unfolding once
 once-same word = rw (eq-eqb word word refl)
 
-once-few : (test : Bool) → cond {A = ℕ} test 1 0 ≤ 1
-once-few true = omega arith
-once-few false = omega arith
-
 distinct-by : (word other : ℕ) (rest : List ℕ) (same : Bool) → eqb other word ≡ same → howOften other rest ≡ 0 → howOften word rest ≤ 1 → once word other + howOften word rest ≤ 1
 unfolding once
 distinct-by word other rest true test none few = rw test (omega (arith, ap (λ (each : ℕ). howOften each rest) (eqb-true other word test)))

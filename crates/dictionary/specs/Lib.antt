@@ -2,6 +2,7 @@
 -- examples in the one with `Cases`.
 pub mod DictionaryWords
 pub mod DictionaryCheck
+pub mod LinesTaken
 pub mod LineOrder
 pub mod LineOrderLaws
 pub mod LineRuns
@@ -13,5 +14,8 @@ pub mod DefinitionsLaws
 pub mod IndexLaws
 pub mod PassAccepted
 pub mod AcceptedPass
+pub mod DefinedFields
+pub mod WordLinesLaws
+pub mod DefinedFieldsLaws
 pub mod DefinedTags
 pub mod DefinedTagsLaws

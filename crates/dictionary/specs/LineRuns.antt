@@ -15,8 +15,8 @@ use Rattle.ascii.specs.Notation.{_≡ᵇ_, if_then_else_}
 use Rattle.texts.specs.DictionaryOrder as order
 use Rattle.lines.specs.LineParts.{isVisible}
 use Rattle.records.specs.Records.{holdsPart, defFrom, valueFrom, fieldFrom, linesFrom}
-use Rattle.records.specs.LineTexts.{digitCount, lengthOf, textLength}
-use Rattle.dictionary.specs.DictionaryCheck.{takes, Counted}
+use Rattle.records.specs.LineLengths.{digitCount, lengthOf, textLength}
+use Rattle.dictionary.specs.LinesTaken.{takes, Counted}
 use Rattle.dictionary.specs.LineOrder.{stateOf}
 use Rattle.dictionary.specs.declared.line_order.Standing.{Standing}
 

@@ -18,14 +18,16 @@ use Rattle.line_forms.specs.declared.line.Line.the-variants.{Def, Value, Field,
 use Rattle.texts.specs.declared.dictionary_order.State.{State}
 use Rattle.texts.specs.DictionaryOrder as order
 use Rattle.texts.specs.DictionaryOrder.{taken, closedBlock, stepOf}
-use Rattle.records.specs.Records.{holdsPart, holdsValue, isUnused, pairAt, admittedFrom, defFrom, valueFrom, fieldFrom, outerFrom, bodyFrom, lineFrom, linesFrom}
+use Rattle.records.specs.Records.{holdsPart, holdsValue, isUnused, admittedFrom, defFrom, valueFrom, fieldFrom, outerFrom, bodyFrom, lineFrom, linesFrom}
+use Rattle.records.specs.WordPairs.{pairAt}
 use Rattle.records.specs.RecordsLaws.{or-least, or-none, isUnused-short}
 use Rattle.records.specs.WordTextLaws.{part-one, short-value}
-use Rattle.records.specs.LineTexts.{digitCount, typeLengths, lengthOf, textLength}
+use Rattle.records.specs.LineLengths.{digitCount, typeLengths, lengthOf, textLength}
 use Rattle.records.specs.NumeralLaws.{scaled, digits-from}
 use Rattle.records.specs.LineLengthLaws.{textLength-behind}
 use Rattle.dictionary.specs.DictionaryWords as kinds
-use Rattle.dictionary.specs.DictionaryCheck.{takes, countOf, countOne}
+use Rattle.dictionary.specs.DictionaryCheck.{countOf}
+use Rattle.dictionary.specs.LinesTaken.{takes, countOne}
 use Rattle.dictionary.specs.declared.line_order.Standing.{Standing}
 use Rattle.dictionary.specs.LineOrder.{stateOf}
 use Rattle.dictionary.specs.LineRuns.{HoldsShort, FewDigits, runLength, IsRun, isAmongDefinitions, PassedOver}

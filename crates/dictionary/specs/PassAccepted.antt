@@ -3,7 +3,6 @@
 -- short enough (`accepts-length`) and nothing in it defined again (`again-nowhere`). The converse is `AcceptedPass.antt`. Assumes nothing.
 --
 --   textsOf lines          the lines' texts, each with its line feed
---   linesIn pieces         the lines of a text that was cut at its line feeds
 --   AllHeld lines          a record can hold each of the lines
 --   keysOf lines           what the lines define, as the numbers that row 5 compares
 --   AcceptedWords words    some text is accepted, and the words begin with the arrangement of its lines
@@ -42,14 +41,15 @@ use Rattle.lines.specs.LineParts.{isVisible}
 use Rattle.line_forms.specs.LineForms.{lineOf}
 use Rattle.texts.specs.DictionaryOrder.{start, stepOf}
 use Rattle.texts.specs.DictionaryText.{counted, counts, definedBy, orderFrom, keyOf, isIn, onKey, againFrom, againOf, orderOf, dictionaryTextOf}
-use Rattle.records.specs.Records.{recordOf, lineFrom, lettersText, linesFrom}
-use Rattle.records.specs.RecordsLaws.{Held, HeldEnd, Words32, recordOf-lineFrom, lineFrom-held}
-use Rattle.records.specs.LineTexts.{numeral, typeText, valueText, flagText, appText, endText, textOf, lengthOf}
+use Rattle.records.specs.Records.{recordOf, lineFrom, lettersText, linesFrom, Words32}
+use Rattle.records.specs.RecordsLaws.{Held, HeldEnd, recordOf-lineFrom, lineFrom-held}
+use Rattle.records.specs.LineTexts.{numeral, typeText, valueText, flagText, appText, endText, textOf}
+use Rattle.records.specs.LineLengths.{lengthOf}
 use Rattle.records.specs.NumeralLaws.{every-append, every-weaker, isAbove, visible-above, above-above, positionOf-behind, numeral-above}
 use Rattle.records.specs.TypeTextLaws.{typeText-above}
 use Rattle.records.specs.WordTextLaws.{lettersText-above, valueText-visible}
 use Rattle.records.specs.LineTextsLaws.{lineOf-textOf, textOf-length}
-use Rattle.dictionary.specs.DictionaryWords.{isOf, nameOf, namesOf, recordsOf, indexOf, dictionaryWords}
+use Rattle.dictionary.specs.DictionaryWords.{linesIn, isOf, nameOf, namesOf, recordsOf, indexOf, dictionaryWords}
 use Rattle.dictionary.specs.IndexLaws.{once-same, index-count, index-once, index-words}
 use Rattle.dictionary.specs.DefinitionsLaws.{Dictionary, isDictionary-parts}
 use Rattle.dictionary.specs.DictionaryCheck.{isTaken, accepts, tagsAt, componentsAt, messagesAt, sizeOf, isDictionary}
@@ -57,10 +57,6 @@ use Rattle.dictionary.specs.DictionaryCheck.{isTaken, accepts, tagsAt, c
 unfoldable pub textsOf : List Line → List ℕ
 textsOf [] = []
 textsOf (line ∷ rest) = textOf line ++ (lineFeed ∷ textsOf rest)
-
-unfoldable pub linesIn : Pieces → List Line
-linesIn (last bytes) = []
-linesIn (piece bytes others) = lineOf bytes ∷ linesIn others
 
 -- every line of the list is one that a record can hold
 abbrev pub AllHeld : List Line → Type 0

@@ -3,6 +3,7 @@ ghost use mathlib.Core.Path.{_≡_};
 ghost use mathlib.Core.Bool.{true};
 ghost use Prim.Native.Nat.{_≤_};
 ghost use lib.ListN.{length};
+ghost use Rattle.sorting.specs.Search.{StrictlyAscending};
 ghost use Rattle.dictionary.specs.DictionaryCheck.{isDictionary};
 ghost use Rattle.dictionary.specs.DefinedTags.{definedTags};
 
@@ -10,6 +11,7 @@ ghost use Rattle.dictionary.specs.DefinedTags.{definedTags};
 pub fn defined_tags(words: &[u32]) -> &[u32]
     requires { ⌜ isDictionary (now words) ≡ true ⌝ }
     ensures tags { λ tags. ⌜ now tags ≡ definedTags (now (words .entry)) ⌝ }
+    ensures ascending { λ tags. ⌜ StrictlyAscending (now tags) ⌝ }
     ensures few { λ tags. ⌜ length (now tags) ≤ 10922 ⌝ }
 {
     let lines = words[0] as usize;

@@ -16,9 +16,10 @@ ghost use lib.ListN.{length, getD, take, drop};
 ghost use Rattle.ascii.specs.Notation.{isBetween};
 ghost use Rattle.sorting.specs.Search.{isStrictlyAscending};
 ghost use Rattle.texts.specs.DictionaryOrder.{start, behindTrailer, behindMessage};
-ghost use Rattle.dictionary.specs.DictionaryCheck.{takes, accepts, countOf, Counted, standsAt, standsEach, isIndex, isDictionary};
+ghost use Rattle.dictionary.specs.DictionaryCheck.{accepts, countOf, standsAt, standsEach, isIndex, isDictionary};
+ghost use Rattle.dictionary.specs.LinesTaken.{takes, Counted};
 ghost use Rattle.records.specs.Records.{linesFrom};
-ghost use Rattle.records.specs.LineTexts.{textLength};
+ghost use Rattle.records.specs.LineLengths.{textLength};
 
 // How many bytes a line has at most, with its line feed: a value of 32 bytes has the longest.
 const LONGEST_LINE: usize = 39;

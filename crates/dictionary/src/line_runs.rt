@@ -14,7 +14,7 @@ ghost use mathlib.Core.Path.{_≡_};
 ghost use mathlib.Core.Bool.{true, false};
 ghost use Prim.Native.Nat.{_+_, _*_, _/_, _%_, _≤_};
 ghost use lib.ListN.{length, drop};
-ghost use Rattle.dictionary.specs.DictionaryCheck.{countOne};
+ghost use Rattle.dictionary.specs.LinesTaken.{countOne};
 ghost use Rattle.dictionary.specs.LineRuns.{HoldsShort, FewDigits, IsRun, isAmongDefinitions, PassedOver};
 
 // How many lines stand in the run, how many bytes they have with their line feeds at most, and how many of them define a tag.

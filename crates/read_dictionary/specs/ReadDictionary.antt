@@ -19,8 +19,7 @@ use Rattle.lines.specs.Lines.{linesOf}
 use Rattle.texts.specs.DictionaryText.{dictionaryTextOf}
 use Rattle.read_dictionary.specs.declared.read_dictionary.Read.{Read}
 use Rattle.read_dictionary.specs.declared.read_dictionary.Read.the-variants.{Written, Refused}
-use Rattle.dictionary.specs.DictionaryWords.{dictionaryWords}
-use Rattle.dictionary.specs.PassAccepted.{linesIn}
+use Rattle.dictionary.specs.DictionaryWords.{dictionaryWords, linesIn}
 
 abbrev pub textLines : List ℕ → List Line
 textLines text = linesIn (linesOf text)

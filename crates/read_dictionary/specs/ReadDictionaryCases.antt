@@ -15,9 +15,8 @@ use Rattle.texts.specs.DictionaryOrder.{stepOf}
 use Rattle.texts.specs.DictionaryText.{orderFrom, orderOf, isIn, againFrom, againOf, dictionaryTextOf}
 use Rattle.read_dictionary.specs.declared.read_dictionary.Read.the-variants.{Written, Refused}
 use Rattle.records.specs.Records.{recordOf}
-use Rattle.dictionary.specs.DictionaryWords.{isOf, nameOf, namesOf, placeOf, recordsOf, indexOf, dictionaryWords}
+use Rattle.dictionary.specs.DictionaryWords.{isOf, nameOf, namesOf, placeOf, recordsOf, indexOf, dictionaryWords, linesIn}
 use Rattle.dictionary.specs.DictionaryCases.{four, smallWords}
-use Rattle.dictionary.specs.PassAccepted.{linesIn}
 use Rattle.read_dictionary.specs.ReadDictionary.{readOf, readIn}
 
 abbrev smallText : List ℕ

@@ -31,9 +31,9 @@ use Rattle.read_dictionary.specs.declared.read_dictionary.Read.{Read}
 use Rattle.read_dictionary.specs.declared.read_dictionary.Read.the-variants.{Written, Refused}
 use Rattle.records.specs.Records.{recordOf}
 use Rattle.records.specs.RecordsLaws.{recordOf-length}
-use Rattle.dictionary.specs.DictionaryWords.{namesOf, recordsOf, indexOf, dictionaryWords}
+use Rattle.dictionary.specs.DictionaryWords.{namesOf, recordsOf, indexOf, dictionaryWords, linesIn}
 use Rattle.dictionary.specs.DictionaryCheck.{isDictionary}
-use Rattle.dictionary.specs.PassAccepted.{linesIn, tagIn, componentIn, messageIn, tags-step, components-step, messages-step}
+use Rattle.dictionary.specs.PassAccepted.{tagIn, componentIn, messageIn, tags-step, components-step, messages-step}
 use Rattle.dictionary.specs.AcceptedPass.{fault-by, accepted-parts, accepted-pass, accepted-size, dictionaryWords-length, recordsOf-length, indexOf-length, linesFrom-records, text-lines, text-keys, tags-once, components-once, messages-once}
 use Rattle.read_dictionary.specs.IndexWords.{linesHeld, IndexSpace}
 use Rattle.read_dictionary.specs.IndexWordsLaws.{sets-append, space-kept, lines-kept}

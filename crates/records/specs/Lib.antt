@@ -4,7 +4,10 @@ pub mod Records
 pub mod RecordsLaws
 pub mod LettersLaws
 pub mod RecordsCases
+pub mod KnownLines
+pub mod WordPairs
 pub mod LineTexts
+pub mod LineLengths
 pub mod NumeralLaws
 pub mod TypeTextLaws
 pub mod TypeSpellings

@@ -13,10 +13,11 @@ use Rattle.line_forms.specs.declared.line.Line.the-variants.{Def, Value, BeginH
 use Rattle.lines.specs.declared.line_parts.Number32.the-variants.{Number}
 use Rattle.lines.specs.declared.line_parts.MessageType.the-variants.{Letters, NoLetters}
 use Rattle.lines.specs.LineParts.{numberOf}
-use Rattle.records.specs.Records.{lettersText, holdsLetters, holdsValue, isUnused, admittedFrom, defFrom, valueFrom, messageFrom, fieldFrom, groupFrom, useFrom, endOfLetters, endOfNumber, outerFrom, bodyFrom, lineFrom, isKnown, linesFrom, AreKnown}
+use Rattle.records.specs.Records.{lettersText, holdsLetters, holdsValue, isUnused, admittedFrom, defFrom, valueFrom, messageFrom, fieldFrom, groupFrom, useFrom, endOfLetters, endOfNumber, outerFrom, bodyFrom, lineFrom, linesFrom}
+use Rattle.records.specs.KnownLines.{isKnown, AreKnown}
 use Rattle.records.specs.RecordsLaws.{lineFrom-kind, lineFrom-part}
 use Rattle.records.specs.WordTextLaws.{lettersLength-range, holdsValue-length}
-use Rattle.records.specs.LineTexts.{appLength, lengthOf, textLength}
+use Rattle.records.specs.LineLengths.{appLength, lengthOf, textLength}
 use Rattle.records.specs.TypeTextLaws.{typeLengths-few}
 use Rattle.records.specs.NumeralLaws.{digitCount-few}
 

@@ -3,10 +3,10 @@
 use mathlib.Core.Path.{_≡_, refl, sym, ap, _∙_}
 use Prim.Native.Nat.{ℕ, zero, suc, _+_, _*_, _-_, _^_, _≤_, _<_}
 use mathlib.Core.Bool.{Bool, true, false, _&&_, not, cond, false≢true}
-use mathlib.Core.List.{List, [], _∷_}
+use mathlib.Core.List.{List, [], _∷_, _++_}
 use native.Mathlib.Omega.{arith}
 use lib.Dec.{ltb, eqb}
-use lib.ListN.{length, getD, drop, length-drop}
+use lib.ListN.{length, getD, take, drop, length-drop, take-append-drop}
 use lib.Seq.{length-take-le, drop-drop, getD-drop}
 use borrow.Author.Tests.{lt-ltb, ltb-true, ltb-false, eq-eqb, ne-eqb, eqb-true, eqb-false}
 use Rattle.ascii.specs.Notation.{isBetween}
@@ -22,13 +22,15 @@ use Rattle.lines.specs.declared.line_parts.TypeName.{TypeName}
 use Rattle.lines.specs.declared.line_parts.TypeName.the-variants.{TypeAt, NoType}
 use Rattle.lines.specs.declared.line_parts.MessageType.{MessageType}
 use Rattle.lines.specs.declared.line_parts.MessageType.the-variants.{Letters, NoLetters}
+use Rattle.lines.specs.declared.line_parts.Admitted.{Admitted}
 use Rattle.lines.specs.declared.line_parts.ValueText.{ValueText}
 use Rattle.lines.specs.declared.line_parts.ValueText.the-variants.{Bytes, NoBytes}
 use Rattle.lines.specs.Lines.{positionOf, before, behind, isSame, Pieces, last, piece, longer, cut, comma}
 use Rattle.lines.specs.LinesLaws.{positionOf-within}
 use Rattle.lines.specs.LineParts.{noLeadingZero, numberOf, flagOf, typeNames, typeIn, typeOf, wordAt, isAlphanumeric, messageTypeOf, isVisible, admittedBytes, valueOf}
-use Rattle.records.specs.Records.{byte0, byte1, byte2, byte3, holdsByte, holdsPart, lettersLength, lettersText, holdsLetters, holdsValue, valueWords}
-use Rattle.records.specs.LineTexts.{nameAt, typeText, digitCountFrom, digitCount, typeLengths}
+use Rattle.records.specs.Records.{byte0, byte1, byte2, byte3, bytesOf, holdsByte, holdsPart, lettersLength, lettersText, holdsLetters, holdsValue, valueWords}
+use Rattle.records.specs.LineTexts.{nameAt, typeText, bytesFrom, valueText}
+use Rattle.records.specs.LineLengths.{digitCountFrom, digitCount, typeLengths}
 use Rattle.records.specs.NumeralLaws.{alphanumeric-range}
 use Rattle.records.specs.TypeTextLaws.{typeText-length}
 
@@ -428,3 +430,71 @@ value-by bytes false visible′ range visible = tt
 pub valueOf-fits : (bytes : List ℕ) → ValueFits (length bytes) (valueOf bytes)
 unfolding valueOf
 valueOf-fits bytes = value-by bytes (isBetween 1 32 (length bytes)) (every isVisible bytes) refl refl
+
+-- ---- a value is the text of what it is held as
+
+take-none : (count : ℕ) → take {A = ℕ} count [] ≡ []
+take-none zero = refl
+take-none (suc count) = refl
+
+first-four : (bytes : List ℕ) → every isVisible bytes ≡ true → take (length bytes) (bytesOf (wordAt 0 bytes)) ≡ take 4 bytes
+unfolding every wordAt
+first-four [] visible = refl
+first-four (a ∷ []) visible =
+    let small-a = visible-small a (and-left (isVisible a) _ visible) in
+    rw (word-byte0 a 0 0 0 small-a (omega arith) (omega arith) (omega arith))
+first-four (a ∷ b ∷ []) visible =
+    let small-a = visible-small a (and-left (isVisible a) _ visible) in
+    let small-b = visible-small b (and-left (isVisible b) _ (and-right (isVisible a) _ visible)) in
+    rw (word-byte0 a b 0 0 small-a small-b (omega arith) (omega arith), word-byte1 a b 0 0 small-a small-b (omega arith) (omega arith))
+first-four (a ∷ b ∷ c ∷ []) visible =
+    let small-a = visible-small a (and-left (isVisible a) _ visible) in
+    let rest = and-right (isVisible a) _ visible in
+    let small-b = visible-small b (and-left (isVisible b) _ rest) in
+    let small-c = visible-small c (and-left (isVisible c) _ (and-right (isVisible b) _ rest)) in
+    rw (
+      word-byte0 a b c 0 small-a small-b small-c (omega arith),
+      word-byte1 a b c 0 small-a small-b small-c (omega arith),
+      word-byte2 a b c 0 small-a small-b small-c (omega arith),
+    )
+first-four (a ∷ b ∷ c ∷ d ∷ more) visible =
+    let small-a = visible-small a (and-left (isVisible a) _ visible) in
+    let rest = and-right (isVisible a) _ visible in
+    let small-b = visible-small b (and-left (isVisible b) _ rest) in
+    let others = and-right (isVisible b) _ rest in
+    let small-c = visible-small c (and-left (isVisible c) _ others) in
+    let small-d = visible-small d (and-left (isVisible d) _ (and-right (isVisible c) _ others)) in
+    rw (
+      word-byte0 a b c d small-a small-b small-c small-d,
+      word-byte1 a b c d small-a small-b small-c small-d,
+      word-byte2 a b c d small-a small-b small-c small-d,
+      word-byte3 a b c d small-a small-b small-c small-d,
+      take-none (length more),
+    )
+
+-- the words of visible bytes have these bytes
+bytes-back : (count : ℕ) (bytes : List ℕ) → every isVisible bytes ≡ true → length bytes ≤ 4 * count → bytesFrom (length bytes) (wordsFrom count bytes) ≡ bytes
+unfolding bytesFrom
+bytes-back zero [] visible few = refl
+bytes-back zero (byte ∷ rest) visible few = absurd (omega arith)
+bytes-back (suc count) bytes visible few =
+    let left = length-drop 4 bytes in
+    rw (first-four bytes visible, ← left)
+    (ap (λ (rest : List ℕ). take 4 bytes ++ rest) (bytes-back count (drop 4 bytes) (every-drop isVisible 4 bytes visible) (omega arith)) ∙ take-append-drop 4 bytes)
+
+back-by : (bytes : List ℕ) (value : Admitted) (range visible : Bool)
+    → isBetween 1 32 (length bytes) ≡ range
+    → every isVisible bytes ≡ visible
+    → cond (range && visible) (Bytes (admittedBytes bytes)) NoBytes ≡ Bytes value
+    → valueText value ≡ bytes
+unfolding valueText
+back-by bytes value true true range visible there =
+    let between = isBetween-range 1 32 (length bytes) range in
+    let same : admittedBytes bytes ≡ value = cc in
+    rw (← same, eight-words bytes) (bytes-back 8 bytes visible (omega arith))
+back-by bytes value true false range visible there = let never : _≡_ {A = ℕ} 0 1 = cc in absurd (omega arith)
+back-by bytes value false other range visible there = let never : _≡_ {A = ℕ} 0 1 = cc in absurd (omega arith)
+
+pub valueText-valueOf : (bytes : List ℕ) (value : Admitted) → valueOf bytes ≡ Bytes value → valueText value ≡ bytes
+unfolding valueOf
+valueText-valueOf bytes value there = back-by bytes value (isBetween 1 32 (length bytes)) (every isVisible bytes) refl refl there

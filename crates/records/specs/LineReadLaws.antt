@@ -32,7 +32,7 @@ use Rattle.lines.specs.LineParts.{noLeadingZero, numberOf, flagOf, typeOf, isAl
 use Rattle.lines.specs.LinePartsLaws.{isAlphanumeric-digit, messageTypeOf-letters}
 use Rattle.line_forms.specs.LineForms.{defWith, defOf, valueWith, beginOf, componentWith, messageWith, messageOf, fieldWith, fieldOf, groupWith, groupRest, groupOf, useWith, useOf, endWith, endOf, memberWith, requiredWith, blockLineOf, definitionLineOf, lineOf}
 use Rattle.records.specs.RecordsLaws.{Held}
-use Rattle.records.specs.LineTexts.{typeLengths, lengthOf}
+use Rattle.records.specs.LineLengths.{typeLengths, lengthOf}
 use Rattle.records.specs.NumeralLaws.{every-weaker}
 use Rattle.records.specs.WordTextLaws.{lettersText-length}
 use Rattle.records.specs.LinePartReadLaws.{NumberFits, numberOf-fits, numberOf-large, FlagFits, flagOf-fits, parts-length, same-length, TypeFits, typeOf-fits, LettersFit, messageTypeOf-fits, ValueFits, valueOf-fits}

@@ -1,4 +1,4 @@
--- The text of a line, as document 01 writes it ('The layout of a message type'), without its line feed, and its length. A line is read from one text only,
+-- The text of a line, as document 01 writes it ('The layout of a message type'), without its line feed. A line is read from one text only,
 -- since numbers have no leading zeros and names are spelled in one way; so the words of a dictionary stand for the text they were read from.
 -- Assumes nothing.
 --
@@ -6,14 +6,11 @@
 --   typeText place      the name of `FieldType` at this place
 --   bytesFrom left words   the first `left` bytes of the words
 --   textOf line         the bytes of the line, without its line feed
---   digitCount n        how many digits a number of 32 bits has
---   lengthOf line       how many bytes the line has, without its line feed
---   textLength lines    how many bytes the text of these lines has
 use Prim.Native.Nat.{ℕ, zero, suc, _+_, _*_, _-_, _/_, _%_}
 use Prim.Native.Char.{code}
 use mathlib.Core.Bool.{Bool, true, false}
 use mathlib.Core.List.{List, [], _∷_, _++_}
-use lib.ListN.{getD, take}
+use lib.ListN.{take}
 use Rattle.ascii.specs.Notation.{_<ᵇ_, if_then_else_}
 use Rattle.ascii.specs.Bytes.{ascii}
 use Rattle.line_forms.specs.declared.line.Line.{Line}
@@ -25,7 +22,7 @@ use Rattle.lines.specs.declared.line_parts.MessageType.the-variants.{Letters, N
 use Rattle.lines.specs.declared.line_parts.Admitted.{Admitted}
 use Rattle.lines.specs.Lines.{Pieces, last, piece, cut, comma}
 use Rattle.lines.specs.LineParts.{typeNames}
-use Rattle.records.specs.Records.{bytesOf, lettersLength, lettersText, valueWords}
+use Rattle.records.specs.Records.{bytesOf, lettersText, valueWords}
 
 -- ---- TAG, COUNT, DELIMITER, N
 
@@ -94,55 +91,3 @@ textOf (End number letters) = endText number letters
 textOf (Member tag) = []
 textOf (RequiredTag tag) = []
 textOf Unknown = []
-
--- ---- how long it is
-
--- where numbers below `bound` have one digit, those below 10 * bound two, and so on up to `digits`
-abbrev pub digitCountFrom : ℕ → ℕ → ℕ → ℕ
-digitCountFrom zero bound n = 0
-digitCountFrom (suc digits) bound n = if n <ᵇ bound then 1 else suc (digitCountFrom digits (10 * bound) n)
-
-unfoldable pub digitCount : ℕ → ℕ
-digitCount n = digitCountFrom 10 10 n
-
--- 1 where the number is at least the bound
-abbrev pub reaches : ℕ → ℕ → ℕ
-reaches bound n = if n <ᵇ bound then 0 else 1
-
--- the lengths of the names of `FieldType`, Int to Reserved
-abbrev pub typeLengths : List ℕ
-typeLengths =
-    3 ∷ 6 ∷ 6 ∷ 10 ∷ 6 ∷ 10 ∷ 5 ∷ 3 ∷ 5 ∷ 11 ∷ 3 ∷ 10 ∷ 4 ∷ 7 ∷ 6 ∷ 17 ∷ 19 ∷ 7 ∷ 8 ∷ 8 ∷ 9 ∷ 12 ∷ 11 ∷ 11 ∷ 12 ∷ 12 ∷ 10 ∷ 11 ∷ 4 ∷ 7 ∷ 8 ∷ 7 ∷ 5 ∷ 8 ∷ []
-
-abbrev pub appLength : Bool → ℕ
-appLength true = 3
-appLength false = 5
-
-abbrev pub endLength : Number32 → MessageType → ℕ
-endLength number (Letters letters) = 4 + lettersLength letters
-endLength (Number number) NoLetters = 4 + digitCount number
-endLength NoNumber NoLetters = 0
-
-unfoldable pub lengthOf : Line → ℕ
-lengthOf (Def tag place) = 5 + digitCount tag + getD typeLengths place 0
-lengthOf (Value value) = 6 + value .len
-lengthOf BeginHeader = 12
-lengthOf BeginTrailer = 13
-lengthOf EndHeader = 10
-lengthOf EndTrailer = 11
-lengthOf (Component name) = 10 + digitCount name
-lengthOf (Message letters app) = 9 + lettersLength letters + appLength app
-lengthOf (Field tag required) = 8 + digitCount tag
-lengthOf (Group count delimiter required) = 9 + digitCount count + digitCount delimiter
-lengthOf (Use name required) = 6 + digitCount name
-lengthOf (End number letters) = endLength number letters
-lengthOf (Member tag) = 0
-lengthOf (RequiredTag tag) = 0
-lengthOf Unknown = 0
-
--- ---- the text of lines
-
--- each line ends with a line feed
-unfoldable pub textLength : List Line → ℕ
-textLength [] = 0
-textLength (line ∷ rest) = lengthOf line + 1 + textLength rest

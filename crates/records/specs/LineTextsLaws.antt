@@ -26,7 +26,8 @@ use Rattle.lines.specs.LinesLaws.{isSame-other-length}
 use Rattle.line_forms.specs.LineForms.{endWith, defOf, beginOf, messageOf, fieldOf, groupRest, groupOf, useOf, endOf, blockLineOf, definitionLineOf, lineOf}
 use Rattle.records.specs.Records.{lettersText, holdsLetters, holdsValue, valueWords}
 use Rattle.records.specs.RecordsLaws.{HeldEnd, Held}
-use Rattle.records.specs.LineTexts.{numeral, flagText, typeText, appText, endText, textOf, digitCountFrom, digitCount, appLength, endLength, lengthOf}
+use Rattle.records.specs.LineTexts.{numeral, flagText, typeText, appText, endText, textOf}
+use Rattle.records.specs.LineLengths.{digitCountFrom, digitCount, appLength, endLength, lengthOf}
 use Rattle.records.specs.NumeralLaws.{digitsOf-digits, before-behind, behind-behind, numberOf-numeral, numeral-above, numeral-length}
 use Rattle.records.specs.TypeTextLaws.{typeOf-typeText, typeText-length}
 use Rattle.records.specs.WordTextLaws.{lettersLength-range, flagOf-flagText, lettersText-length, lettersText-above, messageTypeOf-lettersText, valueText-length, valueOf-valueText}

@@ -18,7 +18,8 @@ use Rattle.lines.specs.declared.line_parts.Number32.the-variants.{Number}
 use Rattle.lines.specs.Lines.{positionOf, before, behind}
 use Rattle.lines.specs.LineParts.{noLeadingZero, numberOf, isAlphanumeric, isVisible}
 use Rattle.lines.specs.LinePartsLaws.{isBetween-inside}
-use Rattle.records.specs.LineTexts.{digitsOf, numeral, digitCountFrom, digitCount, reaches}
+use Rattle.records.specs.LineTexts.{digitsOf, numeral}
+use Rattle.records.specs.LineLengths.{digitCountFrom, digitCount, reaches}
 
 -- ---- every
 

@@ -25,11 +25,10 @@
 --   holdsValue left words        the words hold `left` bytes 21 to 7E, then 0
 --   recordOf line                the ten words of a line
 --   lineFrom record              the line of ten words
---   isKnown line                 the line is of a known form
 --   linesFrom count words        the lines of so many records
---   AreKnown lines words         so many records are of known forms
+--   Words32 words                every word has 32 bits, as the words that are lent have
 use mathlib.Core.Path.{_≡_}
-use Prim.Native.Nat.{ℕ, zero, suc, _+_, _-_, _*_, _/_, _%_, _<_}
+use Prim.Native.Nat.{ℕ, zero, suc, _-_, _/_, _%_, _^_, _<_}
 use mathlib.Core.Bool.{Bool, true, false, _&&_}
 use mathlib.Core.List.{List, [], _∷_}
 use lib.ListN.{getD, take, drop, replicate}
@@ -135,13 +134,6 @@ recordOf Unknown = record4 0 0 0 0
 
 -- ---- the line of a record
 
--- two words as one number
-abbrev pub pairOf : ℕ → ℕ → ℕ
-pairOf low high = low + 4294967296 * high
-
-abbrev pub pairAt : List ℕ → ℕ → ℕ
-pairAt words at = pairOf (getD words at 0) (getD words (at + 1) 0)
-
 -- the words of the record behind the first `used` are 0
 unfoldable pub isUnused : ℕ → List ℕ → Bool
 isUnused used words = every isZero (drop used words)
@@ -236,30 +228,11 @@ bodyFrom words =
 unfoldable pub lineFrom : List ℕ → Line
 lineFrom words = if getD words 0 0 ≤ᵇ 6 then outerFrom words else bodyFrom words
 
--- the line is of a known form
-unfoldable pub isKnown : Line → Bool
-isKnown (Def tag place) = true
-isKnown (Value value) = true
-isKnown BeginHeader = true
-isKnown BeginTrailer = true
-isKnown EndHeader = true
-isKnown EndTrailer = true
-isKnown (Component name) = true
-isKnown (Message letters app) = true
-isKnown (Field tag required) = true
-isKnown (Group count delimiter required) = true
-isKnown (Use name required) = true
-isKnown (End number letters) = true
-isKnown (Member tag) = true
-isKnown (RequiredTag tag) = true
-isKnown Unknown = false
-
 -- ---- the lines of records
 
 unfoldable pub linesFrom : ℕ → List ℕ → List Line
 linesFrom zero words = []
 linesFrom (suc count) words = lineFrom (take 10 words) ∷ linesFrom count (drop 10 words)
 
--- so many records are of known forms
-abbrev pub AreKnown : ℕ → List ℕ → Type 0
-AreKnown lines words = (index : ℕ) → index < lines → isKnown (lineFrom (take 10 (drop (10 * index) words))) ≡ true
+abbrev pub Words32 : List ℕ → Type 0
+Words32 words = (place : ℕ) → getD words place 0 < 2 ^ 32

@@ -2,7 +2,6 @@
 -- read as a line are its record (`recordOf-lineFrom`), so that a line has one record and every word of it counts. Assumes nothing.
 --
 --   Held line         a record can hold the line: its numbers have 32 bits, its parts are what document 01 admits
---   Words32 words     every word has 32 bits
 use mathlib.Core.Path.{_≡_, refl, sym, ap, _∙_}
 use Prim.Native.Nat.{ℕ, zero, suc, _+_, _-_, _^_, _≤_, _<_}
 use mathlib.Core.Bool.{Bool, true, false, _&&_, cond}
@@ -23,7 +22,8 @@ use Rattle.lines.specs.declared.line_parts.Number32.the-variants.{Number, NoNum
 use Rattle.lines.specs.declared.line_parts.MessageType.{MessageType}
 use Rattle.lines.specs.declared.line_parts.MessageType.the-variants.{Letters, NoLetters}
 use Rattle.lines.specs.LineParts.{numberOf, isVisible}
-use Rattle.records.specs.Records.{holdsByte, holdsPart, lettersText, holdsLetters, holdsValue, isZero, valueWords, pairOf, pairAt, isUnused, flagWord, record4, recordOf, if-unused, defFrom, valueFrom, messageFrom, fieldFrom, groupFrom, useFrom, endOfLetters, endOfNumber, outerFrom, bodyFrom, lineFrom}
+use Rattle.records.specs.Records.{Words32, holdsByte, holdsPart, lettersText, holdsLetters, holdsValue, isZero, valueWords, isUnused, flagWord, record4, recordOf, if-unused, defFrom, valueFrom, messageFrom, fieldFrom, groupFrom, useFrom, endOfLetters, endOfNumber, outerFrom, bodyFrom, lineFrom}
+use Rattle.records.specs.WordPairs.{pairOf, pairAt}
 
 -- ---- holdsByte
 
@@ -223,9 +223,6 @@ recordOf-length (RequiredTag tag) = refl
 recordOf-length Unknown = refl
 
 -- ---- words that are read as a line are its record
-
-abbrev pub Words32 : List ℕ → Type 0
-Words32 words = (place : ℕ) → getD words place 0 < 2 ^ 32
 
 -- what these words are read as, if it is a line, is held by just these words
 abbrev pub Read : List ℕ → Line → Type 0

@@ -13,7 +13,8 @@ use Rattle.lines.specs.declared.line_parts.TypeName.{TypeName}
 use Rattle.lines.specs.declared.line_parts.TypeName.the-variants.{TypeAt, NoType}
 use Rattle.lines.specs.Lines.{startsWith, isSame, longer, cut}
 use Rattle.lines.specs.LineParts.{typeIn, typeOf}
-use Rattle.records.specs.LineTexts.{nameAt, typeText, typeLengths}
+use Rattle.records.specs.LineTexts.{nameAt, typeText}
+use Rattle.records.specs.LineLengths.{typeLengths}
 use Rattle.records.specs.NumeralLaws.{isAbove}
 
 -- ---- typeText: what holds of each of the 34 names, by computation

@@ -167,9 +167,6 @@ module _ (words : List ℕ) (ten : length words ≡ 10) (len : ℕ) (few : len �
   pub short-value : isUnused 3 words ≡ true → holdsValue len (drop 2 words) ≡ holdsPart isVisible len (getD words 2 0)
   short-value unused = value-in-one ∙ rw unused (and-true (holdsPart isVisible len (getD words 2 0)))
 
-  pub short-value-more : isUnused 3 words ≡ false → holdsValue len (drop 2 words) ≡ false
-  short-value-more used = value-in-one ∙ rw used (and-false (holdsPart isVisible len (getD words 2 0)))
-
 -- a part of one byte
 
 module _ (word : ℕ) where

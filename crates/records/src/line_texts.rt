@@ -5,8 +5,9 @@ ghost use mathlib.Core.Bool.{true};
 ghost use Prim.Native.Nat.{_+_, _*_, _≤_};
 ghost use lib.ListN.{length, getD, drop};
 ghost use Rattle.ascii.specs.Notation.{_≡ᵇ_};
-ghost use Rattle.records.specs.Records.{lineFrom, isKnown, linesFrom, AreKnown};
-ghost use Rattle.records.specs.LineTexts.{reaches, digitCount, typeLengths, appLength, lengthOf, textLength};
+ghost use Rattle.records.specs.Records.{lineFrom, linesFrom};
+ghost use Rattle.records.specs.KnownLines.{isKnown, AreKnown};
+ghost use Rattle.records.specs.LineLengths.{reaches, digitCount, typeLengths, appLength, lengthOf, textLength};
 
 // 1 where the number is at least the bound.
 fn reaches(bound: u32, n: u32) -> usize

@@ -10,7 +10,8 @@ ghost use lib.ListN.{length, getD, take, drop};
 ghost use Rattle.ascii.specs.Notation.{isBetween};
 ghost use Rattle.ascii.specs.Digits.{isDigit};
 ghost use Rattle.lines.specs.LineParts.{numberOf, isAlphanumeric, isVisible};
-ghost use Rattle.records.specs.Records.{holdsPart, lettersLength, lettersText, holdsLetters, holdsValue, isZero, pairOf, pairAt, isUnused, if-unused, defFrom, admittedFrom, valueFrom, messageFrom, fieldFrom, groupFrom, useFrom, endOfLetters, endOfNumber, lineFrom};
+ghost use Rattle.records.specs.Records.{holdsPart, lettersLength, lettersText, holdsLetters, holdsValue, isZero, isUnused, if-unused, defFrom, admittedFrom, valueFrom, messageFrom, fieldFrom, groupFrom, useFrom, endOfLetters, endOfNumber, lineFrom};
+ghost use Rattle.records.specs.WordPairs.{pairOf, pairAt};
 
 // How many words a record has.
 pub const RECORD: usize = 10;
@@ -185,28 +186,6 @@ fn is_unused(used: usize, words: &[u32]) -> bool
     ensures { λ answer. ⌜ answer ≡ isUnused used (now (words .entry)) ⌝ }
 {
     joined_behind(used, words) == 0
-}
-
-// The last seven words of a record are 0, as in that of every line but a group's and a value's of more than four bytes.
-pub fn is_short(words: &[u32]) -> bool
-    requires { ⌜ length (now words) ≡ 10 ⌝ }
-    ensures { λ answer. ⌜ answer ≡ isUnused 3 (now (words .entry)) ⌝ }
-{
-    is_unused(3, words)
-}
-
-// The record holds as many bytes 21 to 7E as it says, and 0 behind them.
-pub fn holds_value_in(words: &[u32]) -> bool
-    requires { ⌜ length (now words) ≡ 10 ⌝ }
-    ensures { λ answer. ⌜ answer ≡ holdsValue (getD (now (words .entry)) 1 0) (drop 2 (now (words .entry))) ⌝ }
-{
-    if words[1] <= 4 {
-        if !is_short(words) {
-            return false;
-        }
-        return holds_visible_part(words[1], words[2]);
-    }
-    holds_value(words[1], &words[2..])
 }
 
 fn line_if_unused(used: usize, words: &[u32], line: Line) -> Line

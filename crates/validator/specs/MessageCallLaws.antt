@@ -8,8 +8,8 @@ use lib.ListN.{length, drop, length-append}
 use borrow.Author.Tests.{le-leb, lt-leb}
 use Rattle.refusals.specs.declared.refusal.Refusal.the-variants.{UnknownForm, RuleBroken, BadField, SpaceShort}
 use Rattle.dictionary.specs.DictionaryCheck.{isDictionary}
+use Rattle.sorting.specs.Search.{StrictlyAscending}
 use Rattle.dictionary.specs.DefinedTags.{definedTags}
-use Rattle.dictionary.specs.DefinedTagsLaws.{definedTags-ascend}
 use Rattle.layouts.specs.Limits.{gateLimits}
 use Rattle.layouts.specs.LayoutWords.{levelRequired, levelCountTags}
 use Rattle.layouts.specs.LayoutCheck.{isLayout}
@@ -61,9 +61,9 @@ module _ (dictionary words fields message space : List ℕ) where
 -- ---- the whole walk
 
 module _ (dictionary words fields message : List ℕ) (accepted : Accepted dictionary words fields message) where
-  pub lent-with : (defined : List ℕ) → defined ≡ definedTags dictionary → length defined ≤ 10922 → Lent defined words fields message
-  lent-with defined are-defined few = record {
-    ascends = rw are-defined (definedTags-ascend dictionary (accepted .defines));
+  pub lent-with : (defined : List ℕ) → StrictlyAscending defined → length defined ≤ 10922 → Lent defined words fields message
+  lent-with defined ascends few = record {
+    ascends = ascends;
     few-tags = few;
     passed = accepted .passed;
     few-groups = accepted .few-groups;

@@ -23,7 +23,7 @@ use Rattle.lines.specs.declared.line_parts.MessageType.the-variants.{Letters}
 use Rattle.lines.specs.LineParts.{noLeadingZero, numberOf, isAlphanumeric}
 use Rattle.texts.specs.DictionaryOrder.{stepOf}
 use Rattle.records.specs.Records.{holdsByte, holdsPart, lettersLength, lettersText, holdsLetters, holdsValue, recordOf, isUnused, outerFrom, bodyFrom, lineFrom, linesFrom}
-use Rattle.records.specs.LineTexts.{digitCount, lengthOf}
+use Rattle.records.specs.LineLengths.{digitCount, lengthOf}
 use Rattle.dictionary.specs.DictionaryWords.{isOf, nameOf, namesOf, placeOf, recordsOf, indexOf, dictionaryWords}
 use Rattle.dictionary.specs.DictionaryCheck as check
 use Rattle.dictionary.specs.DictionaryCheck.{accepts, standsAt, standsEach, isIndex, isDictionary}

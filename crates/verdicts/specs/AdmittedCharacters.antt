@@ -4,23 +4,27 @@
 -- exactly where these bytes are the first bytes of the text's characters. Assumes nothing.
 --
 --   admitted-by-characters   the theorem
-use mathlib.Core.Path.{_≡_, refl, ap, _∙_}
+use mathlib.Core.Path.{_≡_, refl, sym, ap, _∙_}
 use Prim.Native.Nat.{ℕ}
 use Prim.Native.Char.{code}
-use mathlib.Core.Bool.{Bool, true, false, _&&_}
+use mathlib.Core.Bool.{Bool, true, false, _&&_, false≢true}
 use mathlib.Core.List.{List, [], _∷_}
 use native.Mathlib.Omega.{arith}
-use lib.ListN.{length}
-use Rattle.ascii.specs.Notation.{isBetween}
-use Rattle.ascii.specs.NotationLaws.{and-left, and-right, and-false, isBetween-range}
+use Rattle.ascii.specs.NotationLaws.{and-left, and-right, isBetween-range}
 use Rattle.ascii.specs.Bytes.{every}
 use Rattle.ascii.specs.Split.{Parts, last, part, split, everyPart}
 use Rattle.field_types.specs.declared.field_type.FieldType.{FieldType}
 use Rattle.unicode.specs.Characters.{nothingExpected, expectedAfter, leadsFrom, leads}
 use Rattle.unicode.specs.CharactersLaws.{expectedAfter-below, continues-none, leadsFrom-begins}
 use Rattle.multi_values.specs.MultiValueOrder.{leadsOfParts, split-leads}
-use Rattle.lines.specs.LineParts.{isVisible, valueOf}
-use Rattle.dictionary.specs.Definitions.{admitsValue}
+use Rattle.lines.specs.Lines.{isSame}
+use Rattle.lines.specs.LineParts.{isVisible}
+use Rattle.records.specs.Records.{Words32}
+use Rattle.dictionary.specs.DictionaryWords.{wordLines}
+use Rattle.dictionary.specs.DictionaryCheck.{isDictionary}
+use Rattle.dictionary.specs.WordLinesLaws.{lines-held}
+use Rattle.dictionary.specs.DefinedFields.{FieldDef, DefinedAs, fieldIn, isOneOf, isAdmittedBy}
+use Rattle.dictionary.specs.DefinedFieldsLaws.{AllVisible, isSame-true, field-visible}
 use Rattle.verdicts.specs.Verdict.{admitsEach, isAdmitted}
 
 -- ---- the characters of visible bytes
@@ -57,27 +61,47 @@ leads-visible (byte ∷ rest) visible =
 
 -- ---- a value and its characters
 
-valueOf-leads : (value : List ℕ) → valueOf (leads value) ≡ valueOf value
-unfolding valueOf
-valueOf-leads value = go (every isVisible value) refl
+-- visible bytes are the value exactly where they are its characters
+isSame-leads : (admitted value : List ℕ) → every isVisible admitted ≡ true → isSame admitted (leads value) ≡ isSame admitted value
+isSame-leads admitted value visible = go (every isVisible value) refl
   where
-    go : (visible : Bool) → every isVisible value ≡ visible → valueOf (leads value) ≡ valueOf value
-    go true visible = ap valueOf (leads-visible value visible)
-    go false other = rw (every-leads value ∙ other, other, and-false (isBetween 1 32 (length (leads value))), and-false (isBetween 1 32 (length value)))
+    never : (bytes : List ℕ) → every isVisible bytes ≡ false → (same : Bool) → isSame admitted bytes ≡ same → same ≡ false
+    never bytes other false test = refl
+    never bytes other true test = absurd (false≢true (sym other ∙ ap (every isVisible) (sym (isSame-true admitted bytes test)) ∙ visible))
 
-module _ (dictionary : List ℕ) (number : ℕ) where
-  pub admitsValue-leads : (value : List ℕ) → admitsValue dictionary number (leads value) ≡ admitsValue dictionary number value
-  unfolding admitsValue
-  admitsValue-leads value = rw (valueOf-leads value)
+    go : (all : Bool) → every isVisible value ≡ all → isSame admitted (leads value) ≡ isSame admitted value
+    go true all = ap (isSame admitted) (leads-visible value all)
+    go false other =
+        never (leads value) (every-leads value ∙ other) (isSame admitted (leads value)) refl ∙ sym (never value other (isSame admitted value) refl)
 
-  everyPart-leads : (parts : Parts) → everyPart (admitsValue dictionary number) (leadsOfParts nothingExpected parts) ≡ everyPart (admitsValue dictionary number) parts
+isOneOf-leads : (values : List (List ℕ)) (value : List ℕ) → AllVisible values → isOneOf values (leads value) ≡ isOneOf values value
+unfolding isOneOf
+isOneOf-leads [] value visible = refl
+isOneOf-leads (first ∷ others) value visible = rw (isSame-leads first value (visible .0), isOneOf-leads others value (visible .1))
+
+isAdmittedBy-leads : (values : List (List ℕ)) (value : List ℕ) → AllVisible values → isAdmittedBy values (leads value) ≡ isAdmittedBy values value
+isAdmittedBy-leads [] value visible = refl
+isAdmittedBy-leads (first ∷ others) value visible = isOneOf-leads (first ∷ others) value visible
+
+module _ (values : List (List ℕ)) (visible : AllVisible values) where
+  everyPart-leads : (parts : Parts) → everyPart (isAdmittedBy values) (leadsOfParts nothingExpected parts) ≡ everyPart (isAdmittedBy values) parts
   unfolding everyPart leadsOfParts
-  everyPart-leads (last bytes) = admitsValue-leads bytes
-  everyPart-leads (part bytes others) = rw (admitsValue-leads bytes, everyPart-leads others)
+  everyPart-leads (last bytes) = isAdmittedBy-leads values bytes visible
+  everyPart-leads (part bytes others) = rw (isAdmittedBy-leads values bytes visible, everyPart-leads others)
 
-  admitsEach-leads : (value : List ℕ) → admitsEach dictionary number (leads value) ≡ admitsEach dictionary number value
+  admitsEach-leads : (value : List ℕ) → admitsEach (isAdmittedBy values) (leads value) ≡ admitsEach (isAdmittedBy values) value
   unfolding admitsEach
-  admitsEach-leads value = ap (everyPart (admitsValue dictionary number)) (split-leads (code " ") (omega arith) value) ∙ everyPart-leads (split (code " ") value)
+  admitsEach-leads value = ap (everyPart (isAdmittedBy values)) (split-leads (code " ") (omega arith) value) ∙ everyPart-leads (split (code " ") value)
 
-  pub admitted-by-characters : (type : FieldType) (value : List ℕ) → isAdmitted dictionary number type (leads value) ≡ isAdmitted dictionary number type value
-  admitted-by-characters type value = rw (admitsEach-leads value, admitsValue-leads value)
+  visible-by-characters : (type : FieldType) (value : List ℕ) → isAdmitted (isAdmittedBy values) type (leads value) ≡ isAdmitted (isAdmittedBy values) type value
+  visible-by-characters type value = rw (admitsEach-leads value, isAdmittedBy-leads values value visible)
+
+-- the values of a field that a dictionary defines have the bytes 21 to 7E alone
+pub admitted-by-characters : (words : List ℕ) → Words32 words
+    → isDictionary words ≡ true
+    → (tag : ℕ) (field : FieldDef)
+    → fieldIn (wordLines words) tag ≡ DefinedAs field
+    → (type : FieldType) (value : List ℕ)
+    → isAdmitted (isAdmittedBy (field .values)) type (leads value) ≡ isAdmitted (isAdmittedBy (field .values)) type value
+admitted-by-characters words small passes tag field defined =
+    visible-by-characters (field .values) (field-visible (wordLines words) (lines-held words small passes) tag field defined)

@@ -19,7 +19,7 @@ use Rattle.texts.specs.declared.dictionary_order.State.{State}
 use Rattle.texts.specs.DictionaryOrder.{start, stepOf}
 use Rattle.dictionary.specs.declared.definitions.Definition.the-variants.{Defined}
 use Rattle.records.specs.Records.{lineFrom, outerFrom, linesFrom}
-use Rattle.records.specs.LineTexts.{lengthOf}
+use Rattle.records.specs.LineLengths.{lengthOf}
 use Rattle.dictionary.specs.DictionaryCheck.{isTaken, accepts, countOf, standsAt, standsEach, isIndex, tagsAt, isDictionary}
 use Rattle.dictionary.specs.Definitions.{numberAt, recordIn, definitionAt, definitionOf}
 use Rattle.dictionary.specs.DefinitionsLaws.{stands-nth, isDictionary-parts}

@@ -16,7 +16,7 @@ use Rattle.ascii.specs.Notation.{_<ᵇ_, if_then_else_}
 use Rattle.field_types.specs.FieldType.{typeNumbered}
 use Rattle.dictionary.specs.declared.definitions.Definition.{Definition}
 use Rattle.dictionary.specs.declared.definitions.Definition.the-variants.{Defined, Undefined}
-use Rattle.dictionary.specs.Definitions.{definitionOf}
+use Rattle.dictionary.specs.Definitions.{definitionOf, admitsValue}
 use Rattle.walk_memory.specs.FieldTable.{tagOf}
 use Rattle.verdicts.specs.declared.verdict.Verdict.{Verdict}
 use Rattle.verdicts.specs.declared.verdict.Verdict.the-variants as verdicts
@@ -25,7 +25,7 @@ use Rattle.verdicts.specs.Verdict.{typedVerdict}
 unfoldable pub recordedVerdict : List ℕ → Bool → List ℕ → ℕ → Verdict
 recordedVerdict dictionary strict value number =
     if number <ᵇ getD dictionary 0 0
-    then typedVerdict dictionary strict value number (typeNumbered (getD dictionary (4 + 10 * number + 2) 0))
+    then typedVerdict (admitsValue dictionary number) strict value (typeNumbered (getD dictionary (4 + 10 * number + 2) 0))
     else verdicts.Undefined
 
 abbrev pub recordWith : List ℕ → Definition → ℕ

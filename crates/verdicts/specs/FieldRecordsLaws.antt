@@ -10,25 +10,42 @@ use lib.Seq.{sets, sets-eq}
 use borrow.Author.Tests.{lt-ltb, le-ltb}
 use Rattle.dictionary.specs.declared.definitions.Definition.{Definition}
 use Rattle.dictionary.specs.declared.definitions.Definition.the-variants.{Defined, Undefined}
+use Rattle.field_types.specs.FieldType.{typeNumbered}
+use Rattle.records.specs.Records.{Words32}
+use Rattle.dictionary.specs.DictionaryWords.{wordLines}
 use Rattle.dictionary.specs.DictionaryCheck.{isDictionary}
-use Rattle.dictionary.specs.Definitions.{definitionOf}
+use Rattle.dictionary.specs.Definitions.{definitionOf, admitsValue}
+use Rattle.dictionary.specs.DefinedFields.{fieldIn, isAdmittedBy}
+use Rattle.dictionary.specs.DefinedFieldsLaws.{fieldAt, definition-found, definition-missing, admitsValue-lines}
 use Rattle.verdicts.specs.Verdict.{definedVerdict, checkValue}
+use Rattle.verdicts.specs.VerdictLaws.{typedVerdict-alike}
 use Rattle.verdicts.specs.DefinitionFacts.{definition-known, definition-type}
 use Rattle.verdicts.specs.FieldRecords.{recordedVerdict, recordWith, recordOf, wordsFrom, filledIn, Holds}
 
 -- ---- recordedVerdict
 
--- the record's number gives the verdict that the tag gives
-pub recordedVerdict-of : (dictionary : List ℕ) (strict : Bool) (tag : ℕ) (value : List ℕ) → isDictionary dictionary ≡ true
-    → recordedVerdict dictionary strict value (recordOf dictionary tag) ≡ checkValue dictionary strict tag value
+-- the record's number gives the verdict that the dictionary's lines give the tag
+pub recordedVerdict-of : (dictionary : List ℕ) (strict : Bool) (tag : ℕ) (value : List ℕ) → Words32 dictionary
+    → isDictionary dictionary ≡ true
+    → recordedVerdict dictionary strict value (recordOf dictionary tag) ≡ checkValue (wordLines dictionary) strict tag value
 unfolding checkValue recordedVerdict recordOf
-recordedVerdict-of dictionary strict tag value holds = go (definitionOf dictionary tag) refl
+recordedVerdict-of dictionary strict tag value small passes = go (definitionOf dictionary tag) refl
   where
     go : (definition : Definition) → definitionOf dictionary tag ≡ definition
-        → recordedVerdict dictionary strict value (recordWith dictionary definition) ≡ definedVerdict dictionary strict value definition
+        → recordedVerdict dictionary strict value (recordWith dictionary definition) ≡ definedVerdict strict value (fieldIn (wordLines dictionary) tag)
     go (Defined type number) defined =
-        rw (lt-ltb number (getD dictionary 0 0) (definition-known dictionary holds tag type number defined .1), definition-type dictionary tag type number defined)
-    go Undefined missing = let none : getD dictionary 0 0 ≤ getD dictionary 0 0 = omega arith in rw (le-ltb (getD dictionary 0 0) (getD dictionary 0 0) none)
+        let found = definition-found dictionary small passes tag type number defined in
+        rw (
+          lt-ltb number (getD dictionary 0 0) (definition-known dictionary passes tag type number defined .1),
+          definition-type dictionary tag type number defined,
+          found .1 .1,
+          found .1 .0,
+        )
+        (typedVerdict-alike (admitsValue dictionary number) (isAdmittedBy (fieldAt (wordLines dictionary) number .values))
+        (admitsValue-lines dictionary small passes number (found .0)) strict value (typeNumbered type))
+    go Undefined missing =
+        let none : getD dictionary 0 0 ≤ getD dictionary 0 0 = omega arith in
+        rw (le-ltb (getD dictionary 0 0) (getD dictionary 0 0) none, definition-missing dictionary small passes tag missing)
 
 -- ---- wordsFrom, filledIn
 

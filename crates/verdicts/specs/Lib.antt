@@ -4,6 +4,7 @@ pub mod VerdictLaws
 pub mod AdmittedCharacters
 pub mod FieldRecords
 pub mod FieldRecordsLaws
+pub mod VerdictOfText
 pub mod Verdicts
 pub mod VerdictsLaws
 pub mod VerdictCases

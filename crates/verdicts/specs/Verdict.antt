@@ -1,17 +1,17 @@
 -- The verdict on a value. Document 01, 'The verdict on a value': "0 good, 1 tag undefined, 2 wrong format, 3 not admitted. Reference: `check_value`." The Rust's
 -- `check_value` (validator.rs): "Checks that a field is defined, well-formed for its type, and — when enumerated — carries a defined value." `Verdict` is declared
--- in src/verdict.rt. The dictionary is given by its words, in which definition and admitted values are looked up (dictionary, Definitions.antt). Assumes nothing.
+-- in src/verdict.rt. The dictionary is given by the lines of its text; what they define is said in DefinedFields.antt of dictionary. Assumes nothing.
 --
 -- The Rust looks at the text that `from_utf8_lossy` makes of the value; here the raw bytes are judged. That is the same: of the format see docs/DIFFERENCES.md and
 -- `cut-before-or-behind` (multi_values, MultiValueOrder.antt); of the admitted values `admitted-by-characters` (AdmittedCharacters.antt).
 --
 --   verdictWord verdict                        document 01's number of the verdict
 --   hasFormat strict type value                the value has the form of its type, and in strict mode its ranges
---   admitsEach dictionary number value         every token of the value, cut at its spaces, is one that the definition with this record admits
---   isAdmitted dictionary number type value    the definition with this record, of this type, admits the value
---   typedVerdict dictionary strict value number type   the verdict on a value whose definition has this record and this type
---   definedVerdict dictionary strict value definition  the verdict on a value whose tag has this definition, or none
---   checkValue dictionary strict tag value     the verdict on the value of a field with this tag
+--   admitsEach admits value                    every token of the value, cut at its spaces, is admitted
+--   isAdmitted admits type value               the value of a field of this type is admitted, where `admits` says which single values are
+--   typedVerdict admits strict value type      the verdict on a value of this type
+--   definedVerdict strict value field          the verdict on a value whose tag has this definition, or none
+--   checkValue lines strict tag value          the verdict on the value of a field with this tag
 use Prim.Native.Nat.{ℕ}
 use Prim.Native.Char.{code}
 use mathlib.Core.Bool.{Bool}
@@ -23,9 +23,8 @@ use Rattle.field_types.specs.declared.field_type.NumberedType.{NumberedType}
 use Rattle.field_types.specs.declared.field_type.NumberedType.the-variants as types
 use Rattle.field_types.specs.FieldType.{typeNumbered, isMultiValue}
 use Rattle.formats.specs.FieldValue.{isValidValue, isStrictValue}
-use Rattle.dictionary.specs.declared.definitions.Definition.{Definition}
-use Rattle.dictionary.specs.declared.definitions.Definition.the-variants as definitions
-use Rattle.dictionary.specs.Definitions.{definitionOf, admitsValue}
+use Rattle.line_forms.specs.declared.line.Line.{Line}
+use Rattle.dictionary.specs.DefinedFields.{FieldDef, FoundField, DefinedAs, NotDefined, fieldIn, isAdmittedBy}
 use Rattle.verdicts.specs.declared.verdict.Verdict.{Verdict}
 use Rattle.verdicts.specs.declared.verdict.Verdict.the-variants.{Good, Undefined, WrongFormat, NotAdmitted}
 
@@ -40,26 +39,25 @@ verdictWord NotAdmitted = 3
 abbrev pub hasFormat : Bool → FieldType → List ℕ → Bool
 hasFormat strict type value = if strict then isStrictValue type value else isValidValue type value
 
-module _ (dictionary : List ℕ) where
+module _ (admits : List ℕ → Bool) where
   -- "A multi-value field carries a space-separated list, and every token has to be in the enumeration." (validator.rs)
-  unfoldable pub admitsEach : ℕ → List ℕ → Bool
-  admitsEach number value = everyPart (admitsValue dictionary number) (split (code " ") value)
+  unfoldable pub admitsEach : List ℕ → Bool
+  admitsEach value = everyPart admits (split (code " ") value)
 
-  abbrev pub isAdmitted : ℕ → FieldType → List ℕ → Bool
-  isAdmitted number type value = if isMultiValue type then admitsEach number value else admitsValue dictionary number value
+  abbrev pub isAdmitted : FieldType → List ℕ → Bool
+  isAdmitted type value = if isMultiValue type then admitsEach value else admits value
 
-  module _ (strict : Bool) where
-    -- the second clause is never met: in the words of a dictionary every type has its number (`definition-known`, DefinitionFacts.antt)
-    abbrev pub typedVerdict : List ℕ → ℕ → NumberedType → Verdict
-    typedVerdict value number (types.Numbered type) =
-        if hasFormat strict type value
-        then if isAdmitted number type value then Good else NotAdmitted
-        else WrongFormat
-    typedVerdict value number types.Nothing = Undefined
+  -- the second clause is never met: every TYPE that a line can have has its number (`definition-known`, DefinitionFacts.antt)
+  abbrev pub typedVerdict : Bool → List ℕ → NumberedType → Verdict
+  typedVerdict strict value (types.Numbered type) =
+      if hasFormat strict type value
+      then if isAdmitted type value then Good else NotAdmitted
+      else WrongFormat
+  typedVerdict strict value types.Nothing = Undefined
 
-    abbrev pub definedVerdict : List ℕ → Definition → Verdict
-    definedVerdict value (definitions.Defined type number) = typedVerdict value number (typeNumbered type)
-    definedVerdict value definitions.Undefined = Undefined
+abbrev pub definedVerdict : Bool → List ℕ → FoundField → Verdict
+definedVerdict strict value (DefinedAs field) = typedVerdict (isAdmittedBy (field .values)) strict value (typeNumbered (field .type))
+definedVerdict strict value NotDefined = Undefined
 
-    unfoldable pub checkValue : ℕ → List ℕ → Verdict
-    checkValue tag value = definedVerdict value (definitionOf dictionary tag)
+unfoldable pub checkValue : List Line → Bool → ℕ → List ℕ → Verdict
+checkValue lines strict tag value = definedVerdict strict value (fieldIn lines tag)

@@ -1,8 +1,8 @@
 -- Verdicts on a few values, and the call on document 01's worked example, by computation. Assumes nothing.
 --
---   someWords     def=44,Price def=54,Char value=1 value=2 def=58,String value=A def=200,MonthYear def=276,MultipleCharValue value=A value=B
+--   some          def=44,Price def=54,Char value=1 value=2 def=58,String value=A def=200,MonthYear def=276,MultipleCharValue value=A value=B
 --                 def=541,MonthYear value=202412, then an empty header and an empty trailer
---   worked        the definitions of 'One list in full': def=35,String def=448,String def=447,Char value=D def=453,NumInGroup
+--   worked        the words of the definitions of 'One list in full': def=35,String def=448,String def=447,Char value=D def=453,NumInGroup
 --   workedTable   the fields of its message, 35=D 453=2 448=A 447=D 448=B, with the values one behind the other
 use mathlib.Core.Path.{_≡_, refl}
 use Prim.Native.Nat.{ℕ}
@@ -20,17 +20,19 @@ use Rattle.multi_values.specs.MultiValue.{isToken, isMultiValueList}
 use Rattle.field_types.specs.FieldType.{typeNumbered}
 use Rattle.formats.specs.FieldValue.{isOfFormat, isInRanges}
 use Rattle.sorting.specs.Sort.{inserted, sorted}
-use Rattle.sorting.specs.Search.{isStrictlyAbove, isStrictlyAscending, rankFrom, rankIn}
+use Rattle.sorting.specs.Search.{isStrictlyAbove, isStrictlyAscending}
 use Rattle.line_forms.specs.declared.line.Line.{Line}
 use Rattle.line_forms.specs.declared.line.Line.the-variants.{Def, Value, BeginHeader, EndHeader, BeginTrailer, EndTrailer}
 use Rattle.refusals.specs.declared.refusal.Refusal.the-variants.{UnknownForm, BadField, SpaceShort}
-use Rattle.lines.specs.LineParts.{wordAt, admittedBytes, valueOf}
+use Rattle.lines.specs.Lines.{startsWith, isSame}
+use Rattle.lines.specs.LineParts.{wordAt, admittedBytes}
 use Rattle.texts.specs.DictionaryOrder.{stepOf}
 use Rattle.records.specs.Records.{holdsByte, holdsPart, holdsValue, recordOf, isUnused, outerFrom, bodyFrom, lineFrom, linesFrom}
-use Rattle.records.specs.LineTexts.{digitCount, lengthOf}
+use Rattle.records.specs.LineTexts.{bytesFrom, valueText}
+use Rattle.records.specs.LineLengths.{digitCount, lengthOf}
 use Rattle.dictionary.specs.DictionaryWords.{isOf, nameOf, namesOf, placeOf, recordsOf, indexOf, dictionaryWords}
 use Rattle.dictionary.specs.DictionaryCheck.{accepts, countOf, standsAt, standsEach, isIndex, isDictionary}
-use Rattle.dictionary.specs.Definitions.{recordIn, definitionOf, isSameValue, isAmong, admitsValue}
+use Rattle.dictionary.specs.DefinedFields.{valuesFirst, fieldsIn, fieldCalled, isOneOf}
 use Rattle.walk_memory.specs.FieldTable.{isBadField, badFrom, tableCheckOf}
 use Rattle.verdicts.specs.declared.verdict.Verdict.the-variants.{Good, Undefined, WrongFormat, NotAdmitted}
 use Rattle.verdicts.specs.declared.verdicts_call.Judged.the-variants.{Done, Refused}
@@ -56,9 +58,6 @@ some =
     ∷ Value (admittedBytes (ascii "202412"))
     ∷ emptyBodies
 
-abbrev someWords : List ℕ
-someWords = dictionaryWords some
-
 abbrev worked : List ℕ
 worked = dictionaryWords (Def 35 14 ∷ Def 448 14 ∷ Def 447 12 ∷ Value (admittedBytes (ascii "D")) ∷ Def 453 3 ∷ emptyBodies)
 
@@ -69,33 +68,35 @@ abbrev workedMessage : List ℕ
 workedMessage = ascii "D2ADB"
 
 pub record VerdictCases : Type 0 where
-  pub some-passes : isDictionary someWords ≡ true
+  pub some-passes : isDictionary (dictionaryWords some) ≡ true
   -- each verdict
-  pub price-good : checkValue someWords false 44 (ascii "5.") ≡ Good
-  pub no-definition : checkValue someWords false 45 (ascii "5.") ≡ Undefined
-  pub price-point-alone : checkValue someWords false 44 (ascii ".") ≡ WrongFormat
-  pub side-admitted : checkValue someWords false 54 (ascii "2") ≡ Good
-  pub side-not-admitted : checkValue someWords false 54 (ascii "3") ≡ NotAdmitted
+  pub price-good : checkValue some false 44 (ascii "5.") ≡ Good
+  pub no-definition : checkValue some false 45 (ascii "5.") ≡ Undefined
+  pub price-point-alone : checkValue some false 44 (ascii ".") ≡ WrongFormat
+  pub side-admitted : checkValue some false 54 (ascii "2") ≡ Good
+  pub side-not-admitted : checkValue some false 54 (ascii "3") ≡ NotAdmitted
   -- the format is tested before the admitted values
-  pub side-two-characters : checkValue someWords false 54 (ascii "12") ≡ WrongFormat
-  pub one-byte-FF : checkValue someWords false 54 (0xFF ∷ []) ≡ NotAdmitted
+  pub side-two-characters : checkValue some false 54 (ascii "12") ≡ WrongFormat
+  pub one-byte-FF : checkValue some false 54 (0xFF ∷ []) ≡ NotAdmitted
   -- "202413 good, strict bad"
-  pub month-thirteen : checkValue someWords false 200 (ascii "202413") ≡ Good
-  pub month-thirteen-strict : checkValue someWords true 200 (ascii "202413") ≡ WrongFormat
-  pub month-twelve-strict : checkValue someWords true 200 (ascii "202412") ≡ Good
+  pub month-thirteen : checkValue some false 200 (ascii "202413") ≡ Good
+  pub month-thirteen-strict : checkValue some true 200 (ascii "202413") ≡ WrongFormat
+  pub month-twelve-strict : checkValue some true 200 (ascii "202412") ≡ Good
   -- strict mode is tested before the admitted values
-  pub month-not-admitted : checkValue someWords false 541 (ascii "202413") ≡ NotAdmitted
-  pub month-not-admitted-strict : checkValue someWords true 541 (ascii "202413") ≡ WrongFormat
-  pub month-admitted-strict : checkValue someWords true 541 (ascii "202412") ≡ Good
+  pub month-not-admitted : checkValue some false 541 (ascii "202413") ≡ NotAdmitted
+  pub month-not-admitted-strict : checkValue some true 541 (ascii "202413") ≡ WrongFormat
+  pub month-admitted-strict : checkValue some true 541 (ascii "202412") ≡ Good
   -- tokens are judged one by one, other values as a whole
-  pub tokens-admitted : checkValue someWords false 276 (ascii "A B A") ≡ Good
-  pub last-token-not-admitted : checkValue someWords false 276 (ascii "A B C") ≡ NotAdmitted
-  pub first-token-not-admitted : checkValue someWords false 276 (ascii "C A") ≡ NotAdmitted
-  pub two-spaces : checkValue someWords false 276 (ascii "A  B") ≡ WrongFormat
-  pub string-with-space : checkValue someWords false 58 (ascii "A A") ≡ NotAdmitted
+  pub tokens-admitted : checkValue some false 276 (ascii "A B A") ≡ Good
+  pub last-token-not-admitted : checkValue some false 276 (ascii "A B C") ≡ NotAdmitted
+  pub first-token-not-admitted : checkValue some false 276 (ascii "C A") ≡ NotAdmitted
+  pub two-spaces : checkValue some false 276 (ascii "A  B") ≡ WrongFormat
+  pub string-with-space : checkValue some false 58 (ascii "A A") ≡ NotAdmitted
   -- "verdicts=00000"
   pub worked-answer : judgedOf worked workedTable workedMessage (9 ∷ 9 ∷ 9 ∷ 9 ∷ 9 ∷ 9 ∷ []) ≡ Done 5
   pub worked-words : verdictsIn worked workedTable workedMessage false (9 ∷ 9 ∷ 9 ∷ 9 ∷ 9 ∷ 9 ∷ []) ≡ 0 ∷ 0 ∷ 0 ∷ 0 ∷ 0 ∷ 9 ∷ []
+  -- 447=X under def=447,Char value=D gets 3
+  pub worked-not-admitted : verdictsIn worked (447 ∷ 0 ∷ 1 ∷ []) (ascii "X") false (9 ∷ []) ≡ 3 ∷ []
   pub worked-short : judgedOf worked workedTable workedMessage (9 ∷ 9 ∷ 9 ∷ 9 ∷ []) ≡ Refused (SpaceShort 5)
   pub worked-untouched : verdictsIn worked workedTable workedMessage false (9 ∷ 9 ∷ 9 ∷ 9 ∷ []) ≡ 9 ∷ 9 ∷ 9 ∷ 9 ∷ []
   -- the table before the space, and the dictionary before the table
@@ -103,7 +104,7 @@ pub record VerdictCases : Type 0 where
   pub dictionary-first : judgedOf [] (35 ∷ []) workedMessage [] ≡ Refused (UnknownForm 0)
 
 pub verdict-cases : VerdictCases
-unfolding isBetween nonEmpty every howMany isDigits isDigitsOfLen decimalFrom withFirst split everyPart standsFor hasPicture isMonthYear isInRange isStrictMonthYear isSigned withoutSign isInteger isDecimalBody isDecimal expectedAfter continues charactersFrom characters isToken isMultiValueList typeNumbered isOfFormat isInRanges inserted sorted isStrictlyAbove isStrictlyAscending rankFrom rankIn wordAt valueOf stepOf holdsByte holdsPart holdsValue recordOf isUnused outerFrom bodyFrom lineFrom digitCount lengthOf isOf nameOf namesOf placeOf recordsOf indexOf dictionaryWords linesFrom accepts countOf standsAt standsEach isIndex isDictionary recordIn definitionOf isSameValue isAmong admitsValue isBadField badFrom tableCheckOf admitsEach checkValue verdictsFrom judgedOf verdictsIn
+unfolding isBetween nonEmpty every howMany isDigits isDigitsOfLen decimalFrom withFirst split everyPart standsFor hasPicture isMonthYear isInRange isStrictMonthYear isSigned withoutSign isInteger isDecimalBody isDecimal expectedAfter continues charactersFrom characters isToken isMultiValueList typeNumbered isOfFormat isInRanges inserted sorted isStrictlyAbove isStrictlyAscending wordAt stepOf holdsByte holdsPart holdsValue recordOf isUnused outerFrom bodyFrom lineFrom digitCount lengthOf isOf nameOf namesOf placeOf recordsOf indexOf dictionaryWords linesFrom accepts countOf standsAt standsEach isIndex isDictionary startsWith isSame bytesFrom valueText valuesFirst fieldsIn fieldCalled isOneOf isBadField badFrom tableCheckOf admitsEach checkValue verdictsFrom judgedOf verdictsIn
 verdict-cases = record {
   some-passes = refl;
   price-good = refl;
@@ -126,6 +127,7 @@ verdict-cases = record {
   string-with-space = refl;
   worked-answer = refl;
   worked-words = refl;
+  worked-not-admitted = refl;
   worked-short = refl;
   worked-untouched = refl;
   table-first = refl;

@@ -1,6 +1,6 @@
 -- The call `check_values` on lent words (document 01, 'The verdict on a value' and 'When the gate says no'): what it answers, and what the space for the verdicts
 -- holds afterwards. "One word a field". "Verdicts: lent words, 12, 13." "A refusal writes nothing; an answer leaves the words behind its last one as they were."
--- `Judged` is declared in src/verdicts_call.rt; number and place of a refusal are in `Refusal.antt` of texts. Assumes nothing.
+-- `Judged` is declared in src/verdicts_call.rt; number and place of a refusal are in `Refusal.antt` of refusals. Assumes nothing.
 --
 --   fieldVerdict dictionary strict table position         the verdict on the field at the position
 --   verdictsFrom dictionary strict table left position    the words of the verdicts on so many fields from the position on
@@ -13,6 +13,7 @@ use mathlib.Core.List.{List, [], _∷_, _++_}
 use lib.ListN.{length, drop}
 use Rattle.ascii.specs.Notation.{_≤ᵇ_, if_then_else_}
 use Rattle.refusals.specs.declared.refusal.Refusal.the-variants.{UnknownForm, BadField, SpaceShort}
+use Rattle.dictionary.specs.DictionaryWords.{wordLines}
 use Rattle.dictionary.specs.DictionaryCheck.{isDictionary}
 use Rattle.walk_memory.specs.declared.field_table.TableCheck.{TableCheck}
 use Rattle.walk_memory.specs.declared.field_table.TableCheck.the-variants as table
@@ -25,7 +26,7 @@ use Rattle.verdicts.specs.Verdict.{verdictWord, checkValue}
 
 module _ (dictionary : List ℕ) (strict : Bool) (table : Fields) where
   abbrev pub fieldVerdict : ℕ → Verdict
-  fieldVerdict position = checkValue dictionary strict (table .tagAt position) (table .valueAt position)
+  fieldVerdict position = checkValue (wordLines dictionary) strict (table .tagAt position) (table .valueAt position)
 
   unfoldable pub verdictsFrom : ℕ → ℕ → List ℕ
   verdictsFrom zero position = []

@@ -14,6 +14,7 @@ ghost use mathlib.Core.Bool.{true};
 ghost use Prim.Native.Nat.{_<_};
 ghost use lib.ListN.{getD};
 ghost use Rattle.dictionary.specs.DictionaryCheck.{isDictionary};
+ghost use Rattle.dictionary.specs.Definitions.{admitsValue};
 ghost use Rattle.verdicts.specs.Verdict.{verdictWord, hasFormat, admitsEach, isAdmitted};
 ghost use Rattle.verdicts.specs.FieldRecords.{recordOf, recordedVerdict};
 
@@ -57,7 +58,7 @@ fn has_format(field_type: FieldType, value: &[u8], strict: bool) -> bool
 // Returns true if the definition with this record admits every token of a space-separated list.
 fn admits_each(dictionary: &[u32], number: usize, value: &[u8]) -> bool
     requires { ⌜ (isDictionary (now dictionary) ≡ true) × (number < getD (now dictionary) 0 0) ⌝ }
-    ensures { λ answer. ⌜ answer ≡ admitsEach (now (dictionary .entry)) number (now (value .entry)) ⌝ }
+    ensures { λ answer. ⌜ answer ≡ admitsEach (admitsValue (now (dictionary .entry)) number) (now (value .entry)) ⌝ }
 {
     let mut first: usize = 0;
     loop {
@@ -75,7 +76,7 @@ fn admits_each(dictionary: &[u32], number: usize, value: &[u8]) -> bool
 // Returns true if the definition with this record, of this type, admits the value: a multi-value type every token of it.
 fn is_admitted(dictionary: &[u32], number: usize, field_type: FieldType, value: &[u8]) -> bool
     requires { ⌜ (isDictionary (now dictionary) ≡ true) × (number < getD (now dictionary) 0 0) ⌝ }
-    ensures { λ answer. ⌜ answer ≡ isAdmitted (now (dictionary .entry)) number «field_type» (now (value .entry)) ⌝ }
+    ensures { λ answer. ⌜ answer ≡ isAdmitted (admitsValue (now (dictionary .entry)) number) «field_type» (now (value .entry)) ⌝ }
 {
     if field_type.is_multi_value() {
         return admits_each(dictionary, number, value);

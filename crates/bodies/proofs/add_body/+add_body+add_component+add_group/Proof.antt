@@ -6,8 +6,10 @@ use Prim.Native.Nat.{_+_, _-_, _*_}
 use native.Mathlib.Omega.{arith}
 use lib.ListN.{length, getD}
 use Rattle.dictionary.specs.DefinitionsLaws.{isDictionary-parts}
-use Rattle.bodies.specs.DictionaryInWords.{wordLines, dictionaryIn}
-use Rattle.bodies.specs.DictionaryLookups.{bodyAt, line-at, component-found, component-missing}
+use Rattle.dictionary.specs.DictionaryWords.{wordLines}
+use Rattle.bodies.specs.DictionaryInWords.{dictionaryIn}
+use Rattle.dictionary.specs.WordLinesLaws.{line-at}
+use Rattle.bodies.specs.DictionaryLookups.{bodyAt, component-found, component-missing}
 use Rattle.expansion.specs.TraceLaws.{grows-then, grown-grows, done-grown, stopped-grows}
 use Rattle.bodies.specs.ExpansionPromises.{groupAt, callsLeft}
 use Rattle.bodies.specs.ExpansionPromisesLaws.{BodySoFar, body-begins, body-inside, body-field, body-field-over, group-there, body-group, body-group-over, body-use, body-use-over, body-ends, spent-deep, group-denied, group-entry-over, group-body-over, group-left-over, group-added, group-room, group-grown, component-denied, component-undefined, component-open, component-added, names-lent, spent-falls}

@@ -7,7 +7,7 @@ use lib.ListN.{drop}
 use native.Mathlib.Omega.{arith}
 use borrow.Author.Tests.{not-true, not-false}
 use Rattle.dictionary.specs.LineOrder.{stateOf}
-use Rattle.dictionary.specs.DictionaryCheck.{Counted}
+use Rattle.dictionary.specs.LinesTaken.{Counted}
 use Rattle.dictionary.specs.DictionaryCheckLaws.{TakesSoFar, takes-begins, takes-ends, takes-short, takes-faulty, takes-goes-on, counted-begins, counted-goes-on, counted-few, counted-ends}
 use borrow.Author.Needs.{needs}
 use Rattle.dictionary.proofs.dictionary_check.take_lines.Statement.{statement}

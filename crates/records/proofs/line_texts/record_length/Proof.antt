@@ -2,7 +2,7 @@
 -- `records::line_texts::record_length` meets its contract, a kind at a time (specs/LineLengthLaws.antt).
 use mathlib.Core.Path.{_≡_}
 use native.Mathlib.Omega.{arith}
-use Rattle.records.specs.LineTexts.{lengthOf}
+use Rattle.records.specs.LineLengths.{lengthOf}
 use Rattle.records.specs.RecordsLaws.{lineFrom-other}
 use Rattle.records.specs.LineLengthLaws.{known-def, known-value, known-begin-header, known-begin-trailer, known-component, known-message, known-field, known-group, known-use, known-end-header, known-end-trailer, known-end-letters, known-end-number, other-unknown}
 use borrow.Author.Needs.{needs}

@@ -4,20 +4,21 @@ use mathlib.Core.Path.{sym, _∙_}
 use Prim.Native.Nat.{suc, _-_}
 use borrow.Author.Tests.{not-true, not-false}
 use lib.ListN.{length}
+use Rattle.dictionary.specs.Definitions.{admitsValue}
 use Rattle.verdicts.specs.VerdictLaws.{AdmittedSoFar, admitted-begins, admitted-ends, admitted-fails, admitted-goes-on}
 use borrow.Author.Needs.{needs}
 use Rattle.verdicts.proofs.verdict.admits_each.Statement.{statement}
 use Rattle.verdicts.proofs.verdict.admits_each.Tie as tie
 
 abbrev Inv-loop : tie.InvT-loop
-Inv-loop dictionary number value first₀ first = AdmittedSoFar dictionary number value first
+Inv-loop dictionary number value first₀ first = AdmittedSoFar (admitsValue dictionary number) value first
 
 abbrev μ-loop : tie.MeasureT-loop
 μ-loop dictionary number value first₀ first = suc (length value) - first
 
 -- loop {
 loop-holds : tie.Need-loop-holds Inv-loop μ-loop
-loop-holds c = admitted-begins _ _ _
+loop-holds c = admitted-begins _ _
 
 -- let past = find(value, first, b' ');
 find-requires : tie.Need-find-requires Inv-loop μ-loop
@@ -37,7 +38,7 @@ admits-requires : tie.Need-admits-requires Inv-loop μ-loop
 admits-requires c κs = search needs
 
 returns : tie.Need-returns Inv-loop μ-loop
-returns c = c .admits .ensures ∙ sym (admitted-ends _ _ _ _ _ (c .before .before .before .before .loop .inv) (c .before .before .before .find .ensures .0) (c .before .before .if1 .taken))
+returns c = c .admits .ensures ∙ sym (admitted-ends _ _ _ _ (c .before .before .before .before .loop .inv) (c .before .before .before .find .ensures .0) (c .before .before .if1 .taken))
 
 -- if !admits(dictionary, number, &value[first..past]) {
 sub-admits-2 : tie.Need-sub-admits-2 Inv-loop μ-loop
@@ -54,7 +55,7 @@ admits-requires-2 c κs = search needs
 
 -- return false;
 returns-2 : tie.Need-returns-2 Inv-loop μ-loop
-returns-2 c = sym (admitted-fails _ _ _ _ _ (c .before .before .before .before .before .loop .inv) (c .before .before .before .before .find .ensures .0) (c .before .before .before .if1 .left) (sym (c .before .admits2 .ensures) ∙ not-true _ (c .if2 .taken)))
+returns-2 c = sym (admitted-fails _ _ _ _ (c .before .before .before .before .before .loop .inv) (c .before .before .before .before .find .ensures .0) (c .before .before .before .if1 .left) (sym (c .before .admits2 .ensures) ∙ not-true _ (c .if2 .taken)))
 
 -- first = past + 1;
 add-first : tie.Need-add-first Inv-loop μ-loop
@@ -65,7 +66,7 @@ loop-less : tie.Need-loop-less Inv-loop μ-loop
 loop-less c = search needs
 
 loop-again : tie.Need-loop-again Inv-loop μ-loop
-loop-again c = admitted-goes-on _ _ _ _ _ (c .before .before .before .before .before .loop .inv) (c .before .before .before .before .find .ensures .0) (c .before .before .before .if1 .left) (sym (c .before .admits2 .ensures) ∙ not-false _ (c .if2 .left))
+loop-again c = admitted-goes-on _ _ _ _ (c .before .before .before .before .before .loop .inv) (c .before .before .before .before .find .ensures .0) (c .before .before .before .if1 .left) (sym (c .before .admits2 .ensures) ∙ not-false _ (c .if2 .left))
 
 pub admits-each-spec : {M : Type 1} → statement M
 admits-each-spec =

@@ -31,7 +31,7 @@ check-value-requires c κs = search needs
 
 -- fn verdict_at(
 returns : tie.Need-returns
-returns c = c .check-value .ensures ∙ rw (c .before .before .before .before .before .before .before .pre .1 .1 .1, valueAt-part (c .before .before .before .before .before .before .before .args .fields .now) (c .before .before .before .before .before .before .before .args .message .now) (c .before .before .before .before .before .before .before .args .index) _ _ (c .before .before .before .first-at .ensures) (c .before .before .past-at .ensures)) (recordedVerdict-of _ _ _ _ (c .before .before .before .before .before .before .before .pre .0))
+returns c = c .check-value .ensures ∙ rw (c .before .before .before .before .before .before .before .pre .1 .1 .1, valueAt-part (c .before .before .before .before .before .before .before .args .fields .now) (c .before .before .before .before .before .before .before .args .message .now) (c .before .before .before .before .before .before .before .args .index) _ _ (c .before .before .before .first-at .ensures) (c .before .before .past-at .ensures)) (recordedVerdict-of _ _ _ _ (λ place. omega (arith, c .before .before .before .before .before .before .shared-slice-known .given place)) (c .before .before .before .before .before .before .before .pre .0))
 
 pub verdict-at-spec : {M : Type 1} → statement M
 verdict-at-spec =
