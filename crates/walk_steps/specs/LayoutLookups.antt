@@ -25,8 +25,8 @@ use Rattle.layouts.specs.LayoutCheck.{isLayout}
 use Rattle.layouts.specs.LayoutCheckFacts.{Passed, isLayout-passed}
 use Rattle.layouts.specs.LayoutCheckSound.{allGroups-in, layoutIn-begins}
 use Rattle.layouts.specs.LayoutCheckUnique.{arranged-unique}
-use Rattle.layouts.specs.Members.{groupNamed}
-use Rattle.layouts.specs.MembersLayout.{levelNumbered, group-numbered, entry-numbered, top-numbered, no-group-numbered, some-group-numbered}
+use Rattle.levels.specs.Members.{groupNamed}
+use Rattle.levels.specs.MembersLayout.{levelNumbered, group-numbered, entry-numbered, top-numbered, no-group-numbered, some-group-numbered}
 use Rattle.walk_steps.specs.WalkWords.{numberFound, groupOf, layoutOf, topMembers}
 use Rattle.walk_steps.specs.WalkWordsLaws.{groupOf-number}
 
