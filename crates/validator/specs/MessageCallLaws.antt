@@ -61,8 +61,8 @@ module _ (dictionary words fields message space : List ℕ) where
 -- ---- the whole walk
 
 module _ (dictionary words fields message : List ℕ) (accepted : Accepted dictionary words fields message) where
-  pub lent-with : (defined : List ℕ) → StrictlyAscending defined → length defined ≤ 10922 → Lent defined words fields message
-  lent-with defined ascends few = record {
+  pub lent-with : (defined : List ℕ) → defined ≡ definedTags dictionary → StrictlyAscending defined → length defined ≤ 10922 → Lent defined words fields message
+  lent-with defined are-defined ascends few = record {
     ascends = ascends;
     few-tags = few;
     passed = accepted .passed;

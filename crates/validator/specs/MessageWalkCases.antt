@@ -27,6 +27,7 @@ use Rattle.records.specs.LineLengths.{digitCount, lengthOf}
 use Rattle.dictionary.specs.DictionaryWords.{isOf, nameOf, namesOf, placeOf, recordsOf, indexOf, dictionaryWords}
 use Rattle.dictionary.specs.DictionaryCheck as check
 use Rattle.dictionary.specs.DictionaryCheck.{accepts, standsAt, standsEach, isIndex, isDictionary}
+use Rattle.dictionary.specs.DefinedFields.{valuesFirst, fieldsIn}
 use Rattle.layouts.specs.Layout.{Layout, level-of, no-groups, group-and, group-of, groupsBelow, levelOrder, allGroups, joined}
 use Rattle.layouts.specs.LayoutWords.{placesFrom, arrangedParts, arranged, stretch, stretches}
 use Rattle.layouts.specs.LayoutCheck.{neverFalls, isRun, isAhead, memberPlacesHold, requiredPlacesHold, groupPlacesHold, isLevel, levelsHold, delimitersHold, allLevelsHold, allDelimitersHold, isLayoutOf, isLayout}
@@ -106,7 +107,7 @@ pub record MessageCalls : Type 0 where
   pub then-table : walkedOf (dictionaryWords dictionary) (arranged parties) (35 ∷ 2 ∷ 1 ∷ []) (ascii "D") [] ≡ Refused (BadField 1)
 
 pub message-calls : MessageCalls
-unfolding isIn rankFrom rankIn groupsBelow levelOrder allGroups joined placesFrom arrangedParts arranged stretch walkGroup walkBy openingAt memberLeads entryBegins entryStops stepAt countOf isDigits nonEmpty every isBetween decimalFrom eventWords turnAt turnsFrom missingTags missingGroups messageEvents requiredFrom isStrictlyAbove isStrictlyAscending inserted sorted noLeadingZero numberOf isAlphanumeric stepOf holdsByte holdsPart lettersLength lettersText holdsLetters holdsValue recordOf isUnused outerFrom bodyFrom lineFrom digitCount lengthOf isOf nameOf namesOf placeOf recordsOf indexOf dictionaryWords linesFrom accepts check.countOf standsAt standsEach isIndex isDictionary stretches neverFalls isRun isAhead memberPlacesHold requiredPlacesHold groupPlacesHold isLevel levelsHold delimitersHold allLevelsHold allDelimitersHold isLayoutOf isLayout eventsWords isBadField badFrom tableCheckOf walkedOf eventsIn
+unfolding isIn rankFrom rankIn groupsBelow levelOrder allGroups joined placesFrom arrangedParts arranged stretch walkGroup walkBy openingAt memberLeads entryBegins entryStops stepAt countOf isDigits nonEmpty every isBetween decimalFrom eventWords turnAt turnsFrom missingTags missingGroups messageEvents requiredFrom isStrictlyAbove isStrictlyAscending inserted sorted noLeadingZero numberOf isAlphanumeric stepOf holdsByte holdsPart lettersLength lettersText holdsLetters holdsValue recordOf isUnused outerFrom bodyFrom lineFrom digitCount lengthOf isOf nameOf namesOf placeOf recordsOf indexOf dictionaryWords linesFrom accepts check.countOf standsAt standsEach isIndex isDictionary valuesFirst fieldsIn stretches neverFalls isRun isAhead memberPlacesHold requiredPlacesHold groupPlacesHold isLevel levelsHold delimitersHold allLevelsHold allDelimitersHold isLayoutOf isLayout eventsWords isBadField badFrom tableCheckOf walkedOf eventsIn
 message-calls = record {
   dictionary-passes = refl;
   list-in-full = refl;

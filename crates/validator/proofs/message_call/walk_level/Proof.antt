@@ -16,14 +16,14 @@ slice-aggregate-walk-fields : tie.Need-slice-aggregate-walk-fields
 slice-aggregate-walk-fields c = search needs
 
 walk-fields-requires : tie.Need-walk-fields-requires
-walk-fields-requires c κs = (lent-with (c .before .before .before .before .before .before .before .before .args .dictionary .now) (c .before .before .before .before .before .before .before .before .args .layout .now) (c .before .before .before .before .before .before .before .before .args .fields .now) (c .before .before .before .before .before .before .before .before .args .message .now) (c .before .before .before .before .before .before .before .before .pre) _ (c .before .before .defined-tags .ensures .1 .0) (c .before .before .defined-tags .ensures .1 .1), refl)
+walk-fields-requires c κs = (lent-with (c .before .before .before .before .before .before .before .before .args .dictionary .now) (c .before .before .before .before .before .before .before .before .args .layout .now) (c .before .before .before .before .before .before .before .before .args .fields .now) (c .before .before .before .before .before .before .before .before .args .message .now) (c .before .before .before .before .before .before .before .before .pre) _ (c .before .before .defined-tags .ensures .0) (c .before .before .defined-tags .ensures .1 .0) (c .before .before .defined-tags .ensures .1 .1), refl)
 
 -- put_missing(defined, layout, &seen, events, at)
 slice-aggregate-put-missing : tie.Need-slice-aggregate-put-missing
 slice-aggregate-put-missing c = search needs
 
 put-missing-requires : tie.Need-put-missing-requires
-put-missing-requires c κs = (record { ascends = lent-with (c .before .before .before .before .before .before .before .before .before .before .before .before .before .before .args .dictionary .now) (c .before .before .before .before .before .before .before .before .before .before .before .before .before .before .args .layout .now) (c .before .before .before .before .before .before .before .before .before .before .before .before .before .before .args .fields .now) (c .before .before .before .before .before .before .before .before .before .before .before .before .before .before .args .message .now) (c .before .before .before .before .before .before .before .before .before .before .before .before .before .before .pre) _ (c .before .before .before .before .before .before .before .before .defined-tags .ensures .1 .0) (c .before .before .before .before .before .before .before .before .defined-tags .ensures .1 .1) .ascends; few-tags = lent-with (c .before .before .before .before .before .before .before .before .before .before .before .before .before .before .args .dictionary .now) (c .before .before .before .before .before .before .before .before .before .before .before .before .before .before .args .layout .now) (c .before .before .before .before .before .before .before .before .before .before .before .before .before .before .args .fields .now) (c .before .before .before .before .before .before .before .before .before .before .before .before .before .before .args .message .now) (c .before .before .before .before .before .before .before .before .before .before .before .before .before .before .pre) _ (c .before .before .before .before .before .before .before .before .defined-tags .ensures .1 .0) (c .before .before .before .before .before .before .before .before .defined-tags .ensures .1 .1) .few-tags; wide = c .before .before .before .before .before .walk-fields .ensures .kept .stands .wide }, ((c .before .before .before .before .before .before .before .before .before .before .before .before .before .before .pre .passed, c .before .before .before .before .before .before .before .before .before .before .before .before .before .before .pre .few-groups), walked-few (c .before .before .before .before .before .before .before .before .before .before .before .before .before .before .args .dictionary .now) (c .before .before .before .before .before .before .before .before .before .before .before .before .before .before .args .layout .now) (c .before .before .before .before .before .before .before .before .before .before .before .before .before .before .args .fields .now) (c .before .before .before .before .before .before .before .before .before .before .before .before .before .before .args .message .now) (c .before .before .before .before .before .before .before .before .before .before .before .before .before .before .pre) _ _ _ _ (c .before .before .before .before .before .before .before .before .defined-tags .ensures .0) _ (c .before .before .before .before .before .walk-fields .ensures)))
+put-missing-requires c κs = (record { ascends = lent-with (c .before .before .before .before .before .before .before .before .before .before .before .before .before .before .args .dictionary .now) (c .before .before .before .before .before .before .before .before .before .before .before .before .before .before .args .layout .now) (c .before .before .before .before .before .before .before .before .before .before .before .before .before .before .args .fields .now) (c .before .before .before .before .before .before .before .before .before .before .before .before .before .before .args .message .now) (c .before .before .before .before .before .before .before .before .before .before .before .before .before .before .pre) _ (c .before .before .before .before .before .before .before .before .defined-tags .ensures .0) (c .before .before .before .before .before .before .before .before .defined-tags .ensures .1 .0) (c .before .before .before .before .before .before .before .before .defined-tags .ensures .1 .1) .ascends; few-tags = lent-with (c .before .before .before .before .before .before .before .before .before .before .before .before .before .before .args .dictionary .now) (c .before .before .before .before .before .before .before .before .before .before .before .before .before .before .args .layout .now) (c .before .before .before .before .before .before .before .before .before .before .before .before .before .before .args .fields .now) (c .before .before .before .before .before .before .before .before .before .before .before .before .before .before .args .message .now) (c .before .before .before .before .before .before .before .before .before .before .before .before .before .before .pre) _ (c .before .before .before .before .before .before .before .before .defined-tags .ensures .0) (c .before .before .before .before .before .before .before .before .defined-tags .ensures .1 .0) (c .before .before .before .before .before .before .before .before .defined-tags .ensures .1 .1) .few-tags; wide = c .before .before .before .before .before .walk-fields .ensures .kept .stands .wide }, ((c .before .before .before .before .before .before .before .before .before .before .before .before .before .before .pre .passed, c .before .before .before .before .before .before .before .before .before .before .before .before .before .before .pre .few-groups), walked-few (c .before .before .before .before .before .before .before .before .before .before .before .before .before .before .args .dictionary .now) (c .before .before .before .before .before .before .before .before .before .before .before .before .before .before .args .layout .now) (c .before .before .before .before .before .before .before .before .before .before .before .before .before .before .args .fields .now) (c .before .before .before .before .before .before .before .before .before .before .before .before .before .before .args .message .now) (c .before .before .before .before .before .before .before .before .before .before .before .before .before .before .pre) _ _ _ _ (c .before .before .before .before .before .before .before .before .defined-tags .ensures .0) _ (c .before .before .before .before .before .walk-fields .ensures)))
 
 -- fn walk_level(
 same-length : tie.Need-same-length
