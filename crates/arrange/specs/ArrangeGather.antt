@@ -16,10 +16,10 @@ use Rattle.layouts.specs.LayoutLaws.{groupTotal}
 use Rattle.layouts.specs.GatheredLayout.{column, endsFrom, Gathered}
 use Rattle.arrange.specs.declared.arrange.Gathering.{Gathering}
 use Rattle.expansion.specs.Expansion.{finish}
-use Rattle.arrange.specs.ArrangeTrace.{Start, levelAt, groupAt, topStart}
-use Rattle.arrange.specs.ArrangeGroups.{countTags}
-use Rattle.arrange.specs.ArrangeRows.{flagOf}
-use Rattle.arrange.specs.ArrangeWeightLaws.{counted, weightAll, countsMember, countsRequired, countsGroup}
+use Rattle.arrange_level.specs.ArrangeTrace.{Start, levelAt, groupAt, topStart}
+use Rattle.arrange_level.specs.ArrangeGroups.{countTags}
+use Rattle.arrange_level.specs.ArrangeRows.{flagOf}
+use Rattle.arrange_level.specs.ArrangeWeightLaws.{counted, weightAll, countsMember, countsRequired, countsGroup}
 
 abbrev pub groupsTold : List ℕ → List Start → List Group
 groupsTold trace starts = map (groupAt trace) starts

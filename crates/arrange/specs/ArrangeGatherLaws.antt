@@ -9,28 +9,28 @@ use lib.Dec.{eqb}
 use lib.ListN.{length, getD, set, take, drop, length-set, length-append, length-map, length-take}
 use lib.Seq.{sets, sets-eq, length-sets, length-take-le, getD-take, take-at, drop-at, take-append-le, take-take, take-append-add, append-snoc, getD-set-same, getD-set-other}
 use borrow.Author.Tests.{eq-eqb, ne-eqb}
-use Rattle.sorting.specs.Sort.{sorted}
-use Rattle.sorting.specs.SortLaws.{sorted-length}
-use Rattle.sorting.specs.Dedup.{deduped, dedupedIn}
-use Rattle.sorting.specs.DedupLaws.{deduped-length, dedupedIn-front, members-ascend}
+use Rattle.ascending.specs.Sort.{sorted}
+use Rattle.ascending.specs.SortLaws.{sorted-length}
+use Rattle.ascending.specs.Dedup.{deduped, dedupedIn}
+use Rattle.ascending.specs.DedupLaws.{deduped-length, dedupedIn-front, members-ascend}
 use Rattle.layouts.specs.Layout.{Level, Group, Layout, level-of, group-of, listed, grouped, membersOf, requiredOf, groupsOf, countTag, countTagsOf, delimiter, isRequired, entry, groupsBelow, levelOrder, allGroups, allLevels, joined}
 use Rattle.layouts.specs.LayoutLaws.{listed-grouped, map-append, groupTotal, groupTotal-append, groupTotal-first, groupsBelow-total, groupsWith-total}
 use Rattle.layouts.specs.LayoutWords.{flag}
 use Rattle.layouts.specs.GatheredLayout.{column, endsFrom, Gathered}
 use Rattle.layouts.specs.GatheredLayoutLaws.{column-set, column-set-next, endsFrom-more}
 use Rattle.arrange.specs.declared.arrange.Gathering.{Gathering}
-use Rattle.arrange.specs.declared.arrange_level.OwnLevel.{OwnLevel}
+use Rattle.arrange_level.specs.declared.arrange_level.OwnLevel.{OwnLevel}
 use Rattle.expansion.specs.Expansion.{OpenLevel, retained, sortedGroups, firstsOf, finish, finishEntry}
 use Rattle.expansion.specs.ExpansionLimits.{retained-length, sizeListed, finished-groups}
 use Rattle.expansion.specs.ExpansionGroups.{one, levels-with}
-use Rattle.arrange.specs.ArrangeTrace.{Start, Own, nothingOwn, finishAt, keptRequired, keptIn, ownAt, groupWith, withGroups, levelAt, groupAt, topStart}
-use Rattle.arrange.specs.ArrangeTraceLaws.{AllBehind, own-behind, own-past, level-told}
-use Rattle.arrange.specs.ArrangeGroups.{nowhere, firstNamed, countTags, tagsInOrder, inOrder}
-use Rattle.arrange.specs.ArrangeGroupsLaws.{groups-in-order}
-use Rattle.arrange.specs.ArrangeRows.{flagOf, RowIs, RowsPlaced}
-use Rattle.arrange.specs.ArrangeRowsLaws.{RowRoom, PlacedAll}
-use Rattle.arrange.specs.ArrangeWeightLaws.{counted, weigh-all, weightOf, weightAll, weightAll-append, weightAll-first, weightAll-none, weight-inOrder, countsMember, countsRequired, countsGroup, members-weight, required-weight, groups-weight, members-counted, required-counted}
-use Rattle.arrange.specs.ArrangeLevelLaws.{ReadRoom, OwnRead}
+use Rattle.arrange_level.specs.ArrangeTrace.{Start, Own, nothingOwn, finishAt, keptRequired, keptIn, ownAt, groupWith, withGroups, levelAt, groupAt, topStart}
+use Rattle.arrange_level.specs.ArrangeTraceLaws.{AllBehind, own-behind, own-past, level-told}
+use Rattle.arrange_level.specs.ArrangeGroups.{nowhere, firstNamed, countTags, tagsInOrder, inOrder}
+use Rattle.arrange_level.specs.ArrangeGroupsLaws.{groups-in-order}
+use Rattle.arrange_level.specs.ArrangeRows.{flagOf, RowIs, RowsPlaced}
+use Rattle.arrange_level.specs.ArrangeRowsLaws.{RowRoom, PlacedAll}
+use Rattle.arrange_level.specs.ArrangeWeightLaws.{counted, weigh-all, weightOf, weightAll, weightAll-append, weightAll-first, weightAll-none, weight-inOrder, countsMember, countsRequired, countsGroup, members-weight, required-weight, groups-weight, members-counted, required-counted}
+use Rattle.arrange_level.specs.ArrangeLevelLaws.{ReadRoom, OwnRead}
 use Rattle.arrange.specs.ArrangeGather.{groupsTold, levelsTold, layoutTold, levelCount, GatherRoom, GatheredSoFar, GatheredIn, LevelKept}
 
 -- ---- what a finished level has

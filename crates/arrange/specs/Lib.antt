@@ -1,13 +1,3 @@
--- Definitions and laws of the crate `arrange`: what a trace tells of the layout of a message type, level by level. A definition's laws
--- stand in the file of its name with `Laws`, its examples in the one with `Cases`.
-pub mod ArrangeTrace
-pub mod ArrangeTraceLaws
-pub mod ArrangeGroups
-pub mod ArrangeGroupsLaws
-pub mod ArrangeCases
-pub mod ArrangeLevelLaws
-pub mod ArrangeRows
-pub mod ArrangeRowsLaws
-pub mod ArrangeWeightLaws
+-- The definition and the laws of the crate `arrange`: what a trace tells of the layout of a message type, level by level.
 pub mod ArrangeGather
 pub mod ArrangeGatherLaws

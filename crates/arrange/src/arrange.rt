@@ -1,20 +1,20 @@
 // From the trace of an expansion to the parts of its layout, level by level in the order of the arrangement: the top, the entries of its
 // groups, the entries of theirs, and so on (specs/ArrangeGather.antt). What is gathered is what `put_layout` is lent.
-use crate::arrange_groups::open_rows;
-use crate::arrange_groups::place_groups;
-use crate::arrange_groups::word_of;
-use crate::arrange_level::in_order;
-use crate::arrange_level::keep_required;
-use crate::arrange_level::read_level;
+use arrange_level::arrange_groups::open_rows;
+use arrange_level::arrange_groups::place_groups;
+use arrange_level::arrange_groups::word_of;
+use arrange_level::arrange_level::in_order;
+use arrange_level::arrange_level::keep_required;
+use arrange_level::arrange_level::read_level;
 use layouts::layout_words::wide;
 ghost use mathlib.Core.Path.{_≡_};
 ghost use Prim.Native.Nat.{_+_, _*_, _-_, _≤_, _<_};
 ghost use lib.ListN.{length, take, drop};
-ghost use Rattle.sorting.specs.Sort.{sorted};
-ghost use Rattle.sorting.specs.Dedup.{deduped};
-ghost use Rattle.arrange.specs.ArrangeTrace.{ownAt, keptRequired};
-ghost use Rattle.arrange.specs.ArrangeGroups.{countTags, tagsInOrder};
-ghost use Rattle.arrange.specs.ArrangeRows.{RowsPlaced};
+ghost use Rattle.ascending.specs.Sort.{sorted};
+ghost use Rattle.ascending.specs.Dedup.{deduped};
+ghost use Rattle.arrange_level.specs.ArrangeTrace.{ownAt, keptRequired};
+ghost use Rattle.arrange_level.specs.ArrangeGroups.{countTags, tagsInOrder};
+ghost use Rattle.arrange_level.specs.ArrangeRows.{RowsPlaced};
 ghost use Rattle.arrange.specs.ArrangeGather.{GatherRoom, GatheredSoFar, GatheredIn, LevelKept};
 ghost use Rattle.arrange.specs.ArrangeGatherLaws.{closedRow};
 

@@ -1,4 +1,2 @@
-// From the trace of an expansion to the parts of its layout: each level read, put in order and gathered.
+// From the trace of an expansion to the parts of its layout, level by level.
 pub mod arrange;
-mod arrange_groups;
-mod arrange_level;

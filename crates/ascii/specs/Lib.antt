@@ -11,3 +11,4 @@ pub mod LettersLaws
 pub mod LettersCases
 pub mod Split
 pub mod SplitLaws
+pub mod Membership

@@ -28,9 +28,9 @@ use Rattle.lines.specs.declared.line_parts.Number32.{Number32}
 use Rattle.lines.specs.declared.line_parts.Number32.the-variants.{Number, NoNumber}
 use Rattle.lines.specs.declared.line_parts.MessageType.{MessageType}
 use Rattle.lines.specs.declared.line_parts.MessageType.the-variants.{Letters, NoLetters}
-use Rattle.texts.specs.declared.dictionary_order.State.{State}
-use Rattle.texts.specs.declared.dictionary_order.Step.{Step}
-use Rattle.texts.specs.DictionaryOrder.{start, standing, taken, notAllowed, openedBlock, closedBlock, usedIn, isNumber, isLetters, openGroup, closeGroup, closeComponent, closeMessage, endStep, stepOf}
+use Rattle.dictionary_order.specs.declared.dictionary_order.State.{State}
+use Rattle.dictionary_order.specs.declared.dictionary_order.Step.{Step}
+use Rattle.dictionary_order.specs.DictionaryOrder.{start, standing, taken, notAllowed, openedBlock, closedBlock, usedIn, isNumber, isLetters, openGroup, closeGroup, closeComponent, closeMessage, endStep, stepOf}
 use Rattle.dictionary.specs.DictionaryWords.{isOf, nameOf, placeOf}
 use Rattle.dictionary.specs.DictionaryCheck.{isTaken, accepts}
 use Rattle.records.specs.LineLengths.{lengthOf}

@@ -19,12 +19,12 @@ use Rattle.lines.specs.declared.line_parts.MessageType.{MessageType}
 use Rattle.lines.specs.declared.line_parts.MessageType.the-variants.{Letters, NoLetters}
 use Rattle.records.specs.Records.{recordOf, Words32}
 use Rattle.dictionary.specs.DictionaryCheck.{isDictionary}
-use Rattle.dictionary.specs.Definitions.{lineNumbered}
+use Rattle.definitions.specs.Definitions.{lineNumbered}
 use Rattle.bodies.specs.declared.body_line.BodyLine.{BodyLine}
 use Rattle.bodies.specs.declared.body_line.BodyLine.the-variants as read
 use Rattle.bodies.specs.DictionaryPlaces.{IsOther}
 use Rattle.dictionary.specs.DictionaryWords.{wordLines}
-use Rattle.dictionary.specs.WordLinesLaws.{line-at, word-at}
+use Rattle.definitions.specs.WordLinesLaws.{line-at, word-at}
 
 unfoldable pub readFrom : List ℕ → BodyLine
 readFrom words =

@@ -17,26 +17,26 @@ use lib.ListN.{length, getD, take, drop, length-drop, length-map, List·getD-map
 use lib.Seq.{drop-drop, getD-take, getD-drop, getD-append-add, take-append-seam, length-take-le, take-take}
 use borrow.Author.Tests.{ltb-true, ltb-false, lt-ltb, le-ltb, eqb-true, eqb-false}
 use Rattle.ascii.specs.Notation.{_<ᵇ_, if_then_else_}
-use Rattle.sorting.specs.declared.search.Found.{Found}
-use Rattle.sorting.specs.declared.search.Found.the-variants.{At, Nothing}
-use Rattle.sorting.specs.Sort.{sorted, isIn}
-use Rattle.sorting.specs.SortLaws.{sorted-length, isIn-sorted}
-use Rattle.sorting.specs.Search.{rankFrom, rankIn, isFound}
-use Rattle.sorting.specs.SearchLaws.{isFound-rank}
+use Rattle.ascending.specs.declared.search.Found.{Found}
+use Rattle.ascending.specs.declared.search.Found.the-variants.{At, Nothing}
+use Rattle.ascending.specs.Sort.{sorted, isIn}
+use Rattle.ascending.specs.SortLaws.{sorted-length, isIn-sorted}
+use Rattle.ascending.specs.Search.{rankFrom, rankIn, isFound}
+use Rattle.ascending.specs.SearchLaws.{isFound-rank}
 use Rattle.line_forms.specs.declared.line.Line.{Line}
 use Rattle.line_forms.specs.declared.line.Line.the-variants.{Def, Value, BeginHeader, BeginTrailer, EndHeader, EndTrailer, Component, Message, Field, Group, Use, End, Member, RequiredTag, Unknown}
 use Rattle.lines.specs.declared.line_parts.Number32.{Number32}
 use Rattle.lines.specs.declared.line_parts.Number32.the-variants.{Number, NoNumber}
 use Rattle.lines.specs.declared.line_parts.MessageType.{MessageType}
 use Rattle.lines.specs.declared.line_parts.MessageType.the-variants.{Letters, NoLetters}
-use Rattle.texts.specs.DictionaryOrder.{start}
+use Rattle.dictionary_order.specs.DictionaryOrder.{start}
 use Rattle.records.specs.Records.{recordOf, lineFrom, linesFrom, Words32}
 use Rattle.dictionary.specs.DictionaryWords.{isOf, nameOf, placeOf, wordLines}
 use Rattle.dictionary.specs.DictionaryCheck.{standsAt, isIndex, tagsAt, componentsAt, messagesAt, sizeOf, isDictionary}
-use Rattle.dictionary.specs.Definitions as Words
-use Rattle.dictionary.specs.DefinitionsLaws.{isDictionary-parts}
-use Rattle.dictionary.specs.DefinitionsLaws as Passed
-use Rattle.dictionary.specs.WordLinesLaws.{lines-counted, less-suc, placedAt, word-at, recordIn-line}
+use Rattle.definitions.specs.Definitions as Words
+use Rattle.definitions.specs.DefinitionsLaws.{isDictionary-parts}
+use Rattle.definitions.specs.DefinitionsLaws as Passed
+use Rattle.definitions.specs.WordLinesLaws.{lines-counted, less-suc, placedAt, word-at, recordIn-line}
 use Rattle.expansion.specs.Dictionary.{Body, Blocks, Dictionary, FoundBody, nothingRead, usesOf, innermost, aroundIt, before, blocksOf, dictionaryOf, bodyCalled, componentOf, messageOf}
 use Rattle.expansion.specs.Dictionary as Tree
 use Rattle.bodies.specs.DictionaryInWords.{dictionaryIn}

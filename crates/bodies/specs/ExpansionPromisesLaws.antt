@@ -15,7 +15,7 @@ use Rattle.refusals.specs.declared.refusal.Refusal.the-variants.{ComponentNotDe
 use Rattle.line_forms.specs.declared.line.Line.{Line}
 use Rattle.line_forms.specs.declared.line.Line.the-variants.{Def, Value, BeginHeader, BeginTrailer, EndHeader, EndTrailer, Component, Message, Field, Group, Use, End, Member, RequiredTag, Unknown}
 use Rattle.layouts.specs.Limits.{gateLimits}
-use Rattle.sorting.specs.Sort.{isIn}
+use Rattle.ascending.specs.Sort.{isIn}
 use Rattle.records.specs.Records.{Words32}
 use Rattle.dictionary.specs.DictionaryCheck.{isDictionary}
 use Rattle.expansion.specs.declared.builder.Builder as Code
@@ -29,7 +29,7 @@ use Rattle.expansion.specs.Dictionary.{FieldRef, ComponentRef, Body, GroupDef, 
 use Rattle.bodies.specs.DictionaryPlaces.{openAt, InOrder, OnlyUses, IsOther, inside-body, at-field, at-group, at-use, at-end}
 use Rattle.dictionary.specs.DictionaryWords.{wordLines}
 use Rattle.bodies.specs.DictionaryInWords.{dictionaryIn}
-use Rattle.dictionary.specs.WordLinesLaws.{lines-counted, line-at}
+use Rattle.definitions.specs.WordLinesLaws.{lines-counted, line-at}
 use Rattle.bodies.specs.DictionaryLookups.{bodyAt, aroundAt, BodyAt, body-there, lines-in-order}
 use Rattle.expansion.specs.Expansion.{OpenLevel, Work, Granted, Denied, Spent, onGranted, spend, noted, addMember, addField, openEntry, closeGroup, fillBody, addGroup, addComponent}
 use Rattle.expansion.specs.Trace.{Frame, First, InWork, withLevel, builderOf, workOf, nodeMore, wordMore, Adds, SpendsNode, Fits, Grown, Grows, Enters, Leaves, entered, left}

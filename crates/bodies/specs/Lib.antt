@@ -8,5 +8,3 @@ pub mod BodyLines
 pub mod FillLaws
 pub mod ExpansionPromises
 pub mod ExpansionPromisesLaws
-pub mod BuildPromises
-pub mod BuildPromisesLaws

@@ -5,7 +5,8 @@
 // (builder.rt), so that a level needs no memory of its own. `path` has the names of the open components, the one opened last first: the Rust's HashSet.
 use crate::body_line::BodyLine;
 use crate::body_line::body_line;
-use dictionary::definitions::component_of;
+use ascending::search::Found;
+use definitions::definitions::component_of;
 use expansion::builder::Added;
 use expansion::builder::Builder;
 use expansion::builder::Stop;
@@ -15,7 +16,6 @@ use expansion::builder::leave_group;
 use expansion::builder::spend;
 use expansion::seen::contains;
 use refusals::refusal::Refusal;
-use sorting::search::Found;
 ghost use mathlib.Core.Path.{_≡_};
 ghost use mathlib.Core.Bool.{_&&_};
 ghost use mathlib.Core.List.{_∷_};

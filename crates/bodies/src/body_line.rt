@@ -5,7 +5,7 @@ ghost use mathlib.Core.Bool.{true};
 ghost use Prim.Native.Nat.{_<_};
 ghost use lib.ListN.{length, getD};
 ghost use Rattle.dictionary.specs.DictionaryCheck.{isDictionary};
-ghost use Rattle.dictionary.specs.Definitions.{lineNumbered};
+ghost use Rattle.definitions.specs.Definitions.{lineNumbered};
 ghost use Rattle.bodies.specs.BodyLines.{readFrom, Tells};
 
 // The kinds of the records of a body.

@@ -11,12 +11,12 @@ use mathlib.Core.Bool.{Bool, true, false, _&&_}
 use mathlib.Core.List.{List, [], _∷_}
 use lib.ListN.{length, getD, take, drop}
 use Rattle.ascii.specs.Notation.{_≤ᵇ_, _<ᵇ_, _≡ᵇ_, if_then_else_, isBetween}
-use Rattle.sorting.specs.Search.{isStrictlyAscending}
+use Rattle.ascending.specs.Search.{isStrictlyAscending}
 use Rattle.line_forms.specs.declared.line.Line.{Line}
-use Rattle.texts.specs.declared.dictionary_order.State.{State}
-use Rattle.texts.specs.declared.dictionary_order.Fault.{Fault}
-use Rattle.texts.specs.declared.dictionary_order.Fault.the-variants.{NoFault, Faulty}
-use Rattle.texts.specs.DictionaryOrder.{start, stepOf, behindTrailer, behindMessage}
+use Rattle.dictionary_order.specs.declared.dictionary_order.State.{State}
+use Rattle.dictionary_order.specs.declared.dictionary_order.Fault.{Fault}
+use Rattle.dictionary_order.specs.declared.dictionary_order.Fault.the-variants.{NoFault, Faulty}
+use Rattle.dictionary_order.specs.DictionaryOrder.{start, stepOf, behindTrailer, behindMessage}
 use Rattle.records.specs.Records.{linesFrom}
 use Rattle.records.specs.LineLengths.{lengthOf}
 use Rattle.dictionary.specs.DictionaryWords as kinds

@@ -11,11 +11,11 @@ use lib.Seq.{drop-drop, drop-cons, getD-drop}
 use borrow.Author.Tests.{le-leb, lt-leb, leb-true, leb-false, eq-eqb, ne-eqb}
 use Rattle.ascii.specs.Notation.{isBetween}
 use Rattle.ascii.specs.NotationLaws.{and-left, and-right, and-true, and-false, and-assoc}
-use Rattle.sorting.specs.Search.{isStrictlyAbove, isStrictlyAscending}
+use Rattle.ascending.specs.Search.{isStrictlyAbove, isStrictlyAscending}
 use Rattle.line_forms.specs.declared.line.Line.{Line}
 use Rattle.line_forms.specs.declared.line.Line.the-variants.{Def, Value, BeginHeader, BeginTrailer, EndHeader, EndTrailer, Component, Message, Field, Group, Use, End, Member, RequiredTag, Unknown}
-use Rattle.texts.specs.declared.dictionary_order.State.{State}
-use Rattle.texts.specs.DictionaryOrder.{start, stepOf, behindTrailer, behindMessage}
+use Rattle.dictionary_order.specs.declared.dictionary_order.State.{State}
+use Rattle.dictionary_order.specs.DictionaryOrder.{start, stepOf, behindTrailer, behindMessage}
 use Rattle.texts.specs.DictionaryOrderLaws.{step-depth}
 use Rattle.records.specs.Records.{lineFrom, linesFrom}
 use Rattle.records.specs.KnownLines.{isKnown, AreKnown}

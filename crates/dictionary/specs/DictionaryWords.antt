@@ -21,7 +21,7 @@ use mathlib.Core.Bool.{Bool, _&&_}
 use mathlib.Core.List.{List, [], _∷_, _++_, map}
 use lib.ListN.{length, getD, drop}
 use Rattle.ascii.specs.Notation.{_≡ᵇ_, if_then_else_}
-use Rattle.sorting.specs.Sort.{sorted}
+use Rattle.ascending.specs.Sort.{sorted}
 use Rattle.line_forms.specs.declared.line.Line.{Line}
 use Rattle.lines.specs.Lines.{Pieces, last, piece}
 use Rattle.line_forms.specs.LineForms.{lineOf}

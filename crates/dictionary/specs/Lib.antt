@@ -1,5 +1,5 @@
--- Definitions and laws of the crate `dictionary`: the words of a dictionary. A definition's laws stand in the file of its name with `Laws`, its
--- examples in the one with `Cases`.
+-- Definitions and laws of the crate `dictionary`: the words of a dictionary and their check. A definition's laws stand in the file of its name
+-- with `Laws`.
 pub mod DictionaryWords
 pub mod DictionaryCheck
 pub mod LinesTaken
@@ -8,14 +8,3 @@ pub mod LineOrderLaws
 pub mod LineRuns
 pub mod LineRunsLaws
 pub mod DictionaryCheckLaws
-pub mod Definitions
-pub mod DictionaryCases
-pub mod DefinitionsLaws
-pub mod IndexLaws
-pub mod PassAccepted
-pub mod AcceptedPass
-pub mod DefinedFields
-pub mod WordLinesLaws
-pub mod DefinedFieldsLaws
-pub mod DefinedTags
-pub mod DefinedTagsLaws

@@ -7,9 +7,9 @@
 use mathlib.Core.Path.{_≡_}
 use Prim.Native.Nat.{ℕ}
 use mathlib.Core.List.{List}
-use Rattle.texts.specs.declared.dictionary_order.State.{State}
-use Rattle.texts.specs.declared.dictionary_order.Step.{Step}
-use Rattle.texts.specs.DictionaryOrder as order
+use Rattle.dictionary_order.specs.declared.dictionary_order.State.{State}
+use Rattle.dictionary_order.specs.declared.dictionary_order.Step.{Step}
+use Rattle.dictionary_order.specs.DictionaryOrder as order
 use Rattle.dictionary.specs.declared.line_order.Standing.{Standing}
 use Rattle.dictionary.specs.DictionaryCheck.{isTaken}
 

@@ -8,10 +8,10 @@ use lib.ListN.{getD}
 use Rattle.ascii.specs.Notation.{isBetween}
 use Rattle.lines.specs.declared.line_parts.Number32.{Number32}
 use Rattle.lines.specs.declared.line_parts.MessageType.{MessageType}
-use Rattle.texts.specs.declared.dictionary_order.State.{State}
-use Rattle.texts.specs.declared.dictionary_order.Step.{Step}
-use Rattle.texts.specs.DictionaryOrder as order
-use Rattle.texts.specs.DictionaryOrder.{taken, notAllowed, closedBlock, openedBlock, usedIn, isNumber, isLetters, closeGroup, closeComponent, closeMessage, defStep, valueStep, openBlock, closeBlock, fieldStep, useStep, endStep}
+use Rattle.dictionary_order.specs.declared.dictionary_order.State.{State}
+use Rattle.dictionary_order.specs.declared.dictionary_order.Step.{Step}
+use Rattle.dictionary_order.specs.DictionaryOrder as order
+use Rattle.dictionary_order.specs.DictionaryOrder.{taken, notAllowed, closedBlock, openedBlock, usedIn, isNumber, isLetters, closeGroup, closeComponent, closeMessage, defStep, valueStep, openBlock, closeBlock, fieldStep, useStep, endStep}
 use Rattle.dictionary.specs.LineOrder.{stateOf, standingOf}
 
 counts-either : (test : Bool) (this that : Step) (counts : List ℕ) → this .next .counts ≡ counts → that .next .counts ≡ counts → cond test this that .next .counts ≡ counts

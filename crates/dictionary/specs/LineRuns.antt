@@ -12,7 +12,7 @@ use mathlib.Core.Bool.{Bool, true, false, _&&_}
 use mathlib.Core.List.{List}
 use lib.ListN.{getD, take, drop}
 use Rattle.ascii.specs.Notation.{_≡ᵇ_, if_then_else_}
-use Rattle.texts.specs.DictionaryOrder as order
+use Rattle.dictionary_order.specs.DictionaryOrder as order
 use Rattle.lines.specs.LineParts.{isVisible}
 use Rattle.records.specs.Records.{holdsPart, defFrom, valueFrom, fieldFrom, linesFrom}
 use Rattle.records.specs.LineLengths.{digitCount, lengthOf, textLength}

@@ -15,9 +15,9 @@ use Rattle.ascii.specs.NotationLaws.{and-left, and-right, isBetween-from}
 use Rattle.lines.specs.LineParts.{isVisible}
 use Rattle.line_forms.specs.declared.line.Line.{Line}
 use Rattle.line_forms.specs.declared.line.Line.the-variants.{Def, Value, Field, Unknown}
-use Rattle.texts.specs.declared.dictionary_order.State.{State}
-use Rattle.texts.specs.DictionaryOrder as order
-use Rattle.texts.specs.DictionaryOrder.{taken, closedBlock, stepOf}
+use Rattle.dictionary_order.specs.declared.dictionary_order.State.{State}
+use Rattle.dictionary_order.specs.DictionaryOrder as order
+use Rattle.dictionary_order.specs.DictionaryOrder.{taken, closedBlock, stepOf}
 use Rattle.records.specs.Records.{holdsPart, holdsValue, isUnused, admittedFrom, defFrom, valueFrom, fieldFrom, outerFrom, bodyFrom, lineFrom, linesFrom}
 use Rattle.records.specs.WordPairs.{pairAt}
 use Rattle.records.specs.RecordsLaws.{or-least, or-none, isUnused-short}

@@ -10,8 +10,8 @@ use mathlib.Core.Bool.{Bool, _&&_}
 use mathlib.Core.List.{List, [], _∷_}
 use Rattle.ascii.specs.Notation.{_≡ᵇ_, if_then_else_, isBetween}
 use Rattle.line_forms.specs.declared.line.Line.{Line}
-use Rattle.texts.specs.declared.dictionary_order.State.{State}
-use Rattle.texts.specs.DictionaryOrder.{stepOf, behindTrailer, behindMessage}
+use Rattle.dictionary_order.specs.declared.dictionary_order.State.{State}
+use Rattle.dictionary_order.specs.DictionaryOrder.{stepOf, behindTrailer, behindMessage}
 use Rattle.dictionary.specs.DictionaryWords as kinds
 use Rattle.dictionary.specs.DictionaryCheck.{isTaken, countOf}
 

@@ -1,24 +1,24 @@
 // The order of the lines of a dictionary text, as in texts, where the count tags of the open group blocks stand in an array that is lent, so that no line copies them.
+use dictionary_order::dictionary_order::BEGINNING;
+use dictionary_order::dictionary_order::BEHIND_HEADER;
+use dictionary_order::dictionary_order::BEHIND_MESSAGE;
+use dictionary_order::dictionary_order::BEHIND_TRAILER;
+use dictionary_order::dictionary_order::COMPONENT;
+use dictionary_order::dictionary_order::DEFINITIONS;
+use dictionary_order::dictionary_order::FIELDS;
+use dictionary_order::dictionary_order::GROUPS;
+use dictionary_order::dictionary_order::HEADER;
+use dictionary_order::dictionary_order::MESSAGE;
+use dictionary_order::dictionary_order::NO_BODY;
+use dictionary_order::dictionary_order::TRAILER;
+use dictionary_order::dictionary_order::USES;
+use dictionary_order::dictionary_order::is_number;
 use line_forms::line::Line;
 use lines::line_parts::MessageType;
 use lines::line_parts::Number32;
-use texts::dictionary_order::BEGINNING;
-use texts::dictionary_order::BEHIND_HEADER;
-use texts::dictionary_order::BEHIND_MESSAGE;
-use texts::dictionary_order::BEHIND_TRAILER;
-use texts::dictionary_order::COMPONENT;
-use texts::dictionary_order::DEFINITIONS;
-use texts::dictionary_order::FIELDS;
-use texts::dictionary_order::GROUPS;
-use texts::dictionary_order::HEADER;
-use texts::dictionary_order::MESSAGE;
-use texts::dictionary_order::NO_BODY;
-use texts::dictionary_order::TRAILER;
-use texts::dictionary_order::USES;
-use texts::dictionary_order::is_number;
 ghost use mathlib.Core.Path.{_≡_};
 ghost use Prim.Native.Nat.{ℕ, _≤_};
-ghost use Rattle.texts.specs.DictionaryOrder.{taken, notAllowed, openedBlock, closedBlock, usedIn, isLetters, defStep, valueStep, openBlock, closeBlock, fieldStep, groupStep, useStep, endStep, stepOf};
+ghost use Rattle.dictionary_order.specs.DictionaryOrder.{taken, notAllowed, openedBlock, closedBlock, usedIn, isLetters, defStep, valueStep, openBlock, closeBlock, fieldStep, groupStep, useStep, endStep, stepOf};
 ghost use Rattle.dictionary.specs.LineOrder.{stateOf, standingOf, Follows};
 
 // Whether a line was taken, and the state behind it without the count tags of the open group blocks: see State in texts.

@@ -4,12 +4,12 @@
 // Two words of a record are read as one number, `head` the first two and `next` those behind them. What the records of a run must not have is joined over the
 // run and tested once: a test of each record takes longer.
 use crate::line_order::Standing;
+use dictionary_order::dictionary_order::DEFINITIONS;
+use dictionary_order::dictionary_order::FIELDS;
+use dictionary_order::dictionary_order::NO_BODY;
 use records::line_texts::type_length;
 use records::records::holds_visible_part;
 use records::records::pair_at;
-use texts::dictionary_order::DEFINITIONS;
-use texts::dictionary_order::FIELDS;
-use texts::dictionary_order::NO_BODY;
 ghost use mathlib.Core.Path.{_≡_};
 ghost use mathlib.Core.Bool.{true, false};
 ghost use Prim.Native.Nat.{_+_, _*_, _/_, _%_, _≤_};

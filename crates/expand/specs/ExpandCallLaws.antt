@@ -35,10 +35,10 @@ use Rattle.expansion.specs.ExpansionRules.{expanded-rules}
 use Rattle.expansion.specs.ExpansionLimits.{expanded-limits}
 use Rattle.expansion.specs.ExpansionGroups.{expanded-groups}
 use Rattle.expansion.specs.Trace.{Fits}
-use Rattle.bodies.specs.BuildPromises.{topFrame, Traced}
-use Rattle.arrange.specs.ArrangeTrace.{groupAt, topStart}
-use Rattle.arrange.specs.ArrangeTraceLaws.{trace-told}
-use Rattle.arrange.specs.ArrangeWeightLaws.{members-counted, required-counted, groups-counted}
+use Rattle.build.specs.BuildPromises.{topFrame, Traced}
+use Rattle.arrange_level.specs.ArrangeTrace.{groupAt, topStart}
+use Rattle.arrange_level.specs.ArrangeTraceLaws.{trace-told}
+use Rattle.arrange_level.specs.ArrangeWeightLaws.{members-counted, required-counted, groups-counted}
 use Rattle.arrange.specs.ArrangeGather.{layoutTold, levelCount, GatherRoom, GatheredIn}
 use Rattle.arrange.specs.ArrangeGatherLaws.{levelCount-within}
 use Rattle.expand.specs.ExpandCall.{layoutAnswer, layoutWith, expandedOf, expandedIn}

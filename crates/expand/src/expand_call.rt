@@ -128,7 +128,7 @@ fn expand_long(dictionary: &[u32], message_type: &[u8], layout: &mut [u32]) -> E
     ensures memory { λ _. ⌜ now (layout .exit) ≡ expandedIn (now (dictionary .entry)) (now («message_type» .entry)) (now (layout .entry)) ⌝ }
 {
     let mut trace = [0u64; 14336];
-    match bodies::build::expand(dictionary, message_type, &mut trace) {
+    match build::build::expand(dictionary, message_type, &mut trace) {
         Added::Stopped(stop) => match stop {
             Stop::Error(refusal) => Expanded::Refused(refusal),
             Stop::NoRoom => Expanded::Refused(Refusal::MembersOver),
@@ -148,7 +148,7 @@ fn expand_short(dictionary: &[u32], message_type: &[u8], layout: &mut [u32]) -> 
     ensures memory { λ _. ⌜ now (layout .exit) ≡ expandedIn (now (dictionary .entry)) (now («message_type» .entry)) (now (layout .entry)) ⌝ }
 {
     let mut trace = [0u64; 1024];
-    match bodies::build::expand(dictionary, message_type, &mut trace) {
+    match build::build::expand(dictionary, message_type, &mut trace) {
         Added::Stopped(stop) => match stop {
             Stop::Error(refusal) => Expanded::Refused(refusal),
             Stop::NoRoom => expand_long(dictionary, message_type, layout),

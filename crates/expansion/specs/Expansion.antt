@@ -28,8 +28,8 @@ use Rattle.refusals.specs.declared.refusal.Refusal.the-variants.{TextTooLong, U
 use Rattle.lines.specs.declared.line_parts.MessageType.{MessageType}
 use Rattle.lines.specs.declared.line_parts.MessageType.the-variants.{Letters, NoLetters}
 use Rattle.lines.specs.LineParts.{messageTypeOf}
-use Rattle.sorting.specs.Sort.{sorted, isIn}
-use Rattle.sorting.specs.Dedup.{deduped}
+use Rattle.ascending.specs.Sort.{sorted, isIn}
+use Rattle.ascending.specs.Dedup.{deduped}
 use Rattle.layouts.specs.Limits.{Limits}
 use Rattle.layouts.specs.Layout.{Level, Group, Layout, level-of, group-of, grouped, countTag}
 use Rattle.expansion.specs.Dictionary.{FieldRef, ComponentRef, Body, GroupDefs, no-group-defs, group-def-and, GroupDef, Dictionary, FoundBody, Found, NotFound, fieldsOf, groupDefsOf, usesOf, countTagOf, delimiterOf, isNeeded, entryBody, componentOf, messageOf}

@@ -20,8 +20,8 @@ use Rattle.refusals.specs.declared.refusal.Refusal.the-variants.{TypeNotDefined
 use Rattle.lines.specs.Lines.{positionOf, startsWith, isSame, longer, cut}
 use Rattle.lines.specs.LineParts.{noLeadingZero, numberOf, flagOf, typeIn, typeOf, wordAt, isAlphanumeric, messageTypeOf, valueOf}
 use Rattle.line_forms.specs.LineForms.{defOf, beginOf, messageOf, fieldOf, groupRest, groupOf, useOf, endOf, blockLineOf, definitionLineOf, lineOf}
-use Rattle.sorting.specs.Sort.{inserted, sorted, isIn}
-use Rattle.sorting.specs.Dedup.{dedupedAfter, deduped}
+use Rattle.ascending.specs.Sort.{inserted, sorted, isIn}
+use Rattle.ascending.specs.Dedup.{dedupedAfter, deduped}
 use Rattle.layouts.specs.Limits.{Limits, gateLimits}
 use Rattle.layouts.specs.Layout.{level-of, no-groups, group-and, group-of}
 use Rattle.expansion.specs.Dictionary.{Body, body-of, GroupDefs, no-group-defs, group-def-and, group-def, ComponentRef, Dictionary, emptyBody, blocksOf, dictionaryOf, bodyCalled}

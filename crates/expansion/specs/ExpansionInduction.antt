@@ -12,7 +12,7 @@ use lib.Dec.{ltb}
 use borrow.Author.Tests.{ltb-true}
 use Rattle.refusals.specs.declared.refusal.Refusal.{Refusal}
 use Rattle.refusals.specs.declared.refusal.Refusal.the-variants.{ComponentNotDefined, TooDeep, OutOfNodes}
-use Rattle.sorting.specs.Sort.{isIn}
+use Rattle.ascending.specs.Sort.{isIn}
 use Rattle.layouts.specs.Limits.{Limits}
 use Rattle.expansion.specs.Dictionary.{FieldRef, ComponentRef, Body, GroupDefs, no-group-defs, group-def-and, GroupDef, Dictionary, FoundBody, Found, NotFound, fieldsOf, groupDefsOf, usesOf, countTagOf, delimiterOf, isNeeded, entryBody, componentOf}
 use Rattle.expansion.specs.Expansion.{Work, Granted, Denied, onGranted, noted, ranOut, withNode, addMember, addRequired, addField, spend, openEntry, closeGroup, eachField, eachGroup, eachUse, fillBody, unlessOpen, onComponent, addGroup, addComponent, depthsLeft, addEnvelope, build, nothingSpent, emptyLevel}

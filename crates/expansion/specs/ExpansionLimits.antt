@@ -14,9 +14,9 @@ use lib.ListN.{length, length-append}
 use borrow.Author.Tests.{le-leb}
 use Rattle.ascii.specs.NotationLaws.{and-both}
 use Rattle.refusals.specs.declared.refusal.Refusal.the-variants.{MembersOver}
-use Rattle.sorting.specs.Sort.{sorted, isIn}
-use Rattle.sorting.specs.SortLaws.{sorted-length}
-use Rattle.sorting.specs.DedupLaws.{deduped-length}
+use Rattle.ascending.specs.Sort.{sorted, isIn}
+use Rattle.ascending.specs.SortLaws.{sorted-length}
+use Rattle.ascending.specs.DedupLaws.{deduped-length}
 use Rattle.layouts.specs.Limits.{Limits}
 use Rattle.layouts.specs.Layout.{Level, Groups, Group, Layout, level-of, no-groups, group-and, group-of, listed, grouped, groupsOf, membersOf, requiredOf, countTag, entry, groupsBelow, levelOrder, allGroups, allLevels, allMembers, allRequired, joined}
 use Rattle.layouts.specs.LayoutLaws.{listed-grouped, groupTotal, groupTotal-first, groupsBelow-total}

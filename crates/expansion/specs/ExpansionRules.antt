@@ -13,10 +13,10 @@ use lib.Dec.{eqb, leb}
 use borrow.Author.Tests.{eq-eqb, eqb-true}
 use Rattle.ascii.specs.Bytes.{every}
 use Rattle.ascii.specs.NotationLaws.{and-both}
-use Rattle.sorting.specs.Sort.{inserted, sorted, isIn}
-use Rattle.sorting.specs.Dedup.{dedupedAfter, deduped}
-use Rattle.sorting.specs.DedupLaws.{members-ascend, isIn-members}
-use Rattle.sorting.specs.SearchLaws.{strictly-isStrictlyAscending}
+use Rattle.ascending.specs.Sort.{inserted, sorted, isIn}
+use Rattle.ascending.specs.Dedup.{dedupedAfter, deduped}
+use Rattle.ascending.specs.DedupLaws.{members-ascend, isIn-members}
+use Rattle.ascending.specs.SearchLaws.{strictly-isStrictlyAscending}
 use Rattle.layouts.specs.Limits.{Limits}
 use Rattle.layouts.specs.Layout.{Group, Layout, group-of, membersOf, countTagsOf, countTag}
 use Rattle.layouts.specs.LayoutLaws.{listed-grouped, map-append, everyBelow, everyGroup-below}

@@ -7,7 +7,7 @@ use mathlib.Core.Bool.{Bool, _||_}
 use mathlib.Core.List.{List, [], _++_}
 use lib.ListN.{length, drop}
 use Rattle.ascii.specs.Notation.{_≡ᵇ_}
-use Rattle.sorting.specs.Sort.{isIn}
+use Rattle.ascending.specs.Sort.{isIn}
 use Rattle.expansion.specs.Expansion.{retained}
 
 unfoldable pub isDropped : ℕ → List ℕ → ℕ → Bool

@@ -10,7 +10,7 @@ use lib.ListN.{length, getD, take, drop, set, length-set, take-append-drop, drop
 use lib.Seq.{length-take-le, take-suc-set, drop-set-lt, getD-drop, drop-drop, append-snoc}
 use borrow.Author.Tests.{eq-eqb, ne-eqb}
 use Rattle.ascii.specs.BytesLaws.{drop-step}
-use Rattle.sorting.specs.Sort.{isIn}
+use Rattle.ascending.specs.Sort.{isIn}
 use Rattle.expansion.specs.Expansion.{retained}
 use Rattle.expansion.specs.ExpansionRules.{isIn-append}
 use Rattle.expansion.specs.Retained.{isDropped, retainedIn}

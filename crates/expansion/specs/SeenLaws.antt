@@ -6,7 +6,7 @@ use mathlib.Core.List.{List}
 use lib.ListN.{length, getD, drop, drop-of-length-le}
 use borrow.Author.Tests.{eq-eqb, ne-eqb}
 use Rattle.ascii.specs.BytesLaws.{drop-step}
-use Rattle.sorting.specs.Sort.{isIn}
+use Rattle.ascending.specs.Sort.{isIn}
 
 module _ (word : ℕ) (words : List ℕ) (index : ℕ) where
   pub seen-found : index < length words → getD words index 0 ≡ word → isIn word (drop index words) ≡ true

@@ -1,6 +1,6 @@
 // Words that were seen. The Rust's HashSet: here the words stand in a slice.
 ghost use mathlib.Core.Path.{_≡_};
-ghost use Rattle.sorting.specs.Sort.{isIn};
+ghost use Rattle.ascending.specs.Sort.{isIn};
 
 // The Rust's HashSet::contains.
 pub fn contains(words: &[u32], word: u32) -> bool

@@ -1,5 +1,3 @@
--- Definitions of the crate `gate`: what its calls answer.
-pub mod Outcome
-pub mod LayoutOutcome
-pub mod OutcomeLaws
-pub mod ExpandOutcome
+-- The definition and the laws of the crate `gate`: what `gate_level_members` answers. The other calls' answers stand in the crate `outcomes`.
+pub mod MembersOutcome
+pub mod MembersOutcomeLaws

@@ -1,11 +1,10 @@
 // The verdicts on the values of a message, on lent words.
-use crate::outcome::Outcome;
-use crate::outcome::refused;
-use verdicts::verdicts_call::Judged;
+use outcomes::answers::verdicts_outcome;
+use outcomes::outcome::Outcome;
 use verdicts::verdicts_call::check_values;
 ghost use mathlib.Core.Path.{_≡_};
 ghost use Rattle.verdicts.specs.Verdicts.{judgedOf, verdictsIn};
-ghost use Rattle.gate.specs.Outcome.{verdictsOutcome};
+ghost use Rattle.outcomes.specs.Answers.{verdictsOutcome};
 
 // `words`: how many verdicts were written, one a field.
 #[no_mangle]
@@ -20,19 +19,5 @@ pub extern "C" fn gate_verdicts(
     ensures memory { λ _. ⌜ now (verdicts .exit) ≡ verdictsIn (now (dictionary .entry)) (now (fields .entry)) (now (message .entry)) strict (now (verdicts .entry)) ⌝ }
 {
     let judged = check_values(dictionary, fields, message, strict, verdicts);
-    outcome_of(judged)
-}
-
-fn outcome_of(judged: Judged) -> Outcome
-    ensures { λ outcome. ⌜ outcome ≡ verdictsOutcome judged ⌝ }
-{
-    match judged {
-        Judged::Done { words } => Outcome {
-            refusal: 0,
-            place: 0,
-            words: words as u64,
-            extra: 0,
-        },
-        Judged::Refused(refusal) => refused(refusal),
-    }
+    verdicts_outcome(judged)
 }

@@ -1,15 +1,16 @@
 // The members of a level of lent layout words.
-use crate::outcome::Outcome;
-use crate::outcome::refused;
 use layouts::layout_words::stretch_at;
 use layouts::layout_words::wide;
 use levels::members::LevelOutcome;
 use levels::members::level_of;
+use outcomes::outcome::Outcome;
+use outcomes::outcome::answered;
+use outcomes::outcome::refused;
 ghost use mathlib.Core.Path.{_≡_};
 ghost use lib.ListN.{take, drop};
 ghost use Rattle.layouts.specs.Limits.{gateLimits};
 ghost use Rattle.levels.specs.Members.{levelPart};
-ghost use Rattle.gate.specs.Outcome.{membersOutcome};
+ghost use Rattle.gate.specs.MembersOutcome.{membersOutcome};
 
 // `words`: how many members the level has that the path of count tags leads to; `extra`: where they stand in the layout's words.
 #[no_mangle]
@@ -22,12 +23,7 @@ pub extern "C" fn gate_level_members(layout: &[u32], path: &[u32]) -> Outcome
             let place = 1 + level;
             let members = stretch_at(layout, place);
             let first = wide(layout[place]);
-            Outcome {
-                refusal: 0,
-                place: 0,
-                words: members.len() as u64,
-                extra: first as u64,
-            }
+            answered(members.len(), first)
         }
         LevelOutcome::Refused(refusal) => refused(refusal),
     }

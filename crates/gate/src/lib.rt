@@ -2,7 +2,6 @@
 pub mod check_values;
 pub mod expand_type;
 pub mod level;
-pub mod outcome;
 pub mod read_dictionary_text;
 pub mod read_layout_text;
 pub mod walk_group;

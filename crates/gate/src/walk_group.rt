@@ -1,11 +1,10 @@
 // The walk of a top group on lent words.
-use crate::outcome::Outcome;
-use crate::outcome::refused;
-use walk::walk_call::Walked;
+use outcomes::answers::walk_outcome;
+use outcomes::outcome::Outcome;
 use walk::walk_call::walk_group;
 ghost use mathlib.Core.Path.{_≡_};
 ghost use Rattle.walk.specs.WalkCall.{walkedOf, eventsIn};
-ghost use Rattle.gate.specs.Outcome.{walkOutcome};
+ghost use Rattle.outcomes.specs.Answers.{walkOutcome};
 
 // `words`: how many words of events were written; `extra`: the position of the first field behind the group.
 #[no_mangle]
@@ -21,19 +20,5 @@ pub extern "C" fn gate_walk_group(
     ensures memory { λ _. ⌜ now (events .exit) ≡ eventsIn (now (layout .entry)) (now (fields .entry)) (now (message .entry)) position «count_tag» (now (events .entry)) ⌝ }
 {
     let walked = walk_group(layout, fields, message, position, count_tag, events);
-    outcome_of(walked)
-}
-
-fn outcome_of(walked: Walked) -> Outcome
-    ensures { λ outcome. ⌜ outcome ≡ walkOutcome walked ⌝ }
-{
-    match walked {
-        Walked::Done { position, words } => Outcome {
-            refusal: 0,
-            place: 0,
-            words: words as u64,
-            extra: position as u64,
-        },
-        Walked::Refused(refusal) => refused(refusal),
-    }
+    walk_outcome(walked)
 }

@@ -1,11 +1,10 @@
 // The walk of a message on lent words.
-use crate::outcome::Outcome;
-use crate::outcome::refused;
-use validator::message_call::WalkedMessage;
+use outcomes::answers::message_outcome;
+use outcomes::outcome::Outcome;
 use validator::message_call::walk_message;
 ghost use mathlib.Core.Path.{_≡_};
 ghost use Rattle.validator.specs.MessageCall.{walkedOf, eventsIn};
-ghost use Rattle.gate.specs.Outcome.{messageOutcome};
+ghost use Rattle.outcomes.specs.Answers.{messageOutcome};
 
 // `words`: how many words of events were written.
 #[no_mangle]
@@ -20,19 +19,5 @@ pub extern "C" fn gate_walk_message(
     ensures memory { λ _. ⌜ now (events .exit) ≡ eventsIn (now (dictionary .entry)) (now (layout .entry)) (now (fields .entry)) (now (message .entry)) (now (events .entry)) ⌝ }
 {
     let walked = walk_message(dictionary, layout, fields, message, events);
-    outcome_of(walked)
-}
-
-fn outcome_of(walked: WalkedMessage) -> Outcome
-    ensures { λ outcome. ⌜ outcome ≡ messageOutcome walked ⌝ }
-{
-    match walked {
-        WalkedMessage::Done { words } => Outcome {
-            refusal: 0,
-            place: 0,
-            words: words as u64,
-            extra: 0,
-        },
-        WalkedMessage::Refused(refusal) => refused(refusal),
-    }
+    message_outcome(walked)
 }

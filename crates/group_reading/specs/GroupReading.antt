@@ -19,10 +19,10 @@ use mathlib.Core.Option.{none, some}
 use mathlib.Core.List.{List, [], _∷_, _++_}
 use Rattle.ascii.specs.Notation.{_<ᵇ_, _≡ᵇ_}
 use Rattle.counts.specs.declared.count.Count.the-variants.{Number}
-use Rattle.walk_memory.specs.declared.event.Kind.the-variants.{Enter, Close, Leave}
-use Rattle.walk_memory.specs.declared.event.Event.{Event}
-use Rattle.walk_memory.specs.Membership.{_∈ᵇ_}
-use Rattle.walk_memory.specs.WalkInput.{Layout, Fields, Input, countAt, event}
+use Rattle.events.specs.declared.event.Kind.the-variants.{Enter, Close, Leave}
+use Rattle.events.specs.declared.event.Event.{Event}
+use Rattle.ascii.specs.Membership.{_∈ᵇ_}
+use Rattle.field_table.specs.WalkInput.{Layout, Fields, Input, countAt, event}
 
 module _ (input : Input) where
   open Input input using (layout, fields, depthLimit)

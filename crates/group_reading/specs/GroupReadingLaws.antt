@@ -10,9 +10,9 @@ use mathlib.Core.List.{List}
 use native.Mathlib.Omega.{arith}
 use lib.Dec.{ltb, eqb}
 use borrow.Author.Tests.{ltb-false, le-ltb, eqb-true, eq-eqb}
-use Rattle.walk_memory.specs.Events.{NoFault, ofGroups}
-use Rattle.walk_memory.specs.EventsLaws.{noFault-append, ofGroups-append}
-use Rattle.walk_memory.specs.WalkInput.{Layout, Fields, Input, event}
+use Rattle.events.specs.Events.{NoFault, ofGroups}
+use Rattle.events.specs.EventsLaws.{noFault-append, ofGroups-append}
+use Rattle.field_table.specs.WalkInput.{Layout, Fields, Input, event}
 use Rattle.group_reading.specs.GroupReading.{mayFollow, Reading, Entries, Items, Item, reading, no-entry, entry, no-item, item, plain, nested, readingEvents, entriesEvents, itemsEvents, itemEvents}
 
 -- ---- mayFollow

@@ -15,7 +15,7 @@ use mathlib.Core.Option.{Option, none, some}
 use Rattle.ascii.specs.Notation.{_≤ᵇ_, _<ᵇ_, _≡ᵇ_, if_then_else_}
 use Rattle.counts.specs.declared.count.Count.{Count}
 use Rattle.counts.specs.declared.count.Count.the-variants.{Number, Nothing}
-use Rattle.walk_memory.specs.WalkInput.{Layout, Fields, Input, countAt}
+use Rattle.field_table.specs.WalkInput.{Layout, Fields, Input, countAt}
 
 abbrev pub endsGroup : Count → ℕ → (ℕ → Bool) → ℕ → Bool
 endsGroup (Number declared) entries enclosing tag = declared ≡ᵇ entries && enclosing tag

@@ -9,7 +9,7 @@ use lib.Dec.{ltb, leb, eqb}
 use borrow.Author.Tests.{ltb-true, leb-true, eqb-true, eqb-false, lt-ltb, le-ltb, le-leb, lt-leb, eq-eqb, ne-eqb}
 use Rattle.ascii.specs.Notation.{if_then_else_}
 use Rattle.counts.specs.declared.count.Count.{Count}
-use Rattle.walk_memory.specs.WalkInput.{Layout, Fields, Input, countAt}
+use Rattle.field_table.specs.WalkInput.{Layout, Fields, Input, countAt}
 use Rattle.group_reading.specs.GroupSteps.{endsGroup, Opening, outside, too-deep, member-leads, entries-follow, Step, stops, plain-field, nested-group, fieldStep, memberLeads, entryBegins, entryStops, openingAt, stepAt}
 
 -- ---- the decisions, over the outcomes of their tests

@@ -14,9 +14,9 @@ use Rattle.ascii.specs.Bytes.{ascii, nonEmpty, every}
 use Rattle.ascii.specs.Digits.{isDigits, decimalFrom}
 use Rattle.ascii.specs.Notation.{isBetween}
 use Rattle.counts.specs.Count.{countOf}
-use Rattle.walk_memory.specs.Membership.{_∈ᵇ_}
-use Rattle.walk_memory.specs.Events.{eventWords}
-use Rattle.walk_memory.specs.WalkInput.{Layout, Fields}
+use Rattle.ascii.specs.Membership.{_∈ᵇ_}
+use Rattle.events.specs.Events.{eventWords}
+use Rattle.field_table.specs.WalkInput.{Layout, Fields}
 use Rattle.group_reading.specs.GroupSteps.{openingAt, memberLeads, entryBegins, entryStops, stepAt}
 use Rattle.group_reading.specs.GroupWalk.{WalkedGroup, walkBy, walkGroup}
 

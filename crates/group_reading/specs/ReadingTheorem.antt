@@ -10,10 +10,10 @@ use mathlib.Core.Logic.{_↔_}
 use Prim.Native.Nat.{ℕ, _+_, _*_, _-_, _<_}
 use mathlib.Core.Bool.{Bool}
 use native.Mathlib.Omega.{arith}
-use Rattle.walk_memory.specs.Events.{NoFault, ofGroups}
-use Rattle.walk_memory.specs.EventsLaws.{noFault-ofGroups}
-use Rattle.walk_memory.specs.WalkInput.{Layout, Fields, Input}
-use Rattle.walk_memory.specs.ReliedRules.{LayoutRules}
+use Rattle.events.specs.Events.{NoFault, ofGroups}
+use Rattle.events.specs.EventsLaws.{noFault-ofGroups}
+use Rattle.field_table.specs.WalkInput.{Layout, Fields, Input}
+use Rattle.field_table.specs.ReliedRules.{LayoutRules}
 use Rattle.group_reading.specs.GroupReading.{Reading, readingEvents}
 use Rattle.group_reading.specs.GroupReadingLaws.{readingEvents-no-fault, readingEvents-of-groups}
 use Rattle.group_reading.specs.GroupSteps.{openingAt}

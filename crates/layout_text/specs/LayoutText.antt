@@ -15,15 +15,15 @@ use Rattle.line_forms.specs.declared.line.Line.{Line}
 use Rattle.line_forms.specs.declared.line.Line.the-variants.{Def, Value, BeginHeader, BeginTrailer, EndHeader, EndTrailer, Component, Message, Field, Group, Use, End, Member, RequiredTag, Unknown}
 use Rattle.lines.specs.declared.line_parts.Number32.{Number32}
 use Rattle.lines.specs.declared.line_parts.Number32.the-variants.{Number, NoNumber}
-use Rattle.texts.specs.declared.dictionary_order.Fault.{Fault}
-use Rattle.texts.specs.declared.dictionary_order.Fault.the-variants.{NoFault, Faulty}
+use Rattle.dictionary_order.specs.declared.dictionary_order.Fault.{Fault}
+use Rattle.dictionary_order.specs.declared.dictionary_order.Fault.the-variants.{NoFault, Faulty}
 use Rattle.layout_text.specs.declared.layout_text.LevelState.{LevelState}
 use Rattle.layout_text.specs.declared.layout_text.LevelStep.{LevelStep}
 use Rattle.layout_text.specs.declared.layout_text.LayoutTextOutcome.{LayoutTextOutcome}
 use Rattle.layout_text.specs.declared.layout_text.LayoutTextOutcome.the-variants.{Ordered, Unordered}
 use Rattle.lines.specs.Lines.{Pieces, last, piece, linesOf}
 use Rattle.line_forms.specs.LineForms.{lineOf}
-use Rattle.texts.specs.DictionaryOrder.{isNumber}
+use Rattle.dictionary_order.specs.DictionaryOrder.{isNumber}
 
 -- ---- what was read last of the innermost open level; where a group block has closed, that is a group block
 

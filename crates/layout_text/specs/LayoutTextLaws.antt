@@ -16,14 +16,14 @@ use Rattle.line_forms.specs.declared.line.Line.{Line}
 use Rattle.line_forms.specs.declared.line.Line.the-variants.{Def, Value, BeginHeader, BeginTrailer, EndHeader, EndTrailer, Component, Message, Field, Group, Use, End, Member, RequiredTag, Unknown}
 use Rattle.lines.specs.declared.line_parts.Number32.{Number32}
 use Rattle.lines.specs.declared.line_parts.Number32.the-variants.{Number, NoNumber}
-use Rattle.texts.specs.declared.dictionary_order.Fault.the-variants.{NoFault, Faulty}
+use Rattle.dictionary_order.specs.declared.dictionary_order.Fault.the-variants.{NoFault, Faulty}
 use Rattle.layout_text.specs.declared.layout_text.LevelState.{LevelState}
 use Rattle.layout_text.specs.declared.layout_text.LevelStep.{LevelStep}
 use Rattle.layout_text.specs.declared.layout_text.LayoutTextOutcome.the-variants.{Unordered}
 use Rattle.lines.specs.Lines.{positionOf, linesOf, lineFeed}
 use Rattle.lines.specs.LinesLaws.{found-within, cut-at-piece, cut-at-last, cut-nothing}
 use Rattle.line_forms.specs.LineForms.{lineOf}
-use Rattle.texts.specs.DictionaryOrder.{isNumber}
+use Rattle.dictionary_order.specs.DictionaryOrder.{isNumber}
 use Rattle.layout_text.specs.LayoutText.{members, required, nested, level, top, inPart, takenLevel, refusedLevel, openLevel, closeOpen, closeLevel, numberedEnd, levelStepOf, layoutEnd, layoutOrderFrom, layoutOrderOf}
 
 -- ---- levelStepOf: at most 40 group blocks are open

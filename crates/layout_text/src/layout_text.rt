@@ -1,11 +1,11 @@
 // The layout text: the order of its lines.
+use dictionary_order::dictionary_order::Fault;
+use dictionary_order::dictionary_order::is_number;
 use line_forms::line::Line;
 use line_forms::line::line_of;
 use lines::line_parts::Number32;
 use lines::lines::position_of;
 use refusals::refusal::Refusal;
-use texts::dictionary_order::Fault;
-use texts::dictionary_order::is_number;
 ghost use mathlib.Core.Path.{_≡_};
 ghost use Prim.Native.Nat.{_≤_, _<_};
 ghost use lib.ListN.{length};

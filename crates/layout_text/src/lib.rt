@@ -1,4 +1,3 @@
-// Hand-made layout texts: the order of their lines, the layout that a text tells, and its rules.
-pub mod layout_rules;
+// Hand-made layout texts: the order of their lines, and the layout that a text tells.
 pub mod layout_text;
 pub mod level_line;

@@ -6,8 +6,8 @@ use mathlib.Core.Bool.{true, false, _&&_}
 use mathlib.Core.List.{List, [], _∷_, _++_}
 use lib.ListN.{set}
 use Rattle.ascii.specs.Bytes.{nonEmpty, every}
-use Rattle.sorting.specs.Sort.{isIn}
-use Rattle.sorting.specs.Search.{isStrictlyAbove, isStrictlyAscending}
+use Rattle.ascending.specs.Sort.{isIn}
+use Rattle.ascending.specs.Search.{isStrictlyAbove, isStrictlyAscending}
 use Rattle.layouts.specs.Limits.{gateLimits}
 use Rattle.layouts.specs.Layout.{Layout, level-of, no-groups, group-and, group-of, groupsBelow, levelOrder, allGroups, joined}
 use Rattle.layouts.specs.LayoutRules.{everyGroup, meetsRules, meetsLimits}

@@ -13,7 +13,7 @@ use Rattle.ascii.specs.Notation.{if_then_else_}
 use Rattle.ascii.specs.NotationLaws.{and-left, and-right}
 use Rattle.ascii.specs.Bytes.{every}
 use Rattle.ascii.specs.BytesLaws.{drop-step, nonEmpty-none, nonEmpty-some}
-use Rattle.sorting.specs.Sort.{isIn}
+use Rattle.ascending.specs.Sort.{isIn}
 use Rattle.layouts.specs.Limits.{Limits}
 use Rattle.layouts.specs.LayoutRules.{_∈ᵇ_}
 use Rattle.layouts.specs.LayoutRulesLaws.{metAmong, metAmong-level, member-first, member-later}

@@ -17,8 +17,8 @@ use mathlib.Core.List.{List, List·Memᴰ}
 use lib.ListN.{length}
 use Rattle.ascii.specs.Notation.{_≤ᵇ_}
 use Rattle.ascii.specs.Bytes.{every}
-use Rattle.sorting.specs.Sort.{isIn}
-use Rattle.sorting.specs.Search.{isStrictlyAscending}
+use Rattle.ascending.specs.Sort.{isIn}
+use Rattle.ascending.specs.Search.{isStrictlyAscending}
 use Rattle.layouts.specs.Limits.{Limits}
 use Rattle.layouts.specs.Layout.{Level, Groups, Group, Layout, level-of, no-groups, group-and, group-of, membersOf, countTagsOf, countTag, delimiter, entry, allGroups, allMembers, allRequired}
 

@@ -14,8 +14,8 @@ use borrow.Author.Tests.{le-leb, leb-true, lt-ltb, ltb-true, eq-eqb, ne-eqb}
 use Rattle.ascii.specs.Notation.{_≤ᵇ_, _≡ᵇ_, if_then_else_}
 use Rattle.ascii.specs.NotationLaws.{and-left, and-right, and-both}
 use Rattle.ascii.specs.Bytes.{every}
-use Rattle.sorting.specs.Sort.{isIn}
-use Rattle.sorting.specs.Search.{isStrictlyAbove, isStrictlyAscending}
+use Rattle.ascending.specs.Sort.{isIn}
+use Rattle.ascending.specs.Search.{isStrictlyAbove, isStrictlyAscending}
 use Rattle.layouts.specs.LayoutRules.{isAscending, _∈ᵇ_, areAmong}
 
 -- two tests that hold in the same cases are equal

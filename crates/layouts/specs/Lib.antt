@@ -13,7 +13,6 @@ pub mod LayoutCheckFacts
 pub mod LayoutCheckRules
 pub mod LayoutCheckSound
 pub mod LayoutCheckComplete
-pub mod LayoutCheckUnique
 pub mod GatheredLayout
 pub mod GatheredLayoutLaws
 pub mod LayoutCases

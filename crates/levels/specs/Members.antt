@@ -13,9 +13,9 @@ use Prim.Native.Nat.{ℕ, _+_}
 use mathlib.Core.Option.{Option, none, some}
 use mathlib.Core.List.{List, [], _∷_}
 use Rattle.ascii.specs.Notation.{_≡ᵇ_, if_then_else_}
-use Rattle.sorting.specs.declared.search.Found.{Found}
-use Rattle.sorting.specs.declared.search.Found.the-variants.{At, Nothing}
-use Rattle.sorting.specs.Search.{rankIn}
+use Rattle.ascending.specs.declared.search.Found.{Found}
+use Rattle.ascending.specs.declared.search.Found.the-variants.{At, Nothing}
+use Rattle.ascending.specs.Search.{rankIn}
 use Rattle.refusals.specs.declared.refusal.Refusal.the-variants.{RuleBroken, NoSuchGroup}
 use Rattle.levels.specs.declared.members.LevelOutcome.{LevelOutcome}
 use Rattle.levels.specs.declared.members.LevelOutcome.the-variants.{Reached, Refused}

@@ -6,10 +6,10 @@ use mathlib.Core.List.{List, [], _∷_}
 use native.Mathlib.Omega.{arith}
 use lib.ListN.{length, getD, drop, drop-of-length-le}
 use Rattle.ascii.specs.BytesLaws.{drop-step}
-use Rattle.sorting.specs.declared.search.Found.{Found}
-use Rattle.sorting.specs.declared.search.Found.the-variants.{At, Nothing}
-use Rattle.sorting.specs.Search.{StrictlyAscending, rankIn}
-use Rattle.sorting.specs.SearchLaws.{isStrictlyAscending-true, rankIn-inside}
+use Rattle.ascending.specs.declared.search.Found.{Found}
+use Rattle.ascending.specs.declared.search.Found.the-variants.{At, Nothing}
+use Rattle.ascending.specs.Search.{StrictlyAscending, rankIn}
+use Rattle.ascending.specs.SearchLaws.{isStrictlyAscending-true, rankIn-inside}
 use Rattle.refusals.specs.declared.refusal.Refusal.{Refusal}
 use Rattle.refusals.specs.declared.refusal.Refusal.the-variants.{RuleBroken, NoSuchGroup}
 use Rattle.levels.specs.declared.members.LevelOutcome.{LevelOutcome}

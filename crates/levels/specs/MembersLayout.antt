@@ -11,10 +11,10 @@ use native.Mathlib.Omega.{arith}
 use lib.ListN.{length, take, drop, getElem?}
 use lib.Seq.{drop-drop}
 use lib.Dec.{eqb}
-use Rattle.sorting.specs.declared.search.Found.{Found}
-use Rattle.sorting.specs.declared.search.Found.the-variants.{At, Nothing}
-use Rattle.sorting.specs.Search.{rankFrom, rankIn}
-use Rattle.sorting.specs.SearchLaws.{rankIn-inside}
+use Rattle.ascending.specs.declared.search.Found.{Found}
+use Rattle.ascending.specs.declared.search.Found.the-variants.{At, Nothing}
+use Rattle.ascending.specs.Search.{rankFrom, rankIn}
+use Rattle.ascending.specs.SearchLaws.{rankIn-inside}
 use Rattle.layouts.specs.Limits.{Limits}
 use Rattle.layouts.specs.Layout.{Level, Group, level-of, grouped, groupsOf, countTag, entry}
 use Rattle.layouts.specs.LayoutLaws.{listed-grouped}

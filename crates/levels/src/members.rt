@@ -1,10 +1,10 @@
 // Levels of a layout in lent words: by the count tags that lead there from the top, and their members as a part of the words.
-use layouts::layout_check::is_layout;
+use ascending::search::Found;
+use ascending::search::binary_search;
+use layout_check::layout_check::is_layout;
 use layouts::layout_words::stretch_at;
 use layouts::layout_words::wide;
 use refusals::refusal::Refusal;
-use sorting::search::Found;
-use sorting::search::binary_search;
 ghost use mathlib.Core.Path.{_≡_};
 ghost use Prim.Native.Nat.{_≤_};
 ghost use Rattle.layouts.specs.Limits.{gateLimits};

@@ -1,6 +1,6 @@
 // The list of two files, printed. The sizes of the spaces, and why none is too small, stand in docs/GATELIST.md.
-use crate::file::FileRead;
-use crate::file::read_file;
+use files::file::FileRead;
+use files::file::read_file;
 use libc::STDOUT_FILENO;
 use listing::list_text::Listed;
 use listing::list_text::line_count;

@@ -16,7 +16,7 @@ use Rattle.ascii.specs.Notation.{_≤ᵇ_, _≡ᵇ_, if_then_else_}
 use Rattle.listing.specs.declared.list_text.Shape.{Shape}
 use Rattle.listing.specs.declared.list_text.Listed.{Listed}
 use Rattle.listing.specs.declared.list_text.Listed.the-variants.{Full, Refused}
-use Rattle.listing.specs.ListLines.{typeLine, eventLine, verdictLine, refusedLine}
+use Rattle.list_lines.specs.ListLines.{typeLine, eventLine, verdictLine, refusedLine}
 use Rattle.message_text.specs.MessageType.{stretch, partOf}
 
 -- "An event is five 64-bit words: kind, group's count tag, depth, a, b."

@@ -16,8 +16,8 @@ use Rattle.refusals.specs.Refusal.{refusalNumber, refusalPlace}
 use Rattle.listing.specs.declared.list_text.Shape.{Shape}
 use Rattle.listing.specs.declared.list_text.Listed.{Listed}
 use Rattle.listing.specs.declared.list_text.Listed.the-variants.{Full, Refused}
-use Rattle.listing.specs.ListLines.{typeLine, eventLine, verdictLine, refusedLine}
-use Rattle.listing.specs.ListLinesLaws.{Put, put-nothing, put-length, labelled-few, verdictDigits-length, eventLine-few}
+use Rattle.list_lines.specs.ListLines.{typeLine, eventLine, verdictLine, refusedLine}
+use Rattle.list_lines.specs.ListLinesLaws.{Put, put-nothing, put-length, labelled-few, verdictDigits-length, eventLine-few}
 use Rattle.listing.specs.ListText.{HeldShape, Held, wordsLine, wordsLines, typeOf, lineCount, fullLine, lineAt, linesFrom, printed}
 
 -- ---- what a list is printed from

@@ -1,3 +1,2 @@
-// The lines of the list that `gatelist` prints (document 01, 'One list in full').
-pub mod list_lines;
+// The list that `gatelist` prints, line by line (document 01, 'One list in full').
 pub mod list_text;

@@ -1,14 +1,14 @@
 // The text of the list, handed out line by line (document 01, 'One list in full').
-use crate::list_lines::put_event_line;
-use crate::list_lines::put_refused_line;
-use crate::list_lines::put_type_line;
-use crate::list_lines::put_verdict_line;
+use list_lines::list_lines::put_event_line;
+use list_lines::list_lines::put_refused_line;
+use list_lines::list_lines::put_type_line;
+use list_lines::list_lines::put_verdict_line;
 use refusals::refusal::Refusal;
 ghost use mathlib.Core.Path.{_≡_};
 ghost use Prim.Native.Nat.{_+_, _*_, _≤_, _<_};
 ghost use lib.ListN.{length};
 ghost use lib.Seq.{sets};
-ghost use Rattle.listing.specs.ListLinesLaws.{Put};
+ghost use Rattle.list_lines.specs.ListLinesLaws.{Put};
 ghost use Rattle.listing.specs.ListText.{HeldShape, Held, wordsLine, lineCount, fullLine, lineAt};
 
 // What a list is made of: where the message's type stands in it, how many fields it has, and how many events were written.

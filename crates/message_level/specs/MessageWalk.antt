@@ -16,12 +16,12 @@ use mathlib.Core.Bool.{Bool, not, _&&_}
 use mathlib.Core.Option.{Option, none, some}
 use mathlib.Core.List.{List, [], _∷_, _++_}
 use Rattle.ascii.specs.Notation.{_≡ᵇ_, _<ᵇ_, if_then_else_}
-use Rattle.walk_memory.specs.declared.event.Kind.{Kind}
-use Rattle.walk_memory.specs.declared.event.Kind.the-variants.{Twice, Foreign, Missing}
-use Rattle.walk_memory.specs.declared.event.Event.{Event}
-use Rattle.walk_memory.specs.Membership.{_∈ᵇ_}
-use Rattle.walk_memory.specs.Membership.{insertIf}
-use Rattle.walk_memory.specs.WalkInput.{Layout, Fields, Input}
+use Rattle.events.specs.declared.event.Kind.{Kind}
+use Rattle.events.specs.declared.event.Kind.the-variants.{Twice, Foreign, Missing}
+use Rattle.events.specs.declared.event.Event.{Event}
+use Rattle.ascii.specs.Membership.{_∈ᵇ_}
+use Rattle.ascii.specs.Membership.{insertIf}
+use Rattle.field_table.specs.WalkInput.{Layout, Fields, Input}
 use Rattle.group_reading.specs.GroupWalk.{WalkedGroup, walkGroup}
 
 pub record MessageLevel (Group : Type 0) : Type 0 where

@@ -12,10 +12,10 @@ use lib.Dec.{ltb}
 use lib.ListN.{length, length-append}
 use borrow.Author.Tests.{lt-ltb, le-ltb, ltb-true}
 use Rattle.ascii.specs.Notation.{_≡ᵇ_, if_then_else_}
-use Rattle.walk_memory.specs.declared.event.Event.{Event}
-use Rattle.walk_memory.specs.Membership.{_∈ᵇ_}
-use Rattle.walk_memory.specs.WalkInput.{Layout, Fields, Input}
-use Rattle.walk_memory.specs.ReliedRules.{LayoutRules}
+use Rattle.events.specs.declared.event.Event.{Event}
+use Rattle.ascii.specs.Membership.{_∈ᵇ_}
+use Rattle.field_table.specs.WalkInput.{Layout, Fields, Input}
+use Rattle.field_table.specs.ReliedRules.{LayoutRules}
 use Rattle.group_reading.specs.GroupWalk.{WalkedGroup}
 use Rattle.group_reading.specs.GroupWalkLaws.EventBound.{walkGroup-passes, walkGroup-few-events}
 use Rattle.message_level.specs.MessageWalk.{MessageLevel, twiceIf, foreignUnless, missingIf, Turn, Turns, turnAnd, definedTurn, placeAt, turnAt, turnsFrom, messageTurns, missingTags, missingGroups}

@@ -9,7 +9,7 @@ use mathlib.Core.List.{List, [], _∷_}
 use lib.ListN.{length}
 use Rattle.ascii.specs.Notation.{_≡ᵇ_, if_then_else_}
 use Rattle.layouts.specs.LayoutWords.{levelRequired, levelCountTags, countTagAt, flagAt}
-use Rattle.walk_memory.specs.declared.event.Event.{Event}
+use Rattle.events.specs.declared.event.Event.{Event}
 use Rattle.walk_steps.specs.WalkWords.{among, groupOf, inputOf, topMembers}
 use Rattle.message_level.specs.MessageWalk.{MessageLevel, messageEvents}
 

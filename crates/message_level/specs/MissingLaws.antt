@@ -18,9 +18,9 @@ use Rattle.layouts.specs.LayoutWords.{requiredPlaces, groupCount, levelRequired
 use Rattle.layouts.specs.LayoutWordsLaws.{length-stretch}
 use Rattle.layouts.specs.LayoutCheckLaws.{required-places, required-few}
 use Rattle.layouts.specs.LayoutCheckFacts.{Passed, required-inside}
-use Rattle.walk_memory.specs.declared.event.Kind.the-variants.{Missing}
-use Rattle.walk_memory.specs.Membership.{_∈ᵇ_}
-use Rattle.walk_memory.specs.EventSpaceLaws.{Wrote, wrote-none, wrote-then}
+use Rattle.events.specs.declared.event.Kind.the-variants.{Missing}
+use Rattle.ascii.specs.Membership.{_∈ᵇ_}
+use Rattle.events.specs.EventSpaceLaws.{Wrote, wrote-none, wrote-then}
 use Rattle.walk_steps.specs.WalkWordsLaws.{groups-few}
 use Rattle.walk_steps.specs.WrittenEvents.{tagEvent}
 use Rattle.message_level.specs.MessageWalk.{missingIf, missingTags, missingGroups}

@@ -1,5 +1,5 @@
 -- The tags seen at the message level (validator.rs, `seen: HashSet<u32>`), as a set of ranks among the tags that the dictionary defines: "undefined tags are
--- skipped", so that no other tag is ever seen. The set is that of the entries of a group (`EntryTags.antt` of walk_memory), in more words. Assumes nothing.
+-- skipped", so that no other tag is ever seen. The set is that of the entries of a group (`EntryTags.antt` of entry_tags), in more words. Assumes nothing.
 --
 --   seenWords                     how many words hold the ranks of 10,922 tags
 --   SeenTags defined words seen   the words stand for the tags in `seen`
@@ -8,8 +8,8 @@ use mathlib.Core.Path.{_≡_}
 use Prim.Native.Nat.{ℕ, _≤_}
 use mathlib.Core.List.{List}
 use lib.ListN.{length}
-use Rattle.sorting.specs.Search.{StrictlyAscending}
-use Rattle.walk_memory.specs.EntryTags.{TagsSeen}
+use Rattle.ascending.specs.Search.{StrictlyAscending}
+use Rattle.entry_tags.specs.EntryTags.{TagsSeen}
 use Rattle.walk_steps.specs.WalkWords.{among}
 use Rattle.walk_steps.specs.WalkWordsLaws.{rankOf}
 

@@ -7,13 +7,13 @@ use native.Mathlib.Omega.{arith}
 use lib.Bits.{bitAnd}
 use lib.Dec.{eqb}
 use lib.ListN.{length, getD}
-use Rattle.sorting.specs.declared.search.Found.{Found}
-use Rattle.sorting.specs.declared.search.Found.the-variants.{At, Nothing}
-use Rattle.sorting.specs.Search.{StrictlyAscending, rankIn}
-use Rattle.walk_memory.specs.Membership.{_∈ᵇ_}
-use Rattle.walk_memory.specs.EntryTags.{noRanks, holdsRank, insertRank}
-use Rattle.walk_memory.specs.Membership.{insertIf}
-use Rattle.walk_memory.specs.EntryTagsLaws.{fresh-is, stands-empty, seen-empty, seen-holds, seen-insert}
+use Rattle.ascending.specs.declared.search.Found.{Found}
+use Rattle.ascending.specs.declared.search.Found.the-variants.{At, Nothing}
+use Rattle.ascending.specs.Search.{StrictlyAscending, rankIn}
+use Rattle.ascii.specs.Membership.{_∈ᵇ_}
+use Rattle.entry_tags.specs.EntryTags.{noRanks, holdsRank, insertRank}
+use Rattle.ascii.specs.Membership.{insertIf}
+use Rattle.entry_tags.specs.EntryTagsLaws.{fresh-is, stands-empty, seen-empty, seen-holds, seen-insert}
 use Rattle.walk_steps.specs.WalkWords.{among}
 use Rattle.walk_steps.specs.WalkWordsLaws.{rankOf}
 use Rattle.walk_steps.specs.WalkWordsLaws.{member-found, member-nowhere, rankIn-there, rankOf-found, rankOf-low, rankOf-apart}

@@ -1,10 +1,10 @@
 // What is required at the message level and was not seen there: tags, then groups. Ported from validator.rs, the end of `Validator::validate`.
 use crate::seen_tags::contains;
+use events::event::Kind;
 use layouts::layout_words::count_tag_at;
 use layouts::layout_words::count_tags_at;
 use layouts::layout_words::is_required_at;
 use layouts::layout_words::required_at;
-use walk_memory::event::Kind;
 use walk_steps::group_events::put_event;
 ghost use mathlib.Core.Bool.{not, _&&_};
 ghost use mathlib.Core.List.{List, _++_};
@@ -14,8 +14,8 @@ ghost use Rattle.ascii.specs.Notation.{_≡ᵇ_};
 ghost use Rattle.layouts.specs.Limits.{gateLimits};
 ghost use Rattle.layouts.specs.LayoutWords.{groupCount, levelRequired, levelCountTags};
 ghost use Rattle.layouts.specs.LayoutCheckFacts.{Passed};
-ghost use Rattle.walk_memory.specs.Membership.{_∈ᵇ_};
-ghost use Rattle.walk_memory.specs.EventSpaceLaws.{Wrote};
+ghost use Rattle.ascii.specs.Membership.{_∈ᵇ_};
+ghost use Rattle.events.specs.EventSpaceLaws.{Wrote};
 ghost use Rattle.message_level.specs.MessageWalk.{missingIf, missingTags, missingGroups};
 ghost use Rattle.message_level.specs.MessageWords.{requiredFrom};
 ghost use Rattle.message_level.specs.SeenTags.{SeenTags, SeenWords};

@@ -1,15 +1,15 @@
 // The tags seen at the message level, as a set of ranks among the tags that the dictionary defines. The Rust's HashSet<u32> (validator.rs) becomes 171 words,
 // which hold the ranks of 10,922 tags.
-use sorting::search::Found;
-use sorting::search::binary_search;
-use walk_memory::entry_tags::mask_of;
+use ascending::search::Found;
+use ascending::search::binary_search;
+use entry_tags::entry_tags::mask_of;
 ghost use mathlib.Core.Path.{_≡_};
 ghost use mathlib.Core.Bool.{not};
 ghost use mathlib.Core.List.{List};
 ghost use Prim.Native.Nat.{ℕ, _/_, _<_};
 ghost use lib.ListN.{length};
-ghost use Rattle.walk_memory.specs.Membership.{_∈ᵇ_};
-ghost use Rattle.walk_memory.specs.EntryTags.{holdsRank, insertRank};
+ghost use Rattle.ascii.specs.Membership.{_∈ᵇ_};
+ghost use Rattle.entry_tags.specs.EntryTags.{holdsRank, insertRank};
 ghost use Rattle.message_level.specs.SeenTags.{SeenTags, SeenWords};
 
 // Records the tag of this rank; false if it was already recorded. The Rust's `seen.insert(tag)`.

@@ -15,13 +15,13 @@ use Rattle.dictionary.specs.DictionaryCheck.{isDictionary}
 use Rattle.read_dictionary.specs.ReadDictionary.{readOf, readIn}
 use Rattle.layouts.specs.Limits.{gateLimits}
 use Rattle.layouts.specs.LayoutCheck.{isLayout}
-use Rattle.walk_memory.specs.declared.field_table.TableCheck.{TableCheck}
-use Rattle.walk_memory.specs.declared.field_table.TableCheck.the-variants as table
-use Rattle.walk_memory.specs.declared.event.Event.{Event}
-use Rattle.walk_memory.specs.Events.{eventsWords}
-use Rattle.walk_memory.specs.EventSpaceLaws.{eventsWords-length}
-use Rattle.walk_memory.specs.FieldTable.{rowCount, tableCheckOf, fieldsOf}
-use Rattle.walk_memory.specs.FieldTableLaws.{tableCheckOf-accepted}
+use Rattle.field_table.specs.declared.field_table.TableCheck.{TableCheck}
+use Rattle.field_table.specs.declared.field_table.TableCheck.the-variants as table
+use Rattle.events.specs.declared.event.Event.{Event}
+use Rattle.events.specs.Events.{eventsWords}
+use Rattle.events.specs.EventSpaceLaws.{eventsWords-length}
+use Rattle.field_table.specs.FieldTable.{rowCount, tableCheckOf, fieldsOf}
+use Rattle.field_table.specs.FieldTableLaws.{tableCheckOf-accepted}
 use Rattle.validator.specs.declared.message_call.WalkedMessage.{WalkedMessage}
 use Rattle.validator.specs.declared.message_call.WalkedMessage.the-variants as walked
 use Rattle.validator.specs.MessageCall as call

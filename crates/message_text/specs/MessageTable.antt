@@ -20,10 +20,10 @@ use Rattle.refusals.specs.declared.refusal.Refusal.the-variants.{TextTooLong, U
 use Rattle.lines.specs.declared.line_parts.Number32.the-variants.{Number}
 use Rattle.lines.specs.Lines.{positionOf, before, behind, Pieces, last, piece, linesOf, lineFeed}
 use Rattle.lines.specs.LineParts.{numberOf}
-use Rattle.walk_memory.specs.declared.field_table.TableCheck.the-variants as table
-use Rattle.walk_memory.specs.FieldTable.{rowCount, tagOf, firstOf, pastOf, tableCheckOf}
-use Rattle.walk_memory.specs.FieldTableLaws.{AcceptedTable}
-use Rattle.walk_memory.specs.FieldTableLaws.{tableCheckOf-accepted, tableCheckOf-many}
+use Rattle.field_table.specs.declared.field_table.TableCheck.the-variants as table
+use Rattle.field_table.specs.FieldTable.{rowCount, tagOf, firstOf, pastOf, tableCheckOf}
+use Rattle.field_table.specs.FieldTableLaws.{AcceptedTable}
+use Rattle.field_table.specs.FieldTableLaws.{tableCheckOf-accepted, tableCheckOf-many}
 use Rattle.message_text.specs.declared.message_text.FieldLine.{FieldLine}
 use Rattle.message_text.specs.declared.message_text.FieldLine.the-variants.{Field, NoField}
 use Rattle.message_text.specs.declared.message_text.ReadMessage.{ReadMessage}

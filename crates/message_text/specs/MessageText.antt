@@ -1,6 +1,6 @@
 -- The message text, msg.txt (document 01, 'One list in full'): "one tag=value line a field". "A msg.txt over 65,536 bytes is refused with 1, and a line of another
 -- form or without its line feed with 2, places as for texts. The tag is written as TAG above; the value is all behind the first =, perhaps empty."
--- Its fields are given by a field table over the text itself (`FieldTable.antt` of walk_memory). "one too small gives 13": three words a field are needed.
+-- Its fields are given by a field table over the text itself (`FieldTable.antt` of field_table). "one too small gives 13": three words a field are needed.
 -- `FieldLine` and `ReadMessage` are declared in src/message_text.rt. Assumes nothing.
 --
 --   fieldLineOf line            the tag of a line, and where its value begins in the line, or NoField for a line of another form

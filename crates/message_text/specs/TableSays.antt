@@ -12,7 +12,7 @@ use lib.ListN.{length, take, drop}
 use Rattle.lines.specs.declared.line_parts.Number32.the-variants.{Number}
 use Rattle.lines.specs.Lines.{before, behind, Pieces, last, piece}
 use Rattle.lines.specs.LineParts.{numberOf}
-use Rattle.walk_memory.specs.FieldTable.{tagOf, firstOf, pastOf}
+use Rattle.field_table.specs.FieldTable.{tagOf, firstOf, pastOf}
 use Rattle.message_text.specs.declared.message_type.Stretch.{Stretch}
 use Rattle.message_text.specs.MessageText.{equalsSign}
 use Rattle.message_text.specs.MessageType.{partOf}

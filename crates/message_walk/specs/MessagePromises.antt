@@ -12,14 +12,14 @@ use Prim.Native.Nat.{ℕ, _+_, _*_, _≤_, _<_}
 use mathlib.Core.Bool.{true}
 use mathlib.Core.List.{List}
 use lib.ListN.{length}
-use Rattle.sorting.specs.Search.{StrictlyAscending}
+use Rattle.ascending.specs.Search.{StrictlyAscending}
 use Rattle.layouts.specs.Limits.{gateLimits}
 use Rattle.layouts.specs.LayoutWords.{groupCount}
 use Rattle.layouts.specs.LayoutCheckFacts.{Passed}
-use Rattle.walk_memory.specs.FieldTable.{rowCount, tagOf}
-use Rattle.walk_memory.specs.FieldTableLaws.{AcceptedTable}
-use Rattle.walk_memory.specs.EventSpaceLaws.{Wrote}
-use Rattle.walk_memory.specs.EntryTags.{holdsRank}
+use Rattle.field_table.specs.FieldTable.{rowCount, tagOf}
+use Rattle.field_table.specs.FieldTableLaws.{AcceptedTable}
+use Rattle.events.specs.EventSpaceLaws.{Wrote}
+use Rattle.entry_tags.specs.EntryTags.{holdsRank}
 use Rattle.walk_steps.specs.WalkWords.{groupOf, inputOf}
 use Rattle.message_level.specs.MessageWalk.{placeAt, turnAt, messageTurns}
 use Rattle.message_level.specs.MessageWords.{levelOf}

@@ -9,23 +9,23 @@ use mathlib.Core.Option.{none, some}
 use mathlib.Core.List.{List, [], _∷_, _++_}
 use native.Mathlib.Omega.{arith}
 use lib.ListN.{length}
-use Rattle.sorting.specs.declared.search.Found.{Found}
-use Rattle.sorting.specs.declared.search.Found.the-variants.{At, Nothing}
-use Rattle.sorting.specs.Search.{StrictlyAscending, rankIn}
+use Rattle.ascending.specs.declared.search.Found.{Found}
+use Rattle.ascending.specs.declared.search.Found.the-variants.{At, Nothing}
+use Rattle.ascending.specs.Search.{StrictlyAscending, rankIn}
 use Rattle.layouts.specs.Limits.{gateLimits}
 use Rattle.layouts.specs.LayoutWords.{groupCount, levelMembers}
 use Rattle.layouts.specs.LayoutCheckFacts.{Passed}
-use Rattle.walk_memory.specs.declared.event.Kind.the-variants.{Twice, Foreign}
-use Rattle.walk_memory.specs.declared.event.Event.{Event}
-use Rattle.walk_memory.specs.Membership.{_∈ᵇ_}
-use Rattle.walk_memory.specs.FieldTable.{rowCount, tagOf}
-use Rattle.walk_memory.specs.EntryTags.{noRanks, holdsRank, insertRank}
-use Rattle.walk_memory.specs.EventSpaceLaws.{Wrote, wrote-none, wrote-then}
+use Rattle.events.specs.declared.event.Kind.the-variants.{Twice, Foreign}
+use Rattle.events.specs.declared.event.Event.{Event}
+use Rattle.ascii.specs.Membership.{_∈ᵇ_}
+use Rattle.field_table.specs.FieldTable.{rowCount, tagOf}
+use Rattle.entry_tags.specs.EntryTags.{noRanks, holdsRank, insertRank}
+use Rattle.events.specs.EventSpaceLaws.{Wrote, wrote-none, wrote-then}
 use Rattle.group_reading.specs.GroupWalk.{walkGroup}
 use Rattle.walk_steps.specs.WrittenEvents.{tagEvent}
 use Rattle.walk_steps.specs.WalkWords.{among, numberFound, groupOf, inputOf, topMembers}
 use Rattle.walk_steps.specs.WalkWordsLaws.{member-found, member-nowhere, groupOf-number, layoutOf-rules, top-ascends}
-use Rattle.walk.specs.WalkPromises.{Walks}
+use Rattle.group_walk.specs.WalkPromises.{Walks}
 use Rattle.message_level.specs.MessageWalk.{twiceIf, foreignUnless, Turn, placeAt, turnAt, messageTurns}
 use Rattle.message_level.specs.MessageWalkLaws.{Passes, turn-undefined, turn-defined, turn-passes, TurnsSoFar, turns-begin, turns-end, turns-go-on}
 use Rattle.message_level.specs.MessageWords.{levelOf}

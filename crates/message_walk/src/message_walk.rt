@@ -1,13 +1,13 @@
 // The loop over the fields of the message level: a defined tag that begins a top group is walked, any other must be a member of the top. Ported from
 // validator.rs, the loop of `Validator::validate`; the ErrorSink is the event space.
+use ascending::search::Found;
+use ascending::search::binary_search;
+use events::event::Kind;
+use field_table::field_table::tag_at;
+use group_walk::group_walk::GroupEnd;
+use group_walk::group_walk::walk_group;
 use layouts::layout_words::members_at;
 use message_level::seen_tags::insert;
-use sorting::search::Found;
-use sorting::search::binary_search;
-use walk::group_walk::GroupEnd;
-use walk::group_walk::walk_group;
-use walk_memory::event::Kind;
-use walk_memory::field_table::tag_at;
 use walk_steps::group_events::put_event;
 use walk_steps::group_steps::row_count;
 use walk_steps::layout_input::top_group;
@@ -17,8 +17,8 @@ ghost use mathlib.Core.List.{List};
 ghost use Prim.Native.Nat.{ℕ, _+_, _<_, _^_};
 ghost use Rattle.layouts.specs.Limits.{gateLimits};
 ghost use Rattle.layouts.specs.LayoutCheckFacts.{Passed};
-ghost use Rattle.walk_memory.specs.EntryTags.{noRanks};
-ghost use Rattle.walk_memory.specs.EventSpaceLaws.{Wrote};
+ghost use Rattle.entry_tags.specs.EntryTags.{noRanks};
+ghost use Rattle.events.specs.EventSpaceLaws.{Wrote};
 ghost use Rattle.walk_steps.specs.WalkWords.{topMembers};
 ghost use Rattle.message_level.specs.MessageWalk.{twiceIf, foreignUnless};
 ghost use Rattle.message_walk.specs.MessagePromises.{Lent, PlaceAsks, Placed, TurnAsks, Turned, Walked};

@@ -1,7 +1,5 @@
 -- Definitions and laws of the crate `read_dictionary`: what the call writes. A definition's laws stand in the file of its name with `Laws`, its
 -- examples in the one with `Cases`.
-pub mod IndexWords
-pub mod IndexWordsLaws
 pub mod ReadDictionary
 pub mod ReadDictionaryCases
 pub mod ReadDictionaryLaws

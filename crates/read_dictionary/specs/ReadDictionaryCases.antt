@@ -6,17 +6,17 @@ use lib.ListN.{replicate}
 use Rattle.ascii.specs.Notation.{isBetween}
 use Rattle.ascii.specs.Bytes.{ascii, nonEmpty, every}
 use Rattle.ascii.specs.Digits.{isDigits, decimalFrom}
-use Rattle.sorting.specs.Sort.{inserted, sorted}
+use Rattle.ascending.specs.Sort.{inserted, sorted}
 use Rattle.refusals.specs.declared.refusal.Refusal.the-variants.{NotAllowed, DefinedAgain, SpaceShort}
 use Rattle.lines.specs.Lines.{positionOf, startsWith, isSame, longer, cut}
 use Rattle.lines.specs.LineParts.{noLeadingZero, numberOf, flagOf, typeIn, typeOf, wordAt, isAlphanumeric, messageTypeOf, valueOf}
 use Rattle.line_forms.specs.LineForms.{defOf, beginOf, messageOf, fieldOf, groupRest, groupOf, useOf, endOf, blockLineOf, definitionLineOf, lineOf}
-use Rattle.texts.specs.DictionaryOrder.{stepOf}
+use Rattle.dictionary_order.specs.DictionaryOrder.{stepOf}
 use Rattle.texts.specs.DictionaryText.{orderFrom, orderOf, isIn, againFrom, againOf, dictionaryTextOf}
 use Rattle.read_dictionary.specs.declared.read_dictionary.Read.the-variants.{Written, Refused}
 use Rattle.records.specs.Records.{recordOf}
 use Rattle.dictionary.specs.DictionaryWords.{isOf, nameOf, namesOf, placeOf, recordsOf, indexOf, dictionaryWords, linesIn}
-use Rattle.dictionary.specs.DictionaryCases.{four, smallWords}
+use Rattle.definitions.specs.DictionaryCases.{four, smallWords}
 use Rattle.read_dictionary.specs.ReadDictionary.{readOf, readIn}
 
 abbrev smallText : List ℕ

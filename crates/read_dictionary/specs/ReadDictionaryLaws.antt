@@ -12,11 +12,11 @@ use lib.Seq.{sets, length-sets, sets-eq, take-at}
 use borrow.Author.Tests.{le-leb, lt-leb}
 use Rattle.ascii.specs.Bytes.{nonEmpty}
 use Rattle.ascii.specs.Notation.{isBetween}
-use Rattle.sorting.specs.Sort.{howOften}
+use Rattle.ascending.specs.Sort.{howOften}
 use Rattle.refusals.specs.declared.refusal.Refusal.{Refusal}
 use Rattle.refusals.specs.declared.refusal.Refusal.the-variants.{UnknownForm, NotAllowed, SpaceShort}
 use Rattle.line_forms.specs.declared.line.Line.{Line}
-use Rattle.texts.specs.declared.dictionary_order.State.{State}
+use Rattle.dictionary_order.specs.declared.dictionary_order.State.{State}
 use Rattle.texts.specs.declared.dictionary_text.Counts.{Counts}
 use Rattle.texts.specs.declared.dictionary_text.Defined.{Defined}
 use Rattle.texts.specs.declared.dictionary_text.Defined.the-variants.{Tag, ComponentName, MessageName, Nothing}
@@ -25,7 +25,7 @@ use Rattle.texts.specs.declared.dictionary_text.TextOutcome.the-variants as tex
 use Rattle.lines.specs.Lines.{Pieces, last, piece, positionOf, linesOf, lineFeed}
 use Rattle.lines.specs.LinesLaws.{found-within, cut-at-piece, cut-at-last, cut-nothing}
 use Rattle.line_forms.specs.LineForms.{lineOf}
-use Rattle.texts.specs.DictionaryOrder.{start, stepOf, behindTrailer, behindMessage}
+use Rattle.dictionary_order.specs.DictionaryOrder.{start, stepOf, behindTrailer, behindMessage}
 use Rattle.texts.specs.DictionaryText.{counts, counted, definedBy, orderFrom, orderOf, dictionaryTextOf}
 use Rattle.read_dictionary.specs.declared.read_dictionary.Read.{Read}
 use Rattle.read_dictionary.specs.declared.read_dictionary.Read.the-variants.{Written, Refused}
@@ -33,10 +33,10 @@ use Rattle.records.specs.Records.{recordOf}
 use Rattle.records.specs.RecordsLaws.{recordOf-length}
 use Rattle.dictionary.specs.DictionaryWords.{namesOf, recordsOf, indexOf, dictionaryWords, linesIn}
 use Rattle.dictionary.specs.DictionaryCheck.{isDictionary}
-use Rattle.dictionary.specs.PassAccepted.{tagIn, componentIn, messageIn, tags-step, components-step, messages-step}
-use Rattle.dictionary.specs.AcceptedPass.{fault-by, accepted-parts, accepted-pass, accepted-size, dictionaryWords-length, recordsOf-length, indexOf-length, linesFrom-records, text-lines, text-keys, tags-once, components-once, messages-once}
-use Rattle.read_dictionary.specs.IndexWords.{linesHeld, IndexSpace}
-use Rattle.read_dictionary.specs.IndexWordsLaws.{sets-append, space-kept, lines-kept}
+use Rattle.definitions.specs.PassAccepted.{tagIn, componentIn, messageIn, tags-step, components-step, messages-step}
+use Rattle.definitions.specs.AcceptedPass.{fault-by, accepted-parts, accepted-pass, accepted-size, dictionaryWords-length, recordsOf-length, indexOf-length, linesFrom-records, text-lines, text-keys, tags-once, components-once, messages-once}
+use Rattle.put_dictionary.specs.IndexWords.{linesHeld, IndexSpace}
+use Rattle.put_dictionary.specs.IndexWordsLaws.{sets-append, space-kept, lines-kept}
 use Rattle.read_dictionary.specs.ReadDictionary.{textLines, neededFor, spaceAnswer, spaceWith, textAnswer, readOf, readIn}
 
 -- ---- the counts of an accepted text

@@ -8,7 +8,7 @@ use mathlib.Core.Path.{_≡_}
 use Prim.Native.Nat.{ℕ, _≤_, _<_}
 use mathlib.Core.List.{List}
 use lib.ListN.{length, take}
-use Rattle.sorting.specs.Sort.{howOften}
+use Rattle.ascending.specs.Sort.{howOften}
 use Rattle.texts.specs.declared.dictionary_text.Counts.{Counts}
 use Rattle.texts.specs.DictionaryText.{againOf, orderOf, firstOf}
 

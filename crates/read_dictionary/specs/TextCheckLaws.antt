@@ -9,19 +9,19 @@ use lib.ListN.{length, getD, set, take, drop, length-append, length-drop}
 use lib.Seq.{sets, length-sets, sets-eq, take-at, length-take-le}
 use borrow.Author.Tests.{le-ltb}
 use Rattle.ascii.specs.Notation.{isBetween}
-use Rattle.sorting.specs.Search.{isStrictlyAscending}
-use Rattle.sorting.specs.SearchLaws.{isStrictlyAscending-true}
-use Rattle.sorting.specs.Sort.{sorted, once, howOften, AsOften}
-use Rattle.sorting.specs.SortLaws.{sorted-as-often}
+use Rattle.ascending.specs.Search.{isStrictlyAscending}
+use Rattle.ascending.specs.SearchLaws.{isStrictlyAscending-true}
+use Rattle.ascending.specs.Sort.{sorted, once, howOften, AsOften}
+use Rattle.ascending.specs.SortLaws.{sorted-as-often}
 use Rattle.refusals.specs.declared.refusal.Refusal.{Refusal}
 use Rattle.refusals.specs.declared.refusal.Refusal.the-variants.{UnknownForm, NotAllowed, TooManyOpen}
 use Rattle.line_forms.specs.declared.line.Line.{Line}
 use Rattle.line_forms.specs.declared.line.Line.the-variants.{Def, Value, BeginHeader, BeginTrailer, EndHeader, EndTrailer, Component, Message, Field, Group, Use, End, Member, RequiredTag, Unknown}
 use Rattle.lines.specs.declared.line_parts.Number32.{Number32}
 use Rattle.lines.specs.declared.line_parts.MessageType.{MessageType}
-use Rattle.texts.specs.declared.dictionary_order.State.{State}
-use Rattle.texts.specs.declared.dictionary_order.Fault.the-variants.{NoFault, Faulty}
-use Rattle.texts.specs.declared.dictionary_order.Step.{Step}
+use Rattle.dictionary_order.specs.declared.dictionary_order.State.{State}
+use Rattle.dictionary_order.specs.declared.dictionary_order.Fault.the-variants.{NoFault, Faulty}
+use Rattle.dictionary_order.specs.declared.dictionary_order.Step.{Step}
 use Rattle.texts.specs.declared.dictionary_text.Counts.{Counts}
 use Rattle.texts.specs.declared.dictionary_text.Defined.{Defined}
 use Rattle.texts.specs.declared.dictionary_text.Defined.the-variants.{Tag, ComponentName, MessageName, Nothing}
@@ -34,17 +34,17 @@ use Rattle.refusals.specs.Refusal.{refusalPlace}
 use Rattle.lines.specs.Lines.{Pieces, last, piece, positionOf, linesOf, lineFeed}
 use Rattle.lines.specs.LinesLaws.{found-within}
 use Rattle.line_forms.specs.LineForms.{lineOf}
-use Rattle.texts.specs.DictionaryOrder as order
-use Rattle.texts.specs.DictionaryOrder.{start, stepOf, taken, refused, notAllowed, closedBlock, openedBlock, usedIn, isNumber, isLetters, closeGroup, closeComponent, closeMessage, openGroup, endStep, openBlock, closeBlock}
+use Rattle.dictionary_order.specs.DictionaryOrder as order
+use Rattle.dictionary_order.specs.DictionaryOrder.{start, stepOf, taken, refused, notAllowed, closedBlock, openedBlock, usedIn, isNumber, isLetters, closeGroup, closeComponent, closeMessage, openGroup, endStep, openBlock, closeBlock}
 use Rattle.texts.specs.DictionaryText.{counts, counted, definedBy, keyOf, isIn, onKey, againFrom, againOf, orderOf, refusedEarlier, firstOf}
 use Rattle.texts.specs.DictionaryTextLaws.{OrderSoFar, order-begins, order-faulty, order-turns, again-ends, again-unended, again-no-key, again-new, defines-length}
 use Rattle.records.specs.RecordsLaws.{Held}
 use Rattle.records.specs.LineReadLaws.{lineOf-fits}
 use Rattle.dictionary.specs.DictionaryWords.{namesOf}
 use Rattle.dictionary.specs.DictionaryCheck.{isTaken}
-use Rattle.dictionary.specs.IndexLaws.{strictly-distinct, distinct-often, once-same}
-use Rattle.dictionary.specs.PassAccepted.{AllHeld, counted-lines, keyIn, keysOf, keys-once, not-seen, howOften-append, tagIn, componentIn, messageIn, tags-step, components-step, messages-step}
-use Rattle.dictionary.specs.AcceptedPass.{usable-held}
+use Rattle.definitions.specs.IndexLaws.{strictly-distinct, distinct-often, once-same}
+use Rattle.definitions.specs.PassAccepted.{AllHeld, counted-lines, keyIn, keysOf, keys-once, not-seen, howOften-append, tagIn, componentIn, messageIn, tags-step, components-step, messages-step}
+use Rattle.definitions.specs.AcceptedPass.{usable-held}
 use Rattle.read_dictionary.specs.ReadDictionaryLaws.{counted-more}
 use Rattle.read_dictionary.specs.TextCheck.{OnceEach, NamesRoom, NamesRead}
 

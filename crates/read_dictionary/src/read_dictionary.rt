@@ -1,9 +1,9 @@
 // Reading a dictionary text into lent words.
-use crate::index_words::put_index;
-use crate::record_words::put_record;
 use crate::text_check::check_text;
 use line_forms::line::line_of;
 use lines::lines::position_of;
+use put_dictionary::index_words::put_index;
+use put_dictionary::record_words::put_record;
 use refusals::refusal::Refusal;
 use texts::dictionary_text::Counts;
 use texts::dictionary_text::TextOutcome;

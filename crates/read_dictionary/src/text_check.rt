@@ -1,17 +1,17 @@
 // The check of a dictionary text, where no name is compared with all before it: the names are kept while the lines are read in order, and sorted. Only where one
 // is defined again does texts search for the first such line. A line that defines a name has at least five bytes, its line feed with it.
+use ascending::search::is_strictly_ascending;
+use dictionary_order::dictionary_order::BEGINNING;
+use dictionary_order::dictionary_order::BEHIND_MESSAGE;
+use dictionary_order::dictionary_order::BEHIND_TRAILER;
+use dictionary_order::dictionary_order::Fault;
+use dictionary_order::dictionary_order::NO_BODY;
+use dictionary_order::dictionary_order::State;
+use dictionary_order::dictionary_order::take_line;
 use line_forms::line::line_of;
 use lines::lines::position_of;
 use refusals::refusal::Refusal;
-use sorting::search::is_strictly_ascending;
 use sorting::sort::sort_unstable;
-use texts::dictionary_order::BEGINNING;
-use texts::dictionary_order::BEHIND_MESSAGE;
-use texts::dictionary_order::BEHIND_TRAILER;
-use texts::dictionary_order::Fault;
-use texts::dictionary_order::NO_BODY;
-use texts::dictionary_order::State;
-use texts::dictionary_order::take_line;
 use texts::dictionary_text::Counts;
 use texts::dictionary_text::Defined;
 use texts::dictionary_text::TextOutcome;
@@ -21,10 +21,10 @@ ghost use mathlib.Core.Path.{_≡_};
 ghost use Prim.Native.Nat.{_≤_};
 ghost use lib.ListN.{length};
 ghost use lib.Seq.{sets};
-ghost use Rattle.sorting.specs.Search.{isStrictlyAscending};
-ghost use Rattle.sorting.specs.Sort.{sorted};
+ghost use Rattle.ascending.specs.Search.{isStrictlyAscending};
+ghost use Rattle.ascending.specs.Sort.{sorted};
 ghost use Rattle.texts.specs.DictionaryText.{counted, atEnd, orderOf, dictionaryTextOf};
-ghost use Rattle.dictionary.specs.PassAccepted.{tagIn, componentIn, messageIn};
+ghost use Rattle.definitions.specs.PassAccepted.{tagIn, componentIn, messageIn};
 ghost use Rattle.read_dictionary.specs.TextCheck.{NamesRoom, NamesRead};
 
 // What reading the lines in order gives, and what was counted up to the end or to the line that is refused.

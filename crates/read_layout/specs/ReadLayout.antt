@@ -19,12 +19,12 @@ use Rattle.layouts.specs.Limits.{gateLimits}
 use Rattle.layouts.specs.Layout.{Layout}
 use Rattle.layouts.specs.LayoutRules.{meetsLimits}
 use Rattle.layouts.specs.LayoutWords.{arranged}
-use Rattle.layout_text.specs.declared.layout_rules.FirstBroken.{FirstBroken}
-use Rattle.layout_text.specs.declared.layout_rules.FirstBroken.the-variants.{BrokenRule, Unbroken}
+use Rattle.layout_rules.specs.declared.layout_rules.FirstBroken.{FirstBroken}
+use Rattle.layout_rules.specs.declared.layout_rules.FirstBroken.the-variants.{BrokenRule, Unbroken}
 use Rattle.read_layout.specs.declared.read_layout.ReadLayout.{ReadLayout}
 use Rattle.read_layout.specs.declared.read_layout.ReadLayout.the-variants.{Written, Refused}
 use Rattle.layout_text.specs.LayoutOfText.{layoutOf}
-use Rattle.layout_text.specs.FirstBroken.{firstBroken}
+use Rattle.layout_rules.specs.FirstBroken.{firstBroken}
 
 -- row 13
 abbrev pub spaceOutcome : ℕ → ℕ → ReadLayout

@@ -8,8 +8,8 @@ use lib.ListN.{replicate}
 use Rattle.ascii.specs.Notation.{isBetween}
 use Rattle.ascii.specs.Bytes.{ascii, nonEmpty, every}
 use Rattle.ascii.specs.Digits.{isDigits, decimalFrom}
-use Rattle.sorting.specs.Sort.{isIn}
-use Rattle.sorting.specs.Search.{isStrictlyAbove, isStrictlyAscending}
+use Rattle.ascending.specs.Sort.{isIn}
+use Rattle.ascending.specs.Search.{isStrictlyAbove, isStrictlyAscending}
 use Rattle.refusals.specs.declared.refusal.Refusal.the-variants.{NotAllowed, MembersOver, RuleBroken, SpaceShort}
 use Rattle.lines.specs.Lines.{positionOf, startsWith, isSame, longer, cut}
 use Rattle.lines.specs.LineParts.{noLeadingZero, numberOf, flagOf, wordAt, isAlphanumeric, messageTypeOf}
@@ -20,7 +20,7 @@ use Rattle.layouts.specs.LayoutWords.{placesFrom, arrangedParts, arranged}
 use Rattle.read_layout.specs.declared.read_layout.ReadLayout.the-variants.{Written, Refused}
 use Rattle.layout_text.specs.LevelLines.{levelLineOf, linesIn}
 use Rattle.layout_text.specs.LayoutOfText.{levelFrom, layoutOf}
-use Rattle.layout_text.specs.FirstBroken.{ownBroken, topBroken, firstBelow, firstBroken}
+use Rattle.layout_rules.specs.FirstBroken.{ownBroken, topBroken, firstBelow, firstBroken}
 use Rattle.read_layout.specs.ReadLayout.{layoutOutcome, readOutcome, readWords}
 
 abbrev partiesText : List ℕ

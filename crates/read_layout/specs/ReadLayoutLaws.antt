@@ -25,20 +25,20 @@ use Rattle.layouts.specs.LayoutCheck.{isLayout}
 use Rattle.layouts.specs.LayoutCheckComplete.{length-arranged, arranged-isLayout}
 use Rattle.layouts.specs.GatheredLayout.{Gathered, RowsInside, gatheredWords}
 use Rattle.layouts.specs.GatheredLayoutLaws.{gathered-inside, gathered-needed, gathered-written}
-use Rattle.layout_text.specs.declared.layout_rules.FirstBroken.{FirstBroken}
-use Rattle.layout_text.specs.declared.layout_rules.FirstBroken.the-variants.{BrokenRule, Unbroken}
-use Rattle.read_layout.specs.declared.layout_parts.Parts.{Parts}
+use Rattle.layout_rules.specs.declared.layout_rules.FirstBroken.{FirstBroken}
+use Rattle.layout_rules.specs.declared.layout_rules.FirstBroken.the-variants.{BrokenRule, Unbroken}
+use Rattle.layout_parts.specs.declared.layout_parts.Parts.{Parts}
 use Rattle.read_layout.specs.declared.read_layout.ReadLayout.{ReadLayout}
 use Rattle.read_layout.specs.declared.read_layout.ReadLayout.the-variants.{Written, Refused}
 use Rattle.layout_text.specs.LevelLines.{linesAt}
 use Rattle.layout_text.specs.LayoutOfText.{layoutOf}
 use Rattle.layout_text.specs.LayoutOfTextLaws.{lines-told}
 use Rattle.layout_text.specs.InOrder.{InOrder, ordered-lines}
-use Rattle.layout_text.specs.FirstBroken.{firstBroken}
-use Rattle.layout_text.specs.FirstBrokenLaws.{firstBroken-meets, firstBroken-broken}
-use Rattle.read_layout.specs.LayoutParts.{memberCount, requiredCount, groupCount}
-use Rattle.read_layout.specs.LayoutPartsLaws.{CountsOf, lines-count}
-use Rattle.read_layout.specs.GatherLoop.{GatherRoom, GatheredIn}
+use Rattle.layout_rules.specs.FirstBroken.{firstBroken}
+use Rattle.layout_rules.specs.FirstBrokenLaws.{firstBroken-meets, firstBroken-broken}
+use Rattle.layout_parts.specs.LayoutParts.{memberCount, requiredCount, groupCount}
+use Rattle.layout_parts.specs.LayoutPartsLaws.{CountsOf, lines-count}
+use Rattle.layout_parts.specs.GatherLoop.{GatherRoom, GatheredIn}
 use Rattle.read_layout.specs.ReadLayout.{spaceOutcome, rulesOutcome, layoutOutcome, orderOutcome, readOutcome, writtenIn, readWords}
 
 -- ---- rows 1 to 4

@@ -1,3 +1,2 @@
-// Reading a hand-made layout text: the parts of its layout, and its words.
-pub mod layout_parts;
+// Reading a hand-made layout text into lent words.
 pub mod read_layout;

@@ -1,9 +1,9 @@
 // Reading a hand-made layout text into layout words.
-use crate::layout_parts::Parts;
-use crate::layout_parts::count_parts;
-use crate::layout_parts::gather_layout;
-use layout_text::layout_rules::FirstBroken;
-use layout_text::layout_rules::first_broken;
+use layout_parts::layout_parts::Parts;
+use layout_parts::layout_parts::count_parts;
+use layout_parts::layout_parts::gather_layout;
+use layout_rules::layout_rules::FirstBroken;
+use layout_rules::layout_rules::first_broken;
 use layout_text::layout_text::LayoutTextOutcome;
 use layout_text::layout_text::check_layout_text;
 use layouts::put_layout::put_layout;

@@ -1,7 +1,5 @@
--- Definitions and laws of the crate `sorting`: words in order. A definition's laws stand in the file of its name with `Laws`; the examples
--- of all stand in `OrderCases`.
-pub mod Sort
-pub mod SortLaws
+-- Definitions and laws of the crate `sorting`: how words are sorted in place. A definition's laws stand in the file of its name with `Laws`; the
+-- examples of all, and of the crate `ascending`, stand in `OrderCases`. What sorted words are stands in `Sort.antt` of `ascending`.
 pub mod Swap
 pub mod SwapLaws
 pub mod Heap
@@ -11,8 +9,4 @@ pub mod Insertion
 pub mod InsertionLaws
 pub mod Partition
 pub mod PartitionLaws
-pub mod Search
-pub mod SearchLaws
-pub mod Dedup
-pub mod DedupLaws
 pub mod OrderCases

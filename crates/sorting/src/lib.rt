@@ -1,8 +1,6 @@
-// Words in order: sorting and searching them, and dropping those that are there twice.
-pub mod dedup;
+// Sorting words in place.
 mod heap_sort;
 mod insertion_sort;
 mod quick_sort;
-pub mod search;
 pub mod sort;
 mod swap;

@@ -11,9 +11,9 @@ use Rattle.line_forms.specs.declared.line.Line.{Line}
 use Rattle.line_forms.specs.declared.line.Line.the-variants.{Def, Value, BeginHeader, BeginTrailer, EndHeader, EndTrailer, Component, Message, Field, Group, Use, End, Member, RequiredTag, Unknown}
 use Rattle.lines.specs.declared.line_parts.Number32.{Number32}
 use Rattle.lines.specs.declared.line_parts.MessageType.{MessageType}
-use Rattle.texts.specs.declared.dictionary_order.State.{State}
-use Rattle.texts.specs.declared.dictionary_order.Step.{Step}
-use Rattle.texts.specs.DictionaryOrder.{openBlock, closeBlock, openedBlock, uses, beginning, definitions, behindHeader, behindTrailer, behindMessage, header, trailer, component, message, fields, groups, noBody, standing, closedBlock, usedIn, isNumber, isLetters, stepOf, taken, notAllowed, closeGroup, closeComponent, closeMessage, openGroup, endStep}
+use Rattle.dictionary_order.specs.declared.dictionary_order.State.{State}
+use Rattle.dictionary_order.specs.declared.dictionary_order.Step.{Step}
+use Rattle.dictionary_order.specs.DictionaryOrder.{openBlock, closeBlock, openedBlock, uses, beginning, definitions, behindHeader, behindTrailer, behindMessage, header, trailer, component, message, fields, groups, noBody, standing, closedBlock, usedIn, isNumber, isLetters, stepOf, taken, notAllowed, closeGroup, closeComponent, closeMessage, openGroup, endStep}
 use Rattle.texts.specs.DictionaryText.{counts}
 
 -- ---- stepOf: at most 40 group blocks are open

@@ -16,9 +16,9 @@ use Rattle.refusals.specs.declared.refusal.Refusal.{Refusal}
 use Rattle.refusals.specs.declared.refusal.Refusal.the-variants.{TextTooLong, UnknownForm, NotAllowed, DefinedAgain}
 use Rattle.line_forms.specs.declared.line.Line.{Line}
 use Rattle.line_forms.specs.declared.line.Line.the-variants.{Def, Value, BeginHeader, BeginTrailer, EndHeader, EndTrailer, Component, Message, Field, Group, Use, End, Member, RequiredTag, Unknown}
-use Rattle.texts.specs.declared.dictionary_order.State.{State}
-use Rattle.texts.specs.declared.dictionary_order.Fault.{Fault}
-use Rattle.texts.specs.declared.dictionary_order.Fault.the-variants.{NoFault, Faulty}
+use Rattle.dictionary_order.specs.declared.dictionary_order.State.{State}
+use Rattle.dictionary_order.specs.declared.dictionary_order.Fault.{Fault}
+use Rattle.dictionary_order.specs.declared.dictionary_order.Fault.the-variants.{NoFault, Faulty}
 use Rattle.texts.specs.declared.dictionary_text.Defined.{Defined}
 use Rattle.texts.specs.declared.dictionary_text.Defined.the-variants.{Tag, ComponentName, MessageName, Nothing}
 use Rattle.texts.specs.declared.dictionary_text.Counts.{Counts}
@@ -31,7 +31,7 @@ use Rattle.texts.specs.declared.dictionary_text.Again.the-variants.{At, 
 use Rattle.refusals.specs.Refusal.{refusalPlace}
 use Rattle.lines.specs.Lines.{Pieces, last, piece, linesOf}
 use Rattle.line_forms.specs.LineForms.{lineOf}
-use Rattle.texts.specs.DictionaryOrder.{behindTrailer, behindMessage, start, stepOf}
+use Rattle.dictionary_order.specs.DictionaryOrder.{behindTrailer, behindMessage, start, stepOf}
 
 -- ---- what a line defines
 

@@ -10,7 +10,7 @@ use Rattle.texts.specs.declared.dictionary_text.TextOutcome.the-variants
 use Rattle.lines.specs.Lines.{positionOf, startsWith, isSame, longer, cut}
 use Rattle.lines.specs.LineParts.{noLeadingZero, numberOf, flagOf, typeIn, typeOf, wordAt, isAlphanumeric, messageTypeOf, valueOf}
 use Rattle.line_forms.specs.LineForms.{defOf, beginOf, messageOf, fieldOf, groupRest, groupOf, useOf, endOf, blockLineOf, definitionLineOf, lineOf}
-use Rattle.texts.specs.DictionaryOrder.{stepOf}
+use Rattle.dictionary_order.specs.DictionaryOrder.{stepOf}
 use Rattle.texts.specs.DictionaryText.{counts, orderFrom, orderOf, isIn, againFrom, againOf, dictionaryTextOf}
 
 -- a header with so many group blocks open, one in the other

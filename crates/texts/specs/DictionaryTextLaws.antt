@@ -16,9 +16,9 @@ use Rattle.refusals.specs.declared.refusal.Refusal.{Refusal}
 use Rattle.refusals.specs.declared.refusal.Refusal.the-variants.{UnknownForm}
 use Rattle.line_forms.specs.declared.line.Line.{Line}
 use Rattle.line_forms.specs.declared.line.Line.the-variants.{Unknown}
-use Rattle.texts.specs.declared.dictionary_order.State.{State}
-use Rattle.texts.specs.declared.dictionary_order.Fault.the-variants.{NoFault, Faulty}
-use Rattle.texts.specs.declared.dictionary_order.Step.{Step}
+use Rattle.dictionary_order.specs.declared.dictionary_order.State.{State}
+use Rattle.dictionary_order.specs.declared.dictionary_order.Fault.the-variants.{NoFault, Faulty}
+use Rattle.dictionary_order.specs.declared.dictionary_order.Step.{Step}
 use Rattle.texts.specs.declared.dictionary_text.Defined.{Defined}
 use Rattle.texts.specs.declared.dictionary_text.Defined.the-variants.{Tag, ComponentName, MessageName, Nothing}
 use Rattle.texts.specs.declared.dictionary_text.Counts.{Counts}
@@ -29,7 +29,7 @@ use Rattle.lines.specs.Lines.{positionOf, linesOf, lineFeed}
 use Rattle.lines.specs.LinesLaws.{found-within, cut-at-piece, cut-at-last, cut-nothing}
 use Rattle.line_forms.specs.LineForms.{lineOf}
 use Rattle.line_forms.specs.LineFormsLaws.{lineOf-short}
-use Rattle.texts.specs.DictionaryOrder.{start, stepOf}
+use Rattle.dictionary_order.specs.DictionaryOrder.{start, stepOf}
 use Rattle.texts.specs.DictionaryText.{counts, orderOf, againOf, definedBy, counted, atEnd, orderFrom, keyOf, isIn, againFrom}
 use Rattle.texts.specs.DictionaryOrderLaws.{step-depth}
 

@@ -1,6 +1,5 @@
--- Definitions and laws of the crate `texts`: the order of the lines of a dictionary text, and its refusals. A definition's
+-- Definitions and laws of the crate `texts`: a dictionary text as a whole, and its refusals. A definition's
 -- laws stand in the file of its name with `Laws`, its examples in the one with `Cases`.
-pub mod DictionaryOrder
 pub mod DictionaryOrderLaws
 pub mod DictionaryText
 pub mod DictionaryTextLaws

@@ -1,11 +1,11 @@
 // The dictionary text: what it defines, what is defined again, and its first faulty line.
-use crate::dictionary_order::BEGINNING;
-use crate::dictionary_order::BEHIND_MESSAGE;
-use crate::dictionary_order::BEHIND_TRAILER;
-use crate::dictionary_order::Fault;
-use crate::dictionary_order::NO_BODY;
-use crate::dictionary_order::State;
-use crate::dictionary_order::take_line;
+use dictionary_order::dictionary_order::BEGINNING;
+use dictionary_order::dictionary_order::BEHIND_MESSAGE;
+use dictionary_order::dictionary_order::BEHIND_TRAILER;
+use dictionary_order::dictionary_order::Fault;
+use dictionary_order::dictionary_order::NO_BODY;
+use dictionary_order::dictionary_order::State;
+use dictionary_order::dictionary_order::take_line;
 use line_forms::line::Line;
 use line_forms::line::line_of;
 use lines::lines::position_of;

@@ -1,3 +1,2 @@
-// The dictionary text: the order of its lines, and what they define.
-pub mod dictionary_order;
+// The dictionary text: read in order, and what its lines define.
 pub mod dictionary_text;

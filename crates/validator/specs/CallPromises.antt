@@ -11,7 +11,7 @@ use Rattle.dictionary.specs.DictionaryCheck.{isDictionary}
 use Rattle.layouts.specs.Limits.{gateLimits}
 use Rattle.layouts.specs.LayoutWords.{groupCount, levelRequired, levelCountTags}
 use Rattle.layouts.specs.LayoutCheckFacts.{Passed}
-use Rattle.walk_memory.specs.FieldTableLaws.{AcceptedTable}
+use Rattle.field_table.specs.FieldTableLaws.{AcceptedTable}
 
 pub record Accepted (dictionary words fields message : List ℕ) : Type 0 where
   pub defines : isDictionary dictionary ≡ true

@@ -13,15 +13,15 @@ use mathlib.Core.List.{List, _++_}
 use lib.ListN.{length, drop}
 use Rattle.ascii.specs.Notation.{_≤ᵇ_, if_then_else_}
 use Rattle.refusals.specs.declared.refusal.Refusal.the-variants.{UnknownForm, RuleBroken, BadField, SpaceShort}
-use Rattle.dictionary.specs.DefinedTags.{definedTags}
+use Rattle.definitions.specs.DefinedTags.{definedTags}
 use Rattle.dictionary.specs.DictionaryCheck.{isDictionary}
 use Rattle.layouts.specs.Limits.{gateLimits}
 use Rattle.layouts.specs.LayoutCheck.{isLayout}
-use Rattle.walk_memory.specs.declared.field_table.TableCheck.{TableCheck}
-use Rattle.walk_memory.specs.declared.field_table.TableCheck.the-variants as table
-use Rattle.walk_memory.specs.declared.event.Event.{Event}
-use Rattle.walk_memory.specs.Events.{eventsWords}
-use Rattle.walk_memory.specs.FieldTable.{tableCheckOf}
+use Rattle.field_table.specs.declared.field_table.TableCheck.{TableCheck}
+use Rattle.field_table.specs.declared.field_table.TableCheck.the-variants as table
+use Rattle.events.specs.declared.event.Event.{Event}
+use Rattle.events.specs.Events.{eventsWords}
+use Rattle.field_table.specs.FieldTable.{tableCheckOf}
 use Rattle.validator.specs.declared.message_call.WalkedMessage.{WalkedMessage}
 use Rattle.validator.specs.declared.message_call.WalkedMessage.the-variants.{Done, Refused}
 use Rattle.message_level.specs.MessageWords.{eventsWith}

@@ -8,17 +8,17 @@ use lib.ListN.{length, drop, length-append}
 use borrow.Author.Tests.{le-leb, lt-leb}
 use Rattle.refusals.specs.declared.refusal.Refusal.the-variants.{UnknownForm, RuleBroken, BadField, SpaceShort}
 use Rattle.dictionary.specs.DictionaryCheck.{isDictionary}
-use Rattle.sorting.specs.Search.{StrictlyAscending}
-use Rattle.dictionary.specs.DefinedTags.{definedTags}
+use Rattle.ascending.specs.Search.{StrictlyAscending}
+use Rattle.definitions.specs.DefinedTags.{definedTags}
 use Rattle.layouts.specs.Limits.{gateLimits}
 use Rattle.layouts.specs.LayoutWords.{levelRequired, levelCountTags}
 use Rattle.layouts.specs.LayoutCheck.{isLayout}
 use Rattle.layouts.specs.LayoutCheckFacts.{Passed}
-use Rattle.walk_memory.specs.declared.field_table.TableCheck.the-variants as table
-use Rattle.walk_memory.specs.declared.event.Event.{Event}
-use Rattle.walk_memory.specs.Events.{eventsWords}
-use Rattle.walk_memory.specs.EventSpaceLaws.{Wrote, wrote-then, putAllIn-room, putAllIn-empty}
-use Rattle.walk_memory.specs.FieldTable.{rowCount, tableCheckOf}
+use Rattle.field_table.specs.declared.field_table.TableCheck.the-variants as table
+use Rattle.events.specs.declared.event.Event.{Event}
+use Rattle.events.specs.Events.{eventsWords}
+use Rattle.events.specs.EventSpaceLaws.{Wrote, wrote-then, putAllIn-room, putAllIn-empty}
+use Rattle.field_table.specs.FieldTable.{rowCount, tableCheckOf}
 use Rattle.walk_steps.specs.WalkWords.{inputOf}
 use Rattle.walk_steps.specs.WalkWordsLaws.{groupOf-number, layoutOf-rules}
 use Rattle.validator.specs.declared.message_call.WalkedMessage.{WalkedMessage}

@@ -15,10 +15,10 @@ use mathlib.Core.Option.{some}
 use mathlib.Core.List.{List, [], _∷_, _++_}
 use lib.ListN.{length, take, drop}
 use Rattle.ascii.specs.Notation.{_≡ᵇ_}
-use Rattle.dictionary.specs.DefinedTags.{definedTags}
-use Rattle.walk_memory.specs.declared.event.Event.{Event}
-use Rattle.walk_memory.specs.Events.{kindNumber, eventsWords}
-use Rattle.walk_memory.specs.WalkInput.{Layout, Fields, Input}
+use Rattle.definitions.specs.DefinedTags.{definedTags}
+use Rattle.events.specs.declared.event.Event.{Event}
+use Rattle.events.specs.Events.{kindNumber, eventsWords}
+use Rattle.field_table.specs.WalkInput.{Layout, Fields, Input}
 use Rattle.group_reading.specs.GroupWalk.{walkGroup}
 use Rattle.group_reading.specs.ReadingTheorem.{FindsReadings}
 use Rattle.walk_steps.specs.WalkWords.{inputOf, topMembers}

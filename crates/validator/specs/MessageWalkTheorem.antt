@@ -15,16 +15,16 @@ use lib.ListN.{length, take, drop}
 use lib.Seq.{take-at, drop-at}
 use borrow.Author.Tests.{le-leb}
 use Rattle.dictionary.specs.DictionaryCheck.{isDictionary}
-use Rattle.dictionary.specs.DefinedTags.{definedTags}
+use Rattle.definitions.specs.DefinedTags.{definedTags}
 use Rattle.layouts.specs.Limits.{gateLimits}
 use Rattle.layouts.specs.LayoutCheck.{isLayout}
 use Rattle.layouts.specs.LayoutCheckFacts.{Passed, isLayout-passed}
-use Rattle.walk_memory.specs.declared.field_table.TableCheck.the-variants.{Accepted}
-use Rattle.walk_memory.specs.declared.event.Event.{Event}
-use Rattle.walk_memory.specs.Events.{kindNumber, eventsWords}
-use Rattle.walk_memory.specs.EventSpaceLaws.{eventsWords-length}
-use Rattle.walk_memory.specs.FieldTable.{tableCheckOf}
-use Rattle.walk_memory.specs.WalkInput.{Input}
+use Rattle.field_table.specs.declared.field_table.TableCheck.the-variants.{Accepted}
+use Rattle.events.specs.declared.event.Event.{Event}
+use Rattle.events.specs.Events.{kindNumber, eventsWords}
+use Rattle.events.specs.EventSpaceLaws.{eventsWords-length}
+use Rattle.field_table.specs.FieldTable.{tableCheckOf}
+use Rattle.field_table.specs.WalkInput.{Input}
 use Rattle.group_reading.specs.GroupWalk.{walkGroup}
 use Rattle.group_reading.specs.ReadingTheorem.{FindsReadings, walk-finds-readings}
 use Rattle.walk_steps.specs.WalkWords.{inputOf, topMembers}

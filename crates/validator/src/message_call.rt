@@ -1,23 +1,23 @@
 // The walk of a message on lent words: a call that refuses what it cannot walk, and else writes the events of the walk. Ported from validator.rs,
 // `Validator::validate`.
-use dictionary::defined_tags::defined_tags;
+use definitions::defined_tags::defined_tags;
 use dictionary::dictionary_check::is_dictionary;
-use layouts::layout_check::is_layout;
+use field_table::field_table::TableCheck;
+use field_table::field_table::check_field_table;
+use layout_check::layout_check::is_layout;
 use layouts::layout_words::count_tags_at;
 use layouts::layout_words::required_at;
 use message_level::missing::put_missing;
 use message_walk::message_walk::walk_fields;
 use refusals::refusal::Refusal;
-use walk_memory::field_table::TableCheck;
-use walk_memory::field_table::check_field_table;
 use walk_steps::group_steps::row_count;
 ghost use mathlib.Core.Path.{_≡_};
 ghost use Prim.Native.Nat.{_≤_, _<_};
 ghost use Rattle.layouts.specs.Limits.{gateLimits};
 ghost use Rattle.layouts.specs.LayoutWords.{groupCount};
 ghost use Rattle.layouts.specs.LayoutCheckFacts.{Passed};
-ghost use Rattle.walk_memory.specs.FieldTable.{rowCount};
-ghost use Rattle.walk_memory.specs.EventSpaceLaws.{Wrote};
+ghost use Rattle.field_table.specs.FieldTable.{rowCount};
+ghost use Rattle.events.specs.EventSpaceLaws.{Wrote};
 ghost use Rattle.validator.specs.CallPromises.{Accepted, mostWords};
 ghost use Rattle.validator.specs.MessageCall.{walkOf, spaceAnswer, spaceWith, walkedOf, eventsIn};
 

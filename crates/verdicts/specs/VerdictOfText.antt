@@ -17,17 +17,17 @@ use Rattle.lines.specs.Lines.{positionOf, startsWith, isSame, longer, cut, line
 use Rattle.lines.specs.LineParts.{noLeadingZero, numberOf, flagOf, typeIn, typeOf, wordAt, isAlphanumeric, messageTypeOf, valueOf}
 use Rattle.texts.specs.declared.dictionary_text.Counts.{Counts}
 use Rattle.texts.specs.declared.dictionary_text.TextOutcome.the-variants.{Accepted}
-use Rattle.texts.specs.DictionaryOrder.{stepOf}
+use Rattle.dictionary_order.specs.DictionaryOrder.{stepOf}
 use Rattle.texts.specs.DictionaryText.{counts, orderFrom, orderOf, isIn, againFrom, againOf, dictionaryTextOf}
 use Rattle.records.specs.Records.{lettersLength, lettersText, Words32}
 use Rattle.records.specs.LineTexts.{bytesFrom, valueText}
 use Rattle.dictionary.specs.DictionaryWords.{wordLines, dictionaryWords, linesIn}
 use Rattle.dictionary.specs.DictionaryCheck.{isDictionary}
-use Rattle.dictionary.specs.PassAccepted.{AcceptedWords, pass-accepted}
-use Rattle.dictionary.specs.WordLinesLaws.{wordLines-arranged, wordLines-text}
-use Rattle.dictionary.specs.DefinedFields.{valuesFirst, fieldsIn, fieldCalled, isOneOf}
-use Rattle.verdicts.specs.declared.verdict.Verdict.the-variants.{Good, Undefined, NotAdmitted}
-use Rattle.verdicts.specs.Verdict.{checkValue}
+use Rattle.definitions.specs.PassAccepted.{AcceptedWords, pass-accepted}
+use Rattle.definitions.specs.WordLinesLaws.{wordLines-arranged, wordLines-text}
+use Rattle.definitions.specs.DefinedFields.{valuesFirst, fieldsIn, fieldCalled, isOneOf}
+use Rattle.verdict.specs.declared.verdict.Verdict.the-variants.{Good, Undefined, NotAdmitted}
+use Rattle.verdict.specs.Verdict.{checkValue}
 
 -- the words of an accepted text, whatever follows them
 pub text-verdict : (text : List ℕ) (outcome : Counts) → dictionaryTextOf text ≡ Accepted outcome → (more : List ℕ) (strict : Bool) (tag : ℕ) (value : List ℕ)

@@ -15,14 +15,14 @@ use Rattle.ascii.specs.Notation.{_≤ᵇ_, if_then_else_}
 use Rattle.refusals.specs.declared.refusal.Refusal.the-variants.{UnknownForm, BadField, SpaceShort}
 use Rattle.dictionary.specs.DictionaryWords.{wordLines}
 use Rattle.dictionary.specs.DictionaryCheck.{isDictionary}
-use Rattle.walk_memory.specs.declared.field_table.TableCheck.{TableCheck}
-use Rattle.walk_memory.specs.declared.field_table.TableCheck.the-variants as table
-use Rattle.walk_memory.specs.FieldTable.{rowCount, tableCheckOf, fieldsOf}
-use Rattle.walk_memory.specs.WalkInput.{Fields}
-use Rattle.verdicts.specs.declared.verdict.Verdict.{Verdict}
+use Rattle.field_table.specs.declared.field_table.TableCheck.{TableCheck}
+use Rattle.field_table.specs.declared.field_table.TableCheck.the-variants as table
+use Rattle.field_table.specs.FieldTable.{rowCount, tableCheckOf, fieldsOf}
+use Rattle.field_table.specs.WalkInput.{Fields}
+use Rattle.verdict.specs.declared.verdict.Verdict.{Verdict}
 use Rattle.verdicts.specs.declared.verdicts_call.Judged.{Judged}
 use Rattle.verdicts.specs.declared.verdicts_call.Judged.the-variants.{Done, Refused}
-use Rattle.verdicts.specs.Verdict.{verdictWord, checkValue}
+use Rattle.verdict.specs.Verdict.{verdictWord, checkValue}
 
 module _ (dictionary : List ℕ) (strict : Bool) (table : Fields) where
   abbrev pub fieldVerdict : ℕ → Verdict

@@ -10,15 +10,15 @@ use lib.Seq.{sets, sets-eq, getD-set-other}
 use borrow.Author.Tests.{le-leb, lt-leb}
 use Rattle.refusals.specs.declared.refusal.Refusal.the-variants.{UnknownForm, BadField, SpaceShort}
 use Rattle.dictionary.specs.DictionaryCheck.{isDictionary}
-use Rattle.walk_memory.specs.declared.field_table.TableCheck.the-variants as table
-use Rattle.walk_memory.specs.FieldTable.{rowCount, tableCheckOf, fieldsOf}
-use Rattle.walk_memory.specs.WalkInput.{Fields}
-use Rattle.verdicts.specs.declared.verdict.Verdict.{Verdict}
+use Rattle.field_table.specs.declared.field_table.TableCheck.the-variants as table
+use Rattle.field_table.specs.FieldTable.{rowCount, tableCheckOf, fieldsOf}
+use Rattle.field_table.specs.WalkInput.{Fields}
+use Rattle.verdict.specs.declared.verdict.Verdict.{Verdict}
 use Rattle.verdicts.specs.declared.verdicts_call.Judged.{Judged}
 use Rattle.verdicts.specs.declared.verdicts_call.Judged.the-variants.{Done, Refused}
-use Rattle.verdicts.specs.Verdict.{verdictWord}
-use Rattle.verdicts.specs.FieldRecords.{fieldRecord, filledIn, Holds}
-use Rattle.verdicts.specs.FieldRecordsLaws.{filledIn-behind}
+use Rattle.verdict.specs.Verdict.{verdictWord}
+use Rattle.verdict.specs.FieldRecords.{fieldRecord, filledIn, Holds}
+use Rattle.verdict.specs.FieldRecordsLaws.{filledIn-behind}
 use Rattle.verdicts.specs.Verdicts.{fieldVerdict, verdictsFrom, verdictsOf, spaceAnswer, judgedOf, writtenIn, spaceWith, verdictsIn}
 
 -- ---- the words of the verdicts

@@ -1,3 +1,2 @@
 // The verdicts on the values of a message.
-mod verdict;
 pub mod verdicts_call;

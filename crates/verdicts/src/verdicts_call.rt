@@ -1,24 +1,24 @@
 // The verdicts on the values of a message, on lent words: a call that refuses what it cannot judge, and else writes one word a field.
-use crate::verdict::Verdict;
-use crate::verdict::check_value;
-use crate::verdict::record_of;
-use crate::verdict::verdict_word;
 use dictionary::dictionary_check::is_dictionary;
+use field_table::field_table::TableCheck;
+use field_table::field_table::check_field_table;
+use field_table::field_table::first_at;
+use field_table::field_table::past_at;
+use field_table::field_table::tag_at;
 use refusals::refusal::Refusal;
-use walk_memory::field_table::TableCheck;
-use walk_memory::field_table::check_field_table;
-use walk_memory::field_table::first_at;
-use walk_memory::field_table::past_at;
-use walk_memory::field_table::tag_at;
+use verdict::verdict::Verdict;
+use verdict::verdict::check_value;
+use verdict::verdict::record_of;
+use verdict::verdict::verdict_word;
 ghost use mathlib.Core.Path.{_≡_};
 ghost use mathlib.Core.Bool.{true};
 ghost use Prim.Native.Nat.{_≤_, _<_};
 ghost use lib.ListN.{length};
 ghost use Rattle.dictionary.specs.DictionaryCheck.{isDictionary};
-ghost use Rattle.walk_memory.specs.FieldTable.{rowCount, fieldsOf};
-ghost use Rattle.walk_memory.specs.FieldTableLaws.{AcceptedTable};
+ghost use Rattle.field_table.specs.FieldTable.{rowCount, fieldsOf};
+ghost use Rattle.field_table.specs.FieldTableLaws.{AcceptedTable};
 ghost use Rattle.verdicts.specs.Verdicts.{fieldVerdict, writtenIn, spaceAnswer, spaceWith, judgedOf, verdictsIn};
-ghost use Rattle.verdicts.specs.FieldRecords.{fieldRecord, filledIn, Holds};
+ghost use Rattle.verdict.specs.FieldRecords.{fieldRecord, filledIn, Holds};
 
 // What the call answers.
 pub enum Judged {

@@ -21,13 +21,13 @@ use borrow.Author.Tests.{le-leb}
 use Rattle.layouts.specs.Limits.{gateLimits}
 use Rattle.layouts.specs.LayoutCheck.{isLayout}
 use Rattle.layouts.specs.LayoutCheckFacts.{Passed, isLayout-passed}
-use Rattle.walk_memory.specs.declared.field_table.TableCheck.the-variants.{Accepted}
-use Rattle.walk_memory.specs.declared.event.Event.{Event}
-use Rattle.walk_memory.specs.Membership.{_∈ᵇ_}
-use Rattle.walk_memory.specs.Events.{kindNumber, isFault, NoFault, ofGroups, eventWords, eventsWords}
-use Rattle.walk_memory.specs.EventsLaws.{noFault-ofGroups}
-use Rattle.walk_memory.specs.EventSpaceLaws.{eventsWords-length}
-use Rattle.walk_memory.specs.FieldTable.{rowCount, tableCheckOf}
+use Rattle.field_table.specs.declared.field_table.TableCheck.the-variants.{Accepted}
+use Rattle.events.specs.declared.event.Event.{Event}
+use Rattle.ascii.specs.Membership.{_∈ᵇ_}
+use Rattle.events.specs.Events.{kindNumber, isFault, NoFault, ofGroups, eventWords, eventsWords}
+use Rattle.events.specs.EventsLaws.{noFault-ofGroups}
+use Rattle.events.specs.EventSpaceLaws.{eventsWords-length}
+use Rattle.field_table.specs.FieldTable.{rowCount, tableCheckOf}
 use Rattle.group_reading.specs.GroupWalk.{WalkedGroup, walkGroup}
 use Rattle.group_reading.specs.GroupReading.{Reading, readingEvents}
 use Rattle.group_reading.specs.ReadingTheorem.{FindsReadings, walk-finds-readings}

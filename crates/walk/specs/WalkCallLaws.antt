@@ -7,17 +7,17 @@ use mathlib.Core.List.{List, [], _++_}
 use native.Mathlib.Omega.{arith}
 use lib.ListN.{length}
 use borrow.Author.Tests.{le-leb, lt-leb}
-use Rattle.sorting.specs.declared.search.Found.{Found}
-use Rattle.sorting.specs.declared.search.Found.the-variants.{At, Nothing}
+use Rattle.ascending.specs.declared.search.Found.{Found}
+use Rattle.ascending.specs.declared.search.Found.the-variants.{At, Nothing}
 use Rattle.refusals.specs.declared.refusal.Refusal.the-variants.{RuleBroken, BadField, SpaceShort, NoSuchGroup}
 use Rattle.layouts.specs.Limits.{gateLimits}
 use Rattle.layouts.specs.LayoutCheck.{isLayout}
 use Rattle.layouts.specs.LayoutCheckFacts.{Passed}
 use Rattle.layouts.specs.LayoutWords.{groupCount, levelMembers}
-use Rattle.walk_memory.specs.declared.field_table.TableCheck.the-variants as table
-use Rattle.walk_memory.specs.Events.{eventsWords}
-use Rattle.walk_memory.specs.EventSpaceLaws.{putAllIn-room, putAllIn-empty}
-use Rattle.walk_memory.specs.FieldTable.{rowCount, tableCheckOf}
+use Rattle.field_table.specs.declared.field_table.TableCheck.the-variants as table
+use Rattle.events.specs.Events.{eventsWords}
+use Rattle.events.specs.EventSpaceLaws.{putAllIn-room, putAllIn-empty}
+use Rattle.field_table.specs.FieldTable.{rowCount, tableCheckOf}
 use Rattle.group_reading.specs.GroupWalk.{WalkedGroup, walkGroup}
 use Rattle.group_reading.specs.GroupWalkLaws.Equations.{walkGroup-outside}
 use Rattle.group_reading.specs.GroupWalkLaws.EventBound.{walkGroup-few-in-table}
@@ -25,9 +25,9 @@ use Rattle.walk.specs.declared.walk_call.Walked.{Walked}
 use Rattle.walk.specs.declared.walk_call.Walked.the-variants.{Done, Refused}
 use Rattle.walk_steps.specs.WalkWords.{among, numberFound, groupOf, inputOf, topMembers}
 use Rattle.walk_steps.specs.WalkWordsLaws.{groupOf-number, layoutOf-rules}
-use Rattle.walk.specs.WalkPromises.{Walks}
+use Rattle.group_walk.specs.WalkPromises.{Walks}
 use Rattle.walk.specs.WalkCall.{topWalk, neededFor, spaceAnswer, spaceWith, groupAnswer, groupSpace, tableAnswer, tableSpace, walkedOf, eventsIn}
-use Rattle.walk.specs.WalkPromises.{mostWords}
+use Rattle.group_walk.specs.WalkPromises.{mostWords}
 
 -- ---- the refusals before a walk
 

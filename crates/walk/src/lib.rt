@@ -1,3 +1,2 @@
-// The walk of a group on lent words, and the call `walk_group`.
-pub mod group_walk;
+// The call `walk_group`: the walk of a group on lent words.
 pub mod walk_call;

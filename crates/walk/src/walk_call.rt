@@ -1,11 +1,11 @@
 // The walk of a top group on lent words: a call that refuses what it cannot walk, and else writes the events of the walk. Ported from walk.rs,
 // `walk_group` with a recording visitor.
-use layouts::layout_check::is_layout;
+use ascending::search::Found;
+use field_table::field_table::TableCheck;
+use field_table::field_table::check_field_table;
+use layout_check::layout_check::is_layout;
 use layouts::layout_words::members_at;
 use refusals::refusal::Refusal;
-use sorting::search::Found;
-use walk_memory::field_table::TableCheck;
-use walk_memory::field_table::check_field_table;
 use walk_steps::group_steps::row_count;
 use walk_steps::layout_input::top_group;
 ghost use mathlib.Core.Path.{_≡_};
@@ -13,12 +13,12 @@ ghost use Prim.Native.Nat.{_≤_, _<_};
 ghost use lib.ListN.{length};
 ghost use Rattle.layouts.specs.Limits.{gateLimits};
 ghost use Rattle.layouts.specs.LayoutCheckFacts.{Passed};
-ghost use Rattle.walk_memory.specs.FieldTable.{rowCount};
-ghost use Rattle.walk_memory.specs.FieldTableLaws.{AcceptedTable};
-ghost use Rattle.walk.specs.WalkPromises.{Accepted};
+ghost use Rattle.field_table.specs.FieldTable.{rowCount};
+ghost use Rattle.field_table.specs.FieldTableLaws.{AcceptedTable};
+ghost use Rattle.group_walk.specs.WalkPromises.{Accepted};
 ghost use Rattle.walk_steps.specs.WalkWords.{groupOf};
 ghost use Rattle.walk.specs.WalkCall.{topWalk, spaceAnswer, spaceWith, groupAnswer, groupSpace, walkedOf, eventsIn};
-ghost use Rattle.walk.specs.WalkPromises.{mostWords};
+ghost use Rattle.group_walk.specs.WalkPromises.{mostWords};
 
 // What the call answers.
 pub enum Walked {
@@ -54,7 +54,7 @@ fn count_first(
     ensures memory { λ _. ⌜ now (events .exit) ≡ spaceWith (topWalk (now (layout .entry)) (now (fields .entry)) (now (message .entry)) group position) (now (events .entry)) ⌝ }
 {
     let top = members_at(layout, 0);
-    let counted = crate::group_walk::walk_group(
+    let counted = group_walk::group_walk::walk_group(
         fields,
         message,
         layout,
@@ -69,7 +69,7 @@ fn count_first(
     if events.len() < needed {
         return Walked::Refused(Refusal::SpaceShort(needed as u64));
     }
-    let end = crate::group_walk::walk_group(
+    let end = group_walk::group_walk::walk_group(
         fields,
         message,
         layout,
@@ -108,7 +108,7 @@ fn walk_top(
         return count_first(layout, fields, message, position, group, events);
     }
     let top = members_at(layout, 0);
-    let end = crate::group_walk::walk_group(
+    let end = group_walk::group_walk::walk_group(
         fields,
         message,
         layout,

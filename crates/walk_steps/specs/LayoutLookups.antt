@@ -14,9 +14,9 @@ use mathlib.Core.Option.{Option, none, some}
 use mathlib.Core.List.{List, _++_}
 use native.Mathlib.Omega.{arith}
 use lib.ListN.{drop, getElem?}
-use Rattle.sorting.specs.declared.search.Found.{Found}
-use Rattle.sorting.specs.declared.search.Found.the-variants.{At, Nothing}
-use Rattle.sorting.specs.Search.{rankIn}
+use Rattle.ascending.specs.declared.search.Found.{Found}
+use Rattle.ascending.specs.declared.search.Found.the-variants.{At, Nothing}
+use Rattle.ascending.specs.Search.{rankIn}
 use Rattle.layouts.specs.Limits.{gateLimits}
 use Rattle.layouts.specs.Layout.{Level, Group, Layout, membersOf, groupsOf, countTag, delimiter, entry, allGroups}
 use Rattle.layouts.specs.LayoutRules.{_∈ᵇ_}
@@ -24,7 +24,7 @@ use Rattle.layouts.specs.LayoutWords.{arranged, groupCount, levelCountTags, fir
 use Rattle.layouts.specs.LayoutCheck.{isLayout}
 use Rattle.layouts.specs.LayoutCheckFacts.{Passed, isLayout-passed}
 use Rattle.layouts.specs.LayoutCheckSound.{allGroups-in, layoutIn-begins}
-use Rattle.layouts.specs.LayoutCheckUnique.{arranged-unique}
+use Rattle.layout_check.specs.LayoutCheckUnique.{arranged-unique}
 use Rattle.levels.specs.Members.{groupNamed}
 use Rattle.levels.specs.MembersLayout.{levelNumbered, group-numbered, entry-numbered, top-numbered, no-group-numbered, some-group-numbered}
 use Rattle.walk_steps.specs.WalkWords.{numberFound, groupOf, layoutOf, topMembers}

@@ -11,14 +11,14 @@ use Prim.Native.Nat.{ℕ, _+_}
 use mathlib.Core.Bool.{Bool}
 use mathlib.Core.Option.{Option, none, some}
 use mathlib.Core.List.{List}
-use Rattle.sorting.specs.declared.search.Found.{Found}
-use Rattle.sorting.specs.declared.search.Found.the-variants.{At, Nothing}
-use Rattle.sorting.specs.Search.{rankIn}
+use Rattle.ascending.specs.declared.search.Found.{Found}
+use Rattle.ascending.specs.declared.search.Found.the-variants.{At, Nothing}
+use Rattle.ascending.specs.Search.{rankIn}
 use Rattle.layouts.specs.Limits.{gateLimits}
 use Rattle.layouts.specs.LayoutRules.{_∈ᵇ_}
 use Rattle.layouts.specs.LayoutWords.{levelMembers, levelCountTags, firstGroup, countTagAt, delimiterAt}
-use Rattle.walk_memory.specs.WalkInput.{Layout, Input}
-use Rattle.walk_memory.specs.FieldTable.{fieldsOf}
+use Rattle.field_table.specs.WalkInput.{Layout, Input}
+use Rattle.field_table.specs.FieldTable.{fieldsOf}
 
 abbrev pub among : List ℕ → ℕ → Bool
 among members tag = tag ∈ᵇ members

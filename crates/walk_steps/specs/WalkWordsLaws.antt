@@ -13,17 +13,17 @@ use lib.Dec.{eqb}
 use lib.ListN.{length, getD}
 use borrow.Author.Tests.{eqb-true}
 use Rattle.ascii.specs.Notation.{if_then_else_}
-use Rattle.sorting.specs.declared.search.Found.{Found}
-use Rattle.sorting.specs.declared.search.Found.the-variants.{At, Nothing}
-use Rattle.sorting.specs.Search.{StrictlyAscending, rankFrom, rankIn, isFound}
-use Rattle.sorting.specs.SearchLaws.{isStrictlyAscending-true, isFound-rank}
+use Rattle.ascending.specs.declared.search.Found.{Found}
+use Rattle.ascending.specs.declared.search.Found.the-variants.{At, Nothing}
+use Rattle.ascending.specs.Search.{StrictlyAscending, rankFrom, rankIn, isFound}
+use Rattle.ascending.specs.SearchLaws.{isStrictlyAscending-true, isFound-rank}
 use Rattle.layouts.specs.Limits.{gateLimits}
 use Rattle.layouts.specs.LayoutRules.{_∈ᵇ_}
 use Rattle.layouts.specs.LayoutWords.{memberPlaces, firstMember, groupCount, groupPlaces, stretch, levelMembers, levelCountTags, firstGroup}
 use Rattle.layouts.specs.LayoutWordsLaws.{length-stretch}
 use Rattle.layouts.specs.LayoutCheckLaws.{RunIn, member-places, members-few}
 use Rattle.layouts.specs.LayoutCheckFacts.{Passed, members-inside, members-ascending, countTags-ascending, countTags-inside, delimiter-member, groups-place, firstGroup-first, firstGroup-rises, firstGroup-within}
-use Rattle.walk_memory.specs.ReliedRules.{LayoutRules}
+use Rattle.field_table.specs.ReliedRules.{LayoutRules}
 use Rattle.walk_steps.specs.WalkWords.{numberFound, groupOf, layoutOf}
 
 abbrev pub rankFound : Found → ℕ

@@ -10,11 +10,11 @@ use mathlib.Core.Option.{Option, none, some}
 use mathlib.Core.List.{List}
 use Rattle.ascii.specs.Notation.{_<ᵇ_, _≡ᵇ_, if_then_else_}
 use Rattle.counts.specs.declared.count.Count.{Count}
-use Rattle.sorting.specs.declared.search.Found.{Found}
-use Rattle.sorting.specs.declared.search.Found.the-variants.{At, Nothing}
-use Rattle.sorting.specs.Search.{rankIn}
+use Rattle.ascending.specs.declared.search.Found.{Found}
+use Rattle.ascending.specs.declared.search.Found.the-variants.{At, Nothing}
+use Rattle.ascending.specs.Search.{rankIn}
 use Rattle.layouts.specs.LayoutRules.{_∈ᵇ_}
-use Rattle.walk_memory.specs.FieldTable.{rowCount, tagOf}
+use Rattle.field_table.specs.FieldTable.{rowCount, tagOf}
 use Rattle.group_reading.specs.GroupSteps.{endsGroup}
 use Rattle.walk_steps.specs.declared.group_steps.EntryStep.{EntryStep}
 use Rattle.walk_steps.specs.declared.group_steps.EntryStep.the-variants.{Stop, Plain, Nested}

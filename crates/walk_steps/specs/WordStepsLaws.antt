@@ -11,13 +11,13 @@ use borrow.Author.Tests.{lt-ltb, le-ltb, ltb-true, eq-eqb, ne-eqb, eqb-true, eqb
 use Rattle.ascii.specs.Notation.{if_then_else_}
 use Rattle.counts.specs.declared.count.Count.{Count}
 use Rattle.counts.specs.declared.count.Count.the-variants.{Number, Nothing}
-use Rattle.sorting.specs.declared.search.Found.{Found}
-use Rattle.sorting.specs.declared.search.Found.the-variants as found
-use Rattle.sorting.specs.Search.{rankIn, isFound}
+use Rattle.ascending.specs.declared.search.Found.{Found}
+use Rattle.ascending.specs.declared.search.Found.the-variants as found
+use Rattle.ascending.specs.Search.{rankIn, isFound}
 use Rattle.layouts.specs.LayoutRules.{_∈ᵇ_}
 use Rattle.layouts.specs.LayoutWords.{levelMembers, levelCountTags, firstGroup, delimiterAt}
-use Rattle.walk_memory.specs.FieldTable.{rowCount, tagOf}
-use Rattle.walk_memory.specs.WalkInput.{Layout, Input}
+use Rattle.field_table.specs.FieldTable.{rowCount, tagOf}
+use Rattle.field_table.specs.WalkInput.{Layout, Input}
 use Rattle.group_reading.specs.GroupSteps.{endsGroup, memberLeads, entryBegins, entryStops, stepAt, Step, stops, plain-field, nested-group}
 use Rattle.group_reading.specs.GroupStepsLaws.{stopsBy, beginsBy, leadsBy, stepAt-stops, stepAt-plain, stepAt-nested}
 use Rattle.walk_steps.specs.declared.group_steps.EntryStep.{EntryStep}

@@ -11,9 +11,9 @@ use mathlib.Core.List.{List, [], _∷_}
 use Rattle.ascii.specs.Notation.{_≡ᵇ_, if_then_else_}
 use Rattle.counts.specs.declared.count.Count.{Count}
 use Rattle.counts.specs.declared.count.Count.the-variants.{Number, Nothing}
-use Rattle.walk_memory.specs.declared.event.Kind.{Kind}
-use Rattle.walk_memory.specs.declared.event.Kind.the-variants.{Enter, BadCount, Repeat, Miscount, Leave}
-use Rattle.walk_memory.specs.declared.event.Event.{Event}
+use Rattle.events.specs.declared.event.Kind.{Kind}
+use Rattle.events.specs.declared.event.Kind.the-variants.{Enter, BadCount, Repeat, Miscount, Leave}
+use Rattle.events.specs.declared.event.Event.{Event}
 
 abbrev pub tagEvent : ℕ → ℕ → Kind → Event
 tagEvent tag depth kind = record { «count_tag» = tag; depth = depth; kind = kind }

@@ -10,10 +10,10 @@ use borrow.Author.Tests.{eq-eqb, ne-eqb}
 use Rattle.ascii.specs.Notation.{if_then_else_}
 use Rattle.counts.specs.declared.count.Count.{Count}
 use Rattle.counts.specs.declared.count.Count.the-variants.{Number, Nothing}
-use Rattle.walk_memory.specs.declared.event.Kind.the-variants.{Enter, BadCount, Repeat, Miscount, Leave}
-use Rattle.walk_memory.specs.declared.event.Event.{Event}
-use Rattle.walk_memory.specs.WalkInput.{Layout, event}
-use Rattle.walk_memory.specs.EventSpaceLaws.{Wrote, wrote-none, wrote-then}
+use Rattle.events.specs.declared.event.Kind.the-variants.{Enter, BadCount, Repeat, Miscount, Leave}
+use Rattle.events.specs.declared.event.Event.{Event}
+use Rattle.field_table.specs.WalkInput.{Layout, event}
+use Rattle.events.specs.EventSpaceLaws.{Wrote, wrote-none, wrote-then}
 use Rattle.group_reading.specs.GroupWalk.{badCount, repeatedTag, ended}
 use Rattle.walk_steps.specs.WrittenEvents.{tagEvent, begunBy, repeatBy, leftBy}
 

@@ -1,14 +1,14 @@
 // The events that a walk writes at one place: at the start of a group, at a member of an entry, at the ends. Ported from walk.rs, the calls of the
 // Visitor in `walk_group` and `scan_entry`.
 use counts::count::Count;
-use walk_memory::event::Event;
-use walk_memory::event::Kind;
-use walk_memory::event::put;
+use events::event::Event;
+use events::event::Kind;
+use events::event::put;
 ghost use mathlib.Core.Path.{_≡_};
 ghost use mathlib.Core.Bool.{not, _||_};
 ghost use mathlib.Core.List.{[], _∷_};
 ghost use Prim.Native.Nat.{_+_, _<_, _^_};
-ghost use Rattle.walk_memory.specs.EventSpaceLaws.{Wrote};
+ghost use Rattle.events.specs.EventSpaceLaws.{Wrote};
 ghost use Rattle.walk_steps.specs.WrittenEvents.{tagEvent, begunBy, repeatBy, leftBy};
 
 // One event of the group with this count tag.

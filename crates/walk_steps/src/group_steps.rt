@@ -1,16 +1,16 @@
 // The decisions of a group walk, each with an answer of its own: what a field is to an entry, and to a group. Ported from walk.rs, `walk_group` and
 // `scan_entry`.
+use ascending::search::Found;
+use ascending::search::binary_search;
 use counts::count::Count;
-use sorting::search::Found;
-use sorting::search::binary_search;
-use walk_memory::field_table::tag_at;
+use field_table::field_table::tag_at;
 ghost use mathlib.Core.Path.{_≡_};
 ghost use Prim.Native.Nat.{_+_, _<_};
 ghost use lib.Dec.{eqb};
 ghost use lib.ListN.{length};
-ghost use Rattle.sorting.specs.Search.{StrictlyAscending, rankIn};
+ghost use Rattle.ascending.specs.Search.{StrictlyAscending, rankIn};
 ghost use Rattle.layouts.specs.LayoutRules.{_∈ᵇ_};
-ghost use Rattle.walk_memory.specs.FieldTable.{rowCount};
+ghost use Rattle.field_table.specs.FieldTable.{rowCount};
 ghost use Rattle.group_reading.specs.GroupSteps.{endsGroup};
 ghost use Rattle.walk_steps.specs.WalkWords.{among, numberFound};
 ghost use Rattle.walk_steps.specs.WordSteps.{memberStep, entryStep, leadBy, turnAt};

@@ -1,10 +1,10 @@
 // The numbers of groups in layout words that passed the check (docs/ARRANGEMENT.md): the entry level of a group has the number behind the group's,
 // and level 0 is the top.
+use ascending::search::Found;
+use ascending::search::binary_search;
 use layouts::layout_words::count_tags_at;
 use layouts::layout_words::group_count;
 use layouts::layout_words::wide;
-use sorting::search::Found;
-use sorting::search::binary_search;
 ghost use mathlib.Core.Path.{_≡_};
 ghost use Prim.Native.Nat.{_≤_, _<_};
 ghost use Rattle.layouts.specs.Limits.{gateLimits};

@@ -10,11 +10,11 @@ use native.Mathlib.Omega.{arith}
 use native.Mathlib.Numerals.{add-one}
 use lib.ListN.{length}
 use Rattle.counts.specs.declared.count.Count.{Count}
-use Rattle.walk_memory.specs.declared.event.Kind.the-variants.{Close, Deep}
-use Rattle.walk_memory.specs.Membership.{_∈ᵇ_}
-use Rattle.walk_memory.specs.Membership.{insertIf}
-use Rattle.walk_memory.specs.WalkInput.{Layout, Fields, Input, countAt, event}
-use Rattle.walk_memory.specs.ReliedRules.{LayoutRules}
+use Rattle.events.specs.declared.event.Kind.the-variants.{Close, Deep}
+use Rattle.ascii.specs.Membership.{_∈ᵇ_}
+use Rattle.ascii.specs.Membership.{insertIf}
+use Rattle.field_table.specs.WalkInput.{Layout, Fields, Input, countAt, event}
+use Rattle.field_table.specs.ReliedRules.{LayoutRules}
 use Rattle.group_reading.specs.GroupSteps.{memberLeads, entryBegins, entryStops, openingAt, stepAt}
 use Rattle.group_reading.specs.GroupStepsLaws.{entryStops-within, entryStops-first, entryBegins-delimiter, openingAt-outside, openingAt-too-deep, openingAt-member-leads, openingAt-entries-follow, stepAt-stops, stepAt-plain, stepAt-nested}
 use Rattle.group_reading.specs.GroupWalk.{WalkedGroup, ScannedEntry, repeatedTag, wholeGroup, leadingEntry, fieldThen, entryThen, walkBy, walkWith, entriesWith, scanWith, walkGroup, walkEntries, scanEntry}

@@ -5,9 +5,9 @@ use mathlib.Core.Bool.{Bool, true, false, true≢false}
 use mathlib.Core.List.{List, []}
 use native.Mathlib.Omega.{arith}
 use Rattle.counts.specs.declared.count.Count.{Count}
-use Rattle.walk_memory.specs.Membership.{_∈ᵇ_}
-use Rattle.walk_memory.specs.Membership.{insertIf}
-use Rattle.walk_memory.specs.WalkInput.{Layout, Fields, Input, countAt}
+use Rattle.ascii.specs.Membership.{_∈ᵇ_}
+use Rattle.ascii.specs.Membership.{insertIf}
+use Rattle.field_table.specs.WalkInput.{Layout, Fields, Input, countAt}
 use Rattle.group_reading.specs.GroupSteps.{Opening, outside, too-deep, member-leads, entries-follow, Step, stops, plain-field, nested-group, entryBegins, entryStops, openingAt, stepAt}
 use Rattle.group_reading.specs.GroupStepsLaws.{entryStops-within, openingAt-inside, stepAt-tells}
 use Rattle.group_reading.specs.GroupWalk.{walkBy, entriesBy, scanBy}

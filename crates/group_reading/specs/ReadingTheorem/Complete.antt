@@ -9,11 +9,11 @@ use lib.ListN.{length}
 use borrow.Author.Tests.{eq-eqb}
 use Rattle.counts.specs.declared.count.Count.{Count}
 use Rattle.counts.specs.declared.count.Count.the-variants.{Number}
-use Rattle.walk_memory.specs.declared.event.Kind.the-variants.{Close}
-use Rattle.walk_memory.specs.declared.event.Event.{Event}
-use Rattle.walk_memory.specs.Membership.{_∈ᵇ_}
-use Rattle.walk_memory.specs.WalkInput.{Layout, Fields, Input, countAt, event}
-use Rattle.walk_memory.specs.ReliedRules.{LayoutRules}
+use Rattle.events.specs.declared.event.Kind.the-variants.{Close}
+use Rattle.events.specs.declared.event.Event.{Event}
+use Rattle.ascii.specs.Membership.{_∈ᵇ_}
+use Rattle.field_table.specs.WalkInput.{Layout, Fields, Input, countAt, event}
+use Rattle.field_table.specs.ReliedRules.{LayoutRules}
 use Rattle.group_reading.specs.GroupReading.{mayFollow, Reading, Entries, Items, Item, reading, no-entry, entry, no-item, item, plain, nested, readingEvents, entriesEvents, itemsEvents, itemEvents, itemCount}
 use Rattle.group_reading.specs.GroupReadingLaws.{items-advance, item-advances}
 use Rattle.group_reading.specs.GroupSteps.{memberLeads, entryBegins, entryStops}

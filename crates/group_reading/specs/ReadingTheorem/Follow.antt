@@ -7,7 +7,7 @@ use native.Mathlib.Omega.{arith}
 use lib.Dec.{ltb, eqb}
 use borrow.Author.Tests.{eqb-true, lt-ltb, eq-eqb, ne-eqb}
 use Rattle.counts.specs.declared.count.Count.the-variants.{Number}
-use Rattle.walk_memory.specs.WalkInput.{Layout, Fields, Input}
+use Rattle.field_table.specs.WalkInput.{Layout, Fields, Input}
 use Rattle.group_reading.specs.GroupReading.{mayFollow, Entries, no-entry, entry}
 use Rattle.group_reading.specs.GroupReadingLaws.{followsBy}
 use Rattle.group_reading.specs.GroupSteps.{memberLeads, entryBegins, entryStops}

@@ -14,13 +14,13 @@ use lib.ListN.{length}
 use borrow.Author.Tests.{eqb-true}
 use Rattle.counts.specs.declared.count.Count.{Count}
 use Rattle.counts.specs.declared.count.Count.the-variants.{Number, Nothing}
-use Rattle.walk_memory.specs.declared.event.Kind.the-variants.{Close, Leave}
-use Rattle.walk_memory.specs.Membership.{_∈ᵇ_}
-use Rattle.walk_memory.specs.Events.{NoFault}
-use Rattle.walk_memory.specs.EventsLaws.{noFault-left, noFault-right}
-use Rattle.walk_memory.specs.Membership.{insertIf}
-use Rattle.walk_memory.specs.WalkInput.{Layout, Fields, Input, countAt, event}
-use Rattle.walk_memory.specs.ReliedRules.{LayoutRules}
+use Rattle.events.specs.declared.event.Kind.the-variants.{Close, Leave}
+use Rattle.ascii.specs.Membership.{_∈ᵇ_}
+use Rattle.events.specs.Events.{NoFault}
+use Rattle.events.specs.EventsLaws.{noFault-left, noFault-right}
+use Rattle.ascii.specs.Membership.{insertIf}
+use Rattle.field_table.specs.WalkInput.{Layout, Fields, Input, countAt, event}
+use Rattle.field_table.specs.ReliedRules.{LayoutRules}
 use Rattle.group_reading.specs.GroupReading.{Reading, Entries, Items, Item, reading, no-entry, entry, no-item, item, plain, nested, readingEvents, entriesEvents, itemsEvents, itemEvents, itemCount}
 use Rattle.group_reading.specs.GroupReadingLaws.{no-entries}
 use Rattle.group_reading.specs.GroupSteps.{Opening, outside, too-deep, member-leads, entries-follow, Step, stops, plain-field, nested-group, memberLeads, entryBegins, entryStops, openingAt, stepAt}

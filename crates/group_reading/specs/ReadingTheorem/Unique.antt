@@ -13,9 +13,9 @@ use native.Mathlib.Bridge.{le-prop}
 use native.Mathlib.Decide.{ℕ-discrete}
 use Rattle.counts.specs.declared.count.Count.{Count}
 use Rattle.counts.specs.declared.count.Count.the-variants.{Number, Nothing}
-use Rattle.walk_memory.specs.Membership.{_∈ᵇ_}
-use Rattle.walk_memory.specs.WalkInput.{Layout, Fields, Input, countAt}
-use Rattle.walk_memory.specs.ReliedRules.{LayoutRules}
+use Rattle.ascii.specs.Membership.{_∈ᵇ_}
+use Rattle.field_table.specs.WalkInput.{Layout, Fields, Input, countAt}
+use Rattle.field_table.specs.ReliedRules.{LayoutRules}
 use Rattle.group_reading.specs.GroupReading.{mayFollow, Reading, Entries, Items, Item, reading, no-entry, entry, no-item, item, plain, nested}
 use Rattle.group_reading.specs.GroupReadingLaws.{items-advance, item-advances}
 use Rattle.group_reading.specs.GroupSteps.{entryStops}

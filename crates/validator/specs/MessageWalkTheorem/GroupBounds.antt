@@ -14,13 +14,13 @@ use borrow.Author.Tests.{ne-eqb}
 use Rattle.ascii.specs.Notation.{_≡ᵇ_}
 use Rattle.counts.specs.declared.count.Count.{Count}
 use Rattle.counts.specs.declared.count.Count.the-variants.{Number, Nothing}
-use Rattle.walk_memory.specs.declared.event.Kind.{Kind}
-use Rattle.walk_memory.specs.declared.event.Kind.the-variants.{Enter, Close, Miscount, Leave}
-use Rattle.walk_memory.specs.declared.event.Event.{Event}
-use Rattle.walk_memory.specs.Membership.{_∈ᵇ_}
-use Rattle.walk_memory.specs.Events.{kindNumber}
-use Rattle.walk_memory.specs.Membership.{insertIf}
-use Rattle.walk_memory.specs.WalkInput.{Layout, Fields, Input, countAt, event}
+use Rattle.events.specs.declared.event.Kind.{Kind}
+use Rattle.events.specs.declared.event.Kind.the-variants.{Enter, Close, Miscount, Leave}
+use Rattle.events.specs.declared.event.Event.{Event}
+use Rattle.ascii.specs.Membership.{_∈ᵇ_}
+use Rattle.events.specs.Events.{kindNumber}
+use Rattle.ascii.specs.Membership.{insertIf}
+use Rattle.field_table.specs.WalkInput.{Layout, Fields, Input, countAt, event}
 use Rattle.group_reading.specs.GroupSteps.{Opening, outside, too-deep, member-leads, entries-follow, Step, stops, plain-field, nested-group, memberLeads, entryBegins, openingAt, stepAt}
 use Rattle.group_reading.specs.GroupStepsLaws.{openingAt-member-leads, openingAt-entries-follow}
 use Rattle.group_reading.specs.GroupWalk.{WalkedGroup, WalkedEntries, ScannedEntry, badCount, repeatedTag, endedBy, ended, wholeGroup, leadingEntry, fieldThen, entryThen, walkBy, entriesBy, scanBy, walkGroup}

@@ -13,10 +13,10 @@ use lib.Dec.{ltb, eqb}
 use borrow.Author.Tests.{ltb-true, eqb-true}
 use Rattle.ascii.specs.Notation.{_≡ᵇ_, if_then_else_}
 use Rattle.ascii.specs.NotationLaws.{and-left}
-use Rattle.walk_memory.specs.declared.event.Event.{Event}
-use Rattle.walk_memory.specs.Membership.{_∈ᵇ_}
-use Rattle.walk_memory.specs.Events.{kindNumber}
-use Rattle.walk_memory.specs.WalkInput.{Layout, Fields, Input}
+use Rattle.events.specs.declared.event.Event.{Event}
+use Rattle.ascii.specs.Membership.{_∈ᵇ_}
+use Rattle.events.specs.Events.{kindNumber}
+use Rattle.field_table.specs.WalkInput.{Layout, Fields, Input}
 use Rattle.group_reading.specs.GroupWalk.{walkGroup}
 use Rattle.message_level.specs.MessageWalk.{MessageLevel, twiceIf, foreignUnless, missingIf, Turns, turnAnd, definedTurn, placeAt, turnAt, turnsFrom, messageTurns, missingTags, missingGroups, messageEvents}
 use Rattle.validator.specs.MessageStretches.{isEnter, isLeave, None, WalkAt}

@@ -4,8 +4,8 @@ use mathlib.Core.Path.{refl}
 use Prim.Native.Nat.{_-_}
 use native.Mathlib.Omega.{arith}
 use lib.ListN.{drop}
-use Rattle.arrange.specs.ArrangeTrace.{ownAt}
-use Rattle.arrange.specs.ArrangeGroups.{countTags}
+use Rattle.arrange_level.specs.ArrangeTrace.{ownAt}
+use Rattle.arrange_level.specs.ArrangeGroups.{countTags}
 use Rattle.arrange.specs.ArrangeGatherLaws.{all-tags, tags-many, tags-inside, tags-room, groups-none, groups-placed}
 use borrow.Author.Needs.{needs}
 use Rattle.arrange.proofs.arrange.order_groups.Statement.{statement}

@@ -5,10 +5,10 @@ use mathlib.Core.Path.{sym, ap, _∙_}
 use Prim.Native.Nat.{_+_, _-_, _*_}
 use native.Mathlib.Omega.{arith}
 use lib.ListN.{length, getD}
-use Rattle.dictionary.specs.DefinitionsLaws.{isDictionary-parts}
+use Rattle.definitions.specs.DefinitionsLaws.{isDictionary-parts}
 use Rattle.dictionary.specs.DictionaryWords.{wordLines}
 use Rattle.bodies.specs.DictionaryInWords.{dictionaryIn}
-use Rattle.dictionary.specs.WordLinesLaws.{line-at}
+use Rattle.definitions.specs.WordLinesLaws.{line-at}
 use Rattle.bodies.specs.DictionaryLookups.{bodyAt, component-found, component-missing}
 use Rattle.expansion.specs.TraceLaws.{grows-then, grown-grows, done-grown, stopped-grows}
 use Rattle.bodies.specs.ExpansionPromises.{groupAt, callsLeft}
@@ -30,7 +30,7 @@ use Rattle.bodies.proofs.add_body.both.Reads as both-reads
 use Rattle.bodies.proofs.add_body.open_component.Reads as open-component-reads
 use Rattle.bodies.proofs.add_body.outcome.Reads as outcome-reads
 use Rattle.bodies.proofs.body_line.body_line.Reads as body-line-reads
-use Rattle.dictionary.proofs.definitions.component_of.Reads as component-of-reads
+use Rattle.definitions.proofs.definitions.component_of.Reads as component-of-reads
 use Rattle.expansion.proofs.builder.add_field.Reads as add-field-reads
 use Rattle.expansion.proofs.builder.enter_group.Reads as enter-group-reads
 use Rattle.expansion.proofs.builder.leave_group.Reads as leave-group-reads

@@ -2,7 +2,7 @@
 -- `dictionary::line_order::next_standing` meets its contract, a form at a time: first what stands behind the line, then the count tags
 -- (specs/LineOrderLaws.antt).
 use mathlib.Core.Path.{sym}
-use Rattle.texts.specs.DictionaryOrder.{stepOf}
+use Rattle.dictionary_order.specs.DictionaryOrder.{stepOf}
 use Rattle.dictionary.specs.LineOrder.{stateOf}
 use Rattle.dictionary.specs.LineOrderLaws.{def-counts, value-counts, open-counts, close-counts, field-counts, use-counts, end-counts}
 use borrow.Author.Needs.{needs}

@@ -8,7 +8,7 @@ use borrow.Author.Needs.{needs}
 use Rattle.expand.proofs.expand_call.expand_long.Statement.{statement}
 use Rattle.expand.proofs.expand_call.expand_long.Tie as tie
 
--- match bodies::build::expand(dictionary, message_type, &mut trace) {
+-- match build::build::expand(dictionary, message_type, &mut trace) {
 slice-aggregate-expand : tie.Need-slice-aggregate-expand
 slice-aggregate-expand c = search needs
 

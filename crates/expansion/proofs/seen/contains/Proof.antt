@@ -5,7 +5,7 @@ use mathlib.Core.Path.{_≡_, refl, sym, _∙_}
 use Prim.Native.Nat.{_≤_, _-_}
 use native.Mathlib.Omega.{arith}
 use lib.ListN.{length, drop}
-use Rattle.sorting.specs.Sort.{isIn}
+use Rattle.ascending.specs.Sort.{isIn}
 use Rattle.expansion.specs.SeenLaws.{seen-found, seen-next, seen-ends}
 use borrow.Author.Needs.{needs}
 use Rattle.expansion.proofs.seen.contains.Statement.{statement}

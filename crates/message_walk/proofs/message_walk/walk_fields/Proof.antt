@@ -4,8 +4,8 @@ use mathlib.Core.Path.{sym, ap, _∙_}
 use Prim.Native.Nat.{ℕ, _-_}
 use native.Mathlib.Omega.{arith}
 use lib.ListN.{length, length-replicate}
-use Rattle.walk_memory.specs.FieldTable.{rowCount}
-use Rattle.walk_memory.specs.EventSpaceLaws.{wrote-length}
+use Rattle.field_table.specs.FieldTable.{rowCount}
+use Rattle.events.specs.EventSpaceLaws.{wrote-length}
 use Rattle.message_level.specs.SeenTags.{seenWords}
 use Rattle.message_walk.specs.MessageTurnLaws.{TurnsWritten, turns-start, turn-asks, turn-moves, turns-more, turns-over}
 use borrow.Author.Needs.{needs}

@@ -5,7 +5,7 @@ use native.Mathlib.Omega.{arith}
 use borrow.Author.Tests.{not-true, not-false}
 use Rattle.layouts.specs.Limits.{gateLimits}
 use Rattle.layouts.specs.LayoutCheckFacts.{isLayout-passed}
-use Rattle.walk_memory.specs.FieldTableLaws.{tableCheckOf-accepted}
+use Rattle.field_table.specs.FieldTableLaws.{tableCheckOf-accepted}
 use Rattle.validator.specs.MessageCallLaws.{refused-dictionary, refused-layout, refused-table, table-accepted}
 use borrow.Author.Needs.{needs}
 use Rattle.validator.proofs.message_call.walk_message.Statement.{statement}

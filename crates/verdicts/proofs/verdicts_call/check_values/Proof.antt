@@ -2,7 +2,7 @@
 -- `verdicts::verdicts_call::check_values` meets its contract. The laws are those of specs/VerdictsLaws.antt.
 use mathlib.Core.Path.{sym, _∙_}
 use borrow.Author.Tests.{not-true, not-false}
-use Rattle.walk_memory.specs.FieldTableLaws.{tableCheckOf-accepted}
+use Rattle.field_table.specs.FieldTableLaws.{tableCheckOf-accepted}
 use Rattle.verdicts.specs.VerdictsLaws.{refused-dictionary, refused-table, table-accepted}
 use borrow.Author.Needs.{needs}
 use Rattle.verdicts.proofs.verdicts_call.check_values.Statement.{statement}

@@ -2,7 +2,7 @@
 -- `verdicts::verdicts_call::judge_values` meets its contract. The loop's invariant is `WrittenSoFar`; the laws are those of specs/VerdictsLaws.antt.
 use Prim.Native.Nat.{_-_}
 use native.Mathlib.Omega.{arith}
-use Rattle.walk_memory.specs.FieldTable.{rowCount}
+use Rattle.field_table.specs.FieldTable.{rowCount}
 use Rattle.verdicts.specs.VerdictsLaws.{WrittenSoFar, written-begins, written-record, written-goes-on, written-ends}
 use borrow.Author.Needs.{needs}
 use Rattle.verdicts.proofs.verdicts_call.judge_values.Statement.{statement}

@@ -3,10 +3,10 @@
 use mathlib.Core.Path.{ap, _∙_}
 use Prim.Native.Nat.{_-_}
 use native.Mathlib.Omega.{arith}
-use Rattle.walk_memory.specs.FieldTable.{rowCount}
-use Rattle.verdicts.specs.FieldRecords.{recordOf}
-use Rattle.verdicts.specs.FieldRecords.{fieldRecord}
-use Rattle.verdicts.specs.FieldRecordsLaws.{FilledSoFar, filled-begins, filled-goes-on, filled-ends}
+use Rattle.field_table.specs.FieldTable.{rowCount}
+use Rattle.verdict.specs.FieldRecords.{recordOf}
+use Rattle.verdict.specs.FieldRecords.{fieldRecord}
+use Rattle.verdict.specs.FieldRecordsLaws.{FilledSoFar, filled-begins, filled-goes-on, filled-ends}
 use borrow.Author.Needs.{needs}
 use Rattle.verdicts.proofs.verdicts_call.write_records.Statement.{statement}
 use Rattle.verdicts.proofs.verdicts_call.write_records.Tie as tie

@@ -18,7 +18,7 @@ slice-relend-prefix-walk-group c = search needs
 slice-aggregate-walk-group : tie.Need-slice-aggregate-walk-group
 slice-aggregate-walk-group c = search needs
 
--- let counted = crate::group_walk::walk_group(
+-- let counted = group_walk::group_walk::walk_group(
 walk-group-requires : tie.Need-walk-group-requires
 walk-group-requires c κs = record { lent = c .before .before .before .before .before .before .pre; around = top-ascends (c .before .before .before .before .before .before .args .layout .now) (c .before .before .before .before .before .before .pre .passed) _ (c .before .members-at .ensures); shallow = omega arith; room = omega arith }
 
@@ -29,7 +29,7 @@ same-length c = search needs
 returns : tie.Need-returns
 returns c = space-short (c .before .before .before .before .before .before .before .before .before .before .args .layout .now) (c .before .before .before .before .before .before .before .before .before .before .args .fields .now) (c .before .before .before .before .before .before .before .before .before .before .args .message .now) (c .before .before .before .before .before .before .before .before .before .before .pre .passed) (c .before .before .before .before .before .before .before .before .before .before .args .group) (c .before .before .before .before .before .before .before .before .before .before .args .position) (c .before .before .before .before .before .before .before .before .before .before .pre .valid) _ (c .before .before .before .before .before .members-at .ensures) (c .before .before .before .before .before .before .before .before .before .before .args .events .now) _ _ _ (c .before .before .before .walk-group .ensures) (c .if1 .taken)
 
--- let end = crate::group_walk::walk_group(
+-- let end = group_walk::group_walk::walk_group(
 walk-group-requires-2 : tie.Need-walk-group-requires-2
 walk-group-requires-2 c κs = record { lent = c .before .before .before .before .before .before .before .before .before .before .before .pre; around = top-ascends (c .before .before .before .before .before .before .before .before .before .before .before .args .layout .now) (c .before .before .before .before .before .before .before .before .before .before .before .pre .passed) _ (c .before .before .before .before .before .before .members-at .ensures); shallow = omega arith; room = omega arith }
 

@@ -4,7 +4,7 @@ use mathlib.Core.Path.{sym, _∙_}
 use borrow.Author.Tests.{not-true, not-false}
 use Rattle.layouts.specs.Limits.{gateLimits}
 use Rattle.layouts.specs.LayoutCheckFacts.{isLayout-passed}
-use Rattle.walk_memory.specs.FieldTableLaws.{tableCheckOf-accepted}
+use Rattle.field_table.specs.FieldTableLaws.{tableCheckOf-accepted}
 use Rattle.walk.specs.WalkCallLaws.{refused-layout, refused-table, table-accepted}
 use borrow.Author.Needs.{needs}
 use Rattle.walk.proofs.walk_call.walk_group.Statement.{statement}

@@ -39,7 +39,7 @@ returns-2 c = group-found (c .before .before .before .before .before .before .be
 members-at-requires : tie.Need-members-at-requires
 members-at-requires c κs = search needs
 
--- let end = crate::group_walk::walk_group(
+-- let end = group_walk::group_walk::walk_group(
 walk-group-requires : tie.Need-walk-group-requires
 walk-group-requires c κs = record { lent = record { passed = c .before .before .before .before .before .before .before .before .before .before .before .before .pre .0; few-groups = c .before .before .before .before .before .before .before .top-group .ensures .1; valid = (group-valid (c .before .before .before .before .before .before .before .before .before .before .before .before .args .layout .now) (c .before .before .before .before .before .before .before .before .before .before .before .before .args .fields .now) (c .before .before .before .before .before .before .before .before .before .before .before .before .args .message .now) (c .before .before .before .before .before .before .before .before .before .before .before .before .args .position) (c .before .before .before .before .before .before .before .before .before .before .before .before .args .tag) (c .before .before .before .before .before .before .before .before .before .before .before .before .args .events .now) _ (c .before .before .before .before .before .before .before .top-group .ensures .0) _ (c .before .before .before .before .before .group .given .1) (c .before .before .before .before .before .before .before .before .before .before .before .before .pre .0)); table = c .before .before .before .before .before .before .before .before .before .before .before .before .pre .1 }; around = top-ascends (c .before .before .before .before .before .before .before .before .before .before .before .before .args .layout .now) (c .before .before .before .before .before .before .before .before .before .before .before .before .pre .0) _ (c .before .members-at .ensures); shallow = omega arith; room = omega arith }
 

@@ -2,7 +2,7 @@
 -- `walk_steps::group_steps::taken_step` meets its contract: the search finds the rank among the count tags.
 use mathlib.Core.Path.{sym, _∙_}
 use native.Mathlib.Omega.{arith}
-use Rattle.sorting.specs.SearchLaws.{holds-at}
+use Rattle.ascending.specs.SearchLaws.{holds-at}
 use borrow.Author.Needs.{needs}
 use Rattle.walk_steps.proofs.group_steps.taken_step.Statement.{statement}
 use Rattle.walk_steps.proofs.group_steps.taken_step.Tie as tie

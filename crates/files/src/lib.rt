@@ -1,0 +1,2 @@
+// Files, read whole into lent space.
+pub mod file;

@@ -1,0 +1,2 @@
+// Whether lent words are a layout.
+pub mod layout_check;

@@ -1,2 +1,0 @@
--- Definitions of the crate `list_files`.
-pub mod Files

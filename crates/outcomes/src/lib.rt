@@ -1,0 +1,3 @@
+// What the gate's calls answer, as numbers for C and Rust.
+pub mod answers;
+pub mod outcome;

@@ -1,0 +1,2 @@
+// The verdict on one field.
+pub mod verdict;

@@ -1,0 +1,1 @@
+// Small messages walked and judged by computation: specs/ alone, no function.
