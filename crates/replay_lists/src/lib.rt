@@ -1,0 +1,3 @@
+// The recorded lists, replayed line by line.
+pub mod files;
+pub mod lists;
