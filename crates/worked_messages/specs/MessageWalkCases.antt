@@ -28,6 +28,7 @@ use Rattle.dictionary.specs.DictionaryWords.{isOf, nameOf, namesOf, placeOf, re
 use Rattle.dictionary.specs.DictionaryCheck as check
 use Rattle.dictionary.specs.DictionaryCheck.{accepts, standsAt, standsEach, isIndex, isDictionary}
 use Rattle.definitions.specs.DefinedFields.{valuesFirst, fieldsIn}
+use Rattle.layouts.specs.Limits.{gateLimits}
 use Rattle.layouts.specs.Layout.{Layout, level-of, no-groups, group-and, group-of, groupsBelow, levelOrder, allGroups, joined}
 use Rattle.layouts.specs.LayoutWords.{placesFrom, arrangedParts, arranged, stretch, stretches}
 use Rattle.layouts.specs.LayoutCheck.{neverFalls, isRun, isAhead, memberPlacesHold, requiredPlacesHold, groupPlacesHold, isLevel, levelsHold, delimitersHold, allLevelsHold, allDelimitersHold, isLayoutOf, isLayout}
@@ -97,8 +98,15 @@ abbrev pub called : List ℕ → List ℕ → ℕ → WalkedMessage × List ℕ
 called words layout room =
     (walkedOf words layout (tableFrom 0 message) (valuesOf message) (replicate room 7), eventsIn words layout (tableFrom 0 message) (valuesOf message) (replicate room 7))
 
+pub dictionary-passes : isDictionary (dictionaryWords dictionary) ≡ true
+unfolding isIn isStrictlyAbove isStrictlyAscending inserted sorted noLeadingZero numberOf isAlphanumeric stepOf isBetween holdsByte holdsPart lettersLength lettersText holdsLetters holdsValue recordOf isUnused outerFrom bodyFrom lineFrom digitCount lengthOf isOf nameOf namesOf placeOf recordsOf indexOf dictionaryWords linesFrom accepts check.countOf standsAt standsEach isIndex isDictionary nonEmpty every isDigits decimalFrom
+dictionary-passes = refl
+
+pub layout-passes : isLayout gateLimits (arranged parties) ≡ true
+unfolding isIn rankFrom rankIn groupsBelow levelOrder allGroups joined placesFrom arrangedParts arranged stretch isBetween isStrictlyAbove isStrictlyAscending stretches neverFalls isRun isAhead memberPlacesHold requiredPlacesHold groupPlacesHold isLevel levelsHold delimitersHold allLevelsHold allDelimitersHold isLayoutOf isLayout nonEmpty every
+layout-passes = refl
+
 pub record MessageCalls : Type 0 where
-  pub dictionary-passes : isDictionary (dictionaryWords dictionary) ≡ true
   pub list-in-full : called (dictionaryWords dictionary) (arranged parties) 22 ≡ (Done 20, joined listed ++ (7 ∷ 7 ∷ []))
   pub exact-space : called (dictionaryWords dictionary) (arranged parties) 20 ≡ (Done 20, joined listed)
   pub space-short : called (dictionaryWords dictionary) (arranged parties) 19 ≡ (Refused (SpaceShort 20), replicate 19 7)
@@ -106,16 +114,19 @@ pub record MessageCalls : Type 0 where
   pub then-layout : called (dictionaryWords dictionary) [] 19 ≡ (Refused (RuleBroken 0 0), replicate 19 7)
   pub then-table : walkedOf (dictionaryWords dictionary) (arranged parties) (35 ∷ 2 ∷ 1 ∷ []) (ascii "D") [] ≡ Refused (BadField 1)
 
+pub empty-refused : (isDictionary [] ≡ false) × (isLayout gateLimits [] ≡ false)
+unfolding accepts standsEach check.countOf isIndex isDictionary isLayoutOf isLayout nonEmpty
+empty-refused = (refl, refl)
+
 pub message-calls : MessageCalls
-unfolding isIn rankFrom rankIn groupsBelow levelOrder allGroups joined placesFrom arrangedParts arranged stretch walkGroup walkBy openingAt memberLeads entryBegins entryStops stepAt countOf isDigits nonEmpty every isBetween decimalFrom eventWords turnAt turnsFrom missingTags missingGroups messageEvents requiredFrom isStrictlyAbove isStrictlyAscending inserted sorted noLeadingZero numberOf isAlphanumeric stepOf holdsByte holdsPart lettersLength lettersText holdsLetters holdsValue recordOf isUnused outerFrom bodyFrom lineFrom digitCount lengthOf isOf nameOf namesOf placeOf recordsOf indexOf dictionaryWords linesFrom accepts check.countOf standsAt standsEach isIndex isDictionary valuesFirst fieldsIn stretches neverFalls isRun isAhead memberPlacesHold requiredPlacesHold groupPlacesHold isLevel levelsHold delimitersHold allLevelsHold allDelimitersHold isLayoutOf isLayout eventsWords isBadField badFrom tableCheckOf walkedOf eventsIn
+unfolding isIn rankFrom rankIn groupsBelow levelOrder allGroups joined placesFrom arrangedParts arranged stretch walkGroup walkBy openingAt memberLeads entryBegins entryStops stepAt countOf isDigits nonEmpty every isBetween decimalFrom eventWords turnAt turnsFrom missingTags missingGroups messageEvents requiredFrom inserted sorted noLeadingZero numberOf isAlphanumeric holdsByte holdsPart lettersLength lettersText holdsLetters holdsValue recordOf isUnused outerFrom bodyFrom lineFrom isOf nameOf namesOf placeOf recordsOf indexOf dictionaryWords linesFrom valuesFirst fieldsIn eventsWords isBadField badFrom tableCheckOf walkedOf eventsIn
 message-calls = record {
-  dictionary-passes = refl;
-  list-in-full = refl;
-  exact-space = refl;
-  space-short = refl;
-  dictionary-first = refl;
-  then-layout = refl;
-  then-table = refl;
+  list-in-full = rw (dictionary-passes, layout-passes) refl;
+  exact-space = rw (dictionary-passes, layout-passes) refl;
+  space-short = rw (dictionary-passes, layout-passes) refl;
+  dictionary-first = rw (empty-refused .0);
+  then-layout = rw (dictionary-passes, empty-refused .1);
+  then-table = rw (dictionary-passes, layout-passes);
 }
 
 -- ---- kinds 9 to 11
