@@ -18,7 +18,7 @@ use Rattle.unicode.specs.Characters.{characters}
 use Rattle.multi_values.specs.MultiValue.{isMultiValueList}
 use Rattle.ascii.specs.Letters.{isAlphaOfLen}
 use Rattle.dates.specs.Date.{isMonthYear, isDate, isTimeOfDay, isUtcTimestamp}
-use Rattle.dates.specs.StrictDate.{isStrictMonthYear, isStrictDate, isStrictTimeOfDay, isStrictUtcTimestamp}
+use Rattle.strict_dates.specs.StrictDate.{isStrictMonthYear, isStrictDate, isStrictTimeOfDay, isStrictUtcTimestamp}
 use Rattle.field_types.specs.FieldType.{formatOf}
 
 unfoldable pub isOfFormat : Format → List ℕ → Bool

@@ -14,7 +14,7 @@ use Rattle.unicode.specs.Characters.{expectedAfter, continues, charactersFrom, 
 use Rattle.ascii.specs.Split.{withFirst, split, everyPart}
 use Rattle.multi_values.specs.MultiValue.{isToken, isMultiValueList}
 use Rattle.dates.specs.Date.{standsFor, hasPicture, isMonthYear}
-use Rattle.dates.specs.StrictDate.{isInRange, isStrictMonthYear}
+use Rattle.strict_dates.specs.StrictDate.{isInRange, isStrictMonthYear}
 use Rattle.formats.specs.FieldValue.{isOfFormat, isValidValue, isInRanges, isStrictValue}
 
 pub record Starred : Type 0 where

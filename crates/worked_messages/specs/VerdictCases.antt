@@ -13,7 +13,7 @@ use Rattle.ascii.specs.Bytes.{ascii, nonEmpty, every, howMany}
 use Rattle.ascii.specs.Digits.{isDigits, isDigitsOfLen, decimalFrom}
 use Rattle.ascii.specs.Split.{withFirst, split, everyPart}
 use Rattle.dates.specs.Date.{standsFor, hasPicture, isMonthYear}
-use Rattle.dates.specs.StrictDate.{isInRange, isStrictMonthYear}
+use Rattle.strict_dates.specs.StrictDate.{isInRange, isStrictMonthYear}
 use Rattle.numbers.specs.Number.{isSigned, withoutSign, isInteger, isDecimalBody, isDecimal}
 use Rattle.unicode.specs.Characters.{expectedAfter, continues, charactersFrom, characters}
 use Rattle.multi_values.specs.MultiValue.{isToken, isMultiValueList}

@@ -2,7 +2,7 @@
 use ascii::digits::is_ascii_digit;
 use ascii::digits::is_digits_of_len;
 ghost use mathlib.Core.Path.{_≡_};
-ghost use Rattle.dates.specs.StrictDate.{isInRange, isStrictDate, isStrictMonthYear, isStrictTimeOfDay, isStrictUtcTimestamp};
+ghost use Rattle.strict_dates.specs.StrictDate.{isInRange, isStrictDate, isStrictMonthYear, isStrictTimeOfDay, isStrictUtcTimestamp};
 
 // Returns true where two digits at the place make a number from low to high.
 pub fn two_digits_between(value: &[u8], place: usize, low: u8, high: u8) -> bool

@@ -12,7 +12,7 @@ use Rattle.ascii.specs.Bytes.{every}
 use Rattle.ascii.specs.BytesLaws.{drop-step}
 use Rattle.ascii.specs.Digits.{isDigit, isDigitsOfLen, decimalFrom}
 use Rattle.ascii.specs.DigitsLaws.{isDigitsOfLen-other-length}
-use Rattle.dates.specs.StrictDate.{pairAt, isInRange, isStrictDate, isStrictMonthYear, isStrictTimeOfDay, isStrictUtcTimestamp}
+use Rattle.strict_dates.specs.StrictDate.{pairAt, isInRange, isStrictDate, isStrictMonthYear, isStrictTimeOfDay, isStrictUtcTimestamp}
 
 -- ---- pairAt
 

@@ -4,8 +4,8 @@ use mathlib.Core.Bool.{true, false}
 use Rattle.ascii.specs.Notation.{isBetween}
 use Rattle.ascii.specs.Bytes.{ascii, every}
 use Rattle.ascii.specs.Digits.{isDigitsOfLen, decimalFrom}
 use Rattle.dates.specs.Date.{standsFor, hasPicture, isMonthYear, isDate, isFraction, isTimeOfDay, isUtcTimestamp}
-use Rattle.dates.specs.StrictDate.{isInRange, isStrictDate, isStrictMonthYear, isStrictTimeOfDay, isStrictUtcTimestamp}
+use Rattle.strict_dates.specs.StrictDate.{isInRange, isStrictDate, isStrictMonthYear, isStrictTimeOfDay, isStrictUtcTimestamp}
 
 pub record MonthsOfYears : Type 0 where
   pub month : isMonthYear (ascii "202402") ≡ true
