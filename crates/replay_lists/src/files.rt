@@ -5,11 +5,11 @@ use crate::lists::replay_case;
 use replay_lines::block::Block;
 use replay_lines::cases::Tally;
 use replay_lines::cases::print_unless_same;
-use replay_lines::event_space::UNWRITTEN;
 use replay_lines::lines::first_line;
 use replay_lines::lines::kind_of;
 use replay_lines::lines::next_line;
-use replay_lines::word_space::UNWRITTEN_WORD;
+use replay_space::event_space::UNWRITTEN;
+use replay_space::word_space::UNWRITTEN_WORD;
 
 // The block that the lines so far give, and how their cases went.
 struct Progress {

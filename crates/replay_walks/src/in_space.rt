@@ -5,11 +5,11 @@ use crate::calls::make;
 use replay_lines::block::Block;
 use replay_lines::cases::Replayed;
 use replay_lines::cases::same_if;
-use replay_lines::event_space::is_unwritten;
-use replay_lines::event_space::took_words;
 use replay_lines::given::is_refused_as;
 use replay_lines::given::is_short;
 use replay_lines::given::is_written;
+use replay_space::event_space::is_unwritten;
+use replay_space::event_space::took_words;
 
 // The number and the words are those recorded, also with the first `ample` words of the space.
 pub fn replay_written(

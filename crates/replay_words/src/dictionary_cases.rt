@@ -13,8 +13,8 @@ use replay_lines::lines::after_word;
 use replay_lines::lines::kind_of;
 use replay_lines::recorded_numbers::read_numbers;
 use replay_lines::recorded_numbers::same_number;
-use replay_lines::word_space::clear;
-use replay_lines::word_space::wide;
+use replay_space::word_space::clear;
+use replay_space::word_space::wide;
 
 // The text beside the answer that was recorded.
 pub fn replay(

@@ -7,8 +7,8 @@ use replay_lines::cases::same_if;
 use replay_lines::given::is_refused_as;
 use replay_lines::given::is_short;
 use replay_lines::given::is_written;
-use replay_lines::word_space::is_unwritten;
-use replay_lines::word_space::took_words;
+use replay_space::word_space::is_unwritten;
+use replay_space::word_space::took_words;
 
 // The number and the words are those recorded.
 pub fn replay_written(
