@@ -1,4 +1,4 @@
--- What is looked up in a dictionary's words (crate dictionary, `Definitions.antt`), as places among its lines and bodies of its tree: words that pass the
+-- What is looked up in a dictionary's words (crate definitions, `Definitions.antt`), as places among its lines and bodies of its tree: words that pass the
 -- check tell lines that are in order, the number that an index gives a name is the place of its line, and the body behind that line is the one
 -- that the tree has under that name. Assumes nothing.
 --

@@ -1,5 +1,5 @@
 -- The check of lent words. Document 01: "A call that is lent dictionary or layout words first checks that they are the arrangement of an accepted dictionary".
--- The words say how many lines they have; their records are read as lines, the steps of the dictionary text (texts, `stepOf`) run over these, the lengths of
+-- The words say how many lines they have; their records are read as lines, the steps of the dictionary text (dictionary_order, `stepOf`) run over these, the lengths of
 -- their texts are added up ("text over 65,536 bytes"), and each index names what the records define, each name once. Assumes nothing.
 --
 --   accepts state number total lines   lines from this number on, read in this state behind so many bytes, are those of an accepted text, but for row 5

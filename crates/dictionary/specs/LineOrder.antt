@@ -1,4 +1,4 @@
--- The order of the lines of a dictionary text (texts, `DictionaryOrder.antt`) as src/line_order.rt keeps it: the count tags of the open group blocks stand
+-- The order of the lines of a dictionary text (dictionary_order, `DictionaryOrder.antt`) as src/line_order.rt keeps it: the count tags of the open group blocks stand
 -- apart from the rest of the state, and of a fault is kept that there is one. Assumes nothing.
 --
 --   stateOf standing counts      the state of texts with these count tags

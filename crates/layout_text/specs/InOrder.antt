@@ -1,4 +1,4 @@
--- The order of the lines of an accepted layout text (`layoutTextOf` of the crate texts), said of the lines alone. Assumes nothing.
+-- The order of the lines of an accepted layout text (`layoutTextOf`, LayoutText.antt), said of the lines alone. Assumes nothing.
 --
 --   InOrder part depth lines     the lines may follow where `part` was read last of the innermost open level (0 members, 1 required tags,
 --                                2 a group block) and `depth` blocks are open

@@ -1,6 +1,6 @@
 -- The lines of a layout text. Document 01, 'The layout of a message type': "A hand-made layout text has per level `member=TAG` lines,
 -- `required=TAG` lines, then group blocks as above", a block being "`group=COUNT,DELIMITER,R` .. `end=COUNT`"; "a last line without its line
--- feed is of no known form". Which of them may stand where is said in the crate texts (`layoutTextOf`). Assumes nothing.
+-- feed is of no known form". Which of them may stand where is said in LayoutText.antt (`layoutTextOf`). Assumes nothing.
 --
 --   levelLineOf line       what a line is to a layout text
 --   linesIn pieces         the lines of a text that is cut at its line feeds

@@ -3,8 +3,8 @@
 -- 7 each group's count tag a member." Rules 1 to 4 are those of `GroupSpec::new` (group.rs), 5 to 7 those of
 -- `GroupSet::with_level_tags`. Assumes nothing.
 --
---   isAscending tags           each tag is greater than the one before (`isStrictlyAscending` of the crate sorting)
---   tag ∈ᵇ tags                the tag is one of the tags (`isIn` of the crate sorting)
+--   isAscending tags           each tag is greater than the one before (`isStrictlyAscending` of the crate ascending)
+--   tag ∈ᵇ tags                the tag is one of the tags (`isIn` of the crate ascending)
 --   areAmong members tags      each of the tags is one of the members
 --   rule1 group .. rule7 top   the rules
 --   meetsRules layout          the top meets rules 5 to 7 and every group of every level rules 1 to 4

@@ -1,5 +1,5 @@
 -- What a message walk reads, from lent words: the tags defined, as a list; the top of a layout's words, and the fields of a field table and a message
--- (`WalkWords.antt` of walk). Assumes nothing.
+-- (`WalkWords.antt` of walk_steps). Assumes nothing.
 --
 --   requiredFrom words number count    of so many groups from this number on, the count tags of those that are required
 --   levelOf defined words              the message level; the top's groups have the first numbers

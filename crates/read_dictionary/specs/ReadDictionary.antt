@@ -1,6 +1,6 @@
 -- The call `read_dictionary` (document 01, 'When the gate says no'): what it answers, and what the lent words hold afterwards. "Dictionary text: then 13."
 -- Row 13: "event, verdict, dictionary or layout space short", place "words needed". "A refusal writes nothing; an answer leaves the words behind its last
--- one as they were." `Read` is declared in src/read_dictionary.rt; number and place of a refusal are in `Refusal.antt` of texts. Assumes nothing.
+-- one as they were." `Read` is declared in src/read_dictionary.rt; number and place of a refusal are in `Refusal.antt` of refusals. Assumes nothing.
 --
 --   textLines text        the lines of a dictionary text
 --   neededFor read        how many words the dictionary needs whose text was counted so

@@ -1,4 +1,4 @@
--- What the parts of a line are read as (texts, `LineParts.antt`), against what a record holds: a number has 32 bits and at least as many digits as `digitCount`,
+-- What the parts of a line are read as (lines, `LineParts.antt`), against what a record holds: a number has 32 bits and at least as many digits as `digitCount`,
 -- a TYPE is one of 34 and as long as its name, a T is `lettersText` of its word, a V fills its words. Assumes nothing.
 use mathlib.Core.Path.{_≡_, refl, sym, ap, _∙_}
 use Prim.Native.Nat.{ℕ, zero, suc, _+_, _*_, _-_, _^_, _≤_, _<_}

@@ -1,4 +1,4 @@
--- What a line is read as (texts, `lineOf`), against what a record holds: a line of a form that a dictionary text knows can be held, and is at least as long
+-- What a line is read as (line_forms, `lineOf`), against what a record holds: a line of a form that a dictionary text knows can be held, and is at least as long
 -- as `lengthOf` says (`lineOf-fits`). Assumes nothing.
 --
 --   Usable line      a record can hold the line, if a dictionary text knows its form

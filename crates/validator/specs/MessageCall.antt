@@ -3,7 +3,7 @@
 -- leaves the words behind its last one as they were." `WalkedMessage` is declared in src/message_call.rt; number and place of a refusal are in
 -- `Refusal.antt` of refusals. Assumes nothing.
 --
---   walkOf dictionary words fields message   the events of the message walk, where the dictionary's words define the tags (`DefinedTags.antt` of dictionary)
+--   walkOf dictionary words fields message   the events of the message walk, where the dictionary's words define the tags (`DefinedTags.antt` of definitions)
 --   neededFor events                   "space for a walk's events is five words each"
 --   spaceAnswer, spaceWith events space   13, or the answer and the words written
 --   walkedOf dictionary words fields message space   what the call answers

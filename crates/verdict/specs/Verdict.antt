@@ -1,6 +1,6 @@
 -- The verdict on a value. Document 01, 'The verdict on a value': "0 good, 1 tag undefined, 2 wrong format, 3 not admitted. Reference: `check_value`." The Rust's
 -- `check_value` (validator.rs): "Checks that a field is defined, well-formed for its type, and — when enumerated — carries a defined value." `Verdict` is declared
--- in src/verdict.rt. The dictionary is given by the lines of its text; what they define is said in DefinedFields.antt of dictionary. Assumes nothing.
+-- in src/verdict.rt. The dictionary is given by the lines of its text; what they define is said in DefinedFields.antt of definitions. Assumes nothing.
 --
 -- The Rust looks at the text that `from_utf8_lossy` makes of the value; here the raw bytes are judged. That is the same: of the format see docs/DIFFERENCES.md and
 -- `cut-before-or-behind` (multi_values, MultiValueOrder.antt); of the admitted values `admitted-by-characters` (AdmittedCharacters.antt).

@@ -1,6 +1,6 @@
 -- The call `walk_group` on lent words (document 01, 'The events of a walk' and 'When the gate says no'): what it answers, and what the event space holds
 -- afterwards. "Walk: lent words, 12, 14, 13." "A refusal writes nothing; an answer leaves the words behind its last one as they were."
--- `Walked` is declared in src/walk_call.rt; number and place of a refusal are in `Refusal.antt` of texts. Assumes nothing.
+-- `Walked` is declared in src/walk_call.rt; number and place of a refusal are in `Refusal.antt` of refusals. Assumes nothing.
 --
 --   topWalk words fields message group position the walk of the top group of this number, from the position on
 --   neededFor walk                              "space for a walk's events is five words each"
