@@ -14,7 +14,7 @@ use arrange_level::arrange_level::{in_order, keep_required, read_level};
 use layouts::layout_words::wide;
 
 // How many levels are gathered and how many are found, and where their members and required tags end.
-#[derive(Drop)]
+#[derive(Clone, Copy)]
 pub struct Gathering {
     pub level: usize,
     pub levels: usize,

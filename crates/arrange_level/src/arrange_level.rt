@@ -11,7 +11,7 @@ use expansion::required::retain;
 use sorting::sort::sort_unstable;
 
 // Where the members and the required tags of a level end, how many groups stand in it, and the delimiter of its group, 0 for the top.
-#[derive(Drop)]
+#[derive(Clone, Copy)]
 pub struct OwnLevel {
     pub members: usize,
     pub required: usize,

@@ -3,7 +3,7 @@ ghost use Rattle.std.specs.Prelude.{◌≡◌};
 ghost use Rattle.ascending.specs.Search.{StrictlyAscending, is_strictly_ascending, rank_in, Holds};
 
 // Where a tag stands. The Rust's Result<usize, usize>, without the place where the tag would stand.
-#[derive(Drop)]
+#[derive(Clone, Copy)]
 pub enum Found {
     At(usize),
     Nothing,

@@ -19,7 +19,7 @@ use expansion::seen::contains;
 use refusals::refusal::Refusal;
 
 // A line `group=COUNT,DELIMITER,R`, and the place of the first line of its body.
-#[derive(Drop)]
+#[derive(Clone, Copy)]
 pub struct GroupLine {
     pub count: u32,
     pub delimiter: u32,
@@ -28,7 +28,7 @@ pub struct GroupLine {
 }
 
 // The place behind the end of a body that was added, and what is spent and added then; or why no more was added.
-#[derive(Drop)]
+#[derive(Clone, Copy)]
 pub enum Filled {
     UpTo(usize, Builder),
     Stopped(Stop),

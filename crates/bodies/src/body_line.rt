@@ -14,7 +14,7 @@ const GROUP: u32 = 8;
 const USE: u32 = 9;
 
 // What a line has for a body.
-#[derive(Drop)]
+#[derive(Clone, Copy)]
 pub enum BodyLine {
     // TAG, R
     Field(u32, bool),

@@ -5,7 +5,7 @@ ghost use Rattle.counts.specs.Count.{count_of};
 use ascii::digits::is_ascii_digit;
 
 // What the value of a count field says. The Rust's Option<u64>.
-#[derive(Drop)]
+#[derive(Clone, Copy)]
 pub enum Count {
     Number(u64),
     Nothing,

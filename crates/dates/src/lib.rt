@@ -1,2 +1,3 @@
 // Dates and times of FIX fields. Ported from schema.rs.
+#![tactic(auto)]
 pub mod date;

@@ -9,7 +9,7 @@ use ascending::search::{Found, binary_search};
 use lines::line_parts::{Admitted, MessageType, ValueText, parse_message_type, parse_value};
 
 // The definition of a tag.
-#[derive(Drop)]
+#[derive(Clone, Copy)]
 pub enum Definition {
     // the place of its TYPE among the names of FieldType, and the number of its record; its admitted values are the records behind it
     Defined(u32, usize),

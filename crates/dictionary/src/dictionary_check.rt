@@ -28,7 +28,7 @@ fn may_end(stage: u8) -> bool
 }
 
 // Whether lines were accepted. If so, how many bytes their text has at most, and how many of them define a tag, a component, a message.
-#[derive(Drop)]
+#[derive(Clone, Copy)]
 struct LinesRead {
     accepted: bool,
     bytes: usize,

@@ -11,7 +11,7 @@ use line_forms::line::Line;
 use lines::line_parts::{MessageType, Number32};
 
 // Whether a line was taken, and the state behind it without the count tags of the open group blocks: see State in texts.
-#[derive(Drop)]
+#[derive(Clone, Copy)]
 pub struct Standing {
     pub taken: bool,
     pub stage: u8,

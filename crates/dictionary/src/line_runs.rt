@@ -13,7 +13,7 @@ use records::line_texts::type_length;
 use records::records::{holds_visible_part, pair_at};
 
 // How many lines stand in the run, how many bytes they have with their line feeds at most, and how many of them define a tag.
-#[derive(Drop)]
+#[derive(Clone, Copy)]
 pub struct Run {
     // Whether a further run is to be looked for: not where a record has a word that its kind does not use.
     pub clean: bool,

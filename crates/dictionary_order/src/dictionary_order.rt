@@ -35,7 +35,7 @@ pub const USES: u8 = 2;
 // no body is open
 pub const NO_BODY: u8 = 3;
 
-#[derive(Drop)]
+#[derive(Clone, Copy)]
 pub struct State {
     pub stage: u8,
     pub part: u8,
@@ -47,14 +47,14 @@ pub struct State {
     pub counts: [u32; 40],
 }
 
-#[derive(Drop)]
+#[derive(Clone, Copy)]
 pub enum Fault {
     NoFault,
     Faulty(Refusal),
 }
 
 // What a line does: its fault, or the state behind it.
-#[derive(Drop)]
+#[derive(Clone, Copy)]
 pub struct Step {
     pub fault: Fault,
     pub next: State,

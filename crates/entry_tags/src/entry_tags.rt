@@ -7,25 +7,25 @@ ghost use Rattle.entry_tags.specs.EntryTags.{no_ranks, holds_rank, insert_rank, 
 
 // A level of up to 256 members. Four words stay in registers; the eight of the Rust's INLINE_MEMBERS
 // would be copied through memory at each insert (docs/SPEED.md).
-#[derive(Drop)]
+#[derive(Clone, Copy)]
 pub struct EntryTags {
     pub words: [u64; 4],
 }
 
 // The set with a rank, and whether it was not there before.
-#[derive(Drop)]
+#[derive(Clone, Copy)]
 pub struct Inserted {
     pub tags: EntryTags,
     pub fresh: bool,
 }
 
 // A wider level, of up to 8,192 members. The Rust's set on the heap.
-#[derive(Drop)]
+#[derive(Clone, Copy)]
 pub struct WideEntryTags {
     pub words: [u64; 128],
 }
 
-#[derive(Drop)]
+#[derive(Clone, Copy)]
 pub struct WideInserted {
     pub tags: WideEntryTags,
     pub fresh: bool,

@@ -5,7 +5,7 @@ ghost use Rattle.events.specs.Events.{flag_word, kind_number, kind_first, kind_s
 ghost use Rattle.events.specs.EventSpace.{put_in};
 
 // What happened, with its numbers: the methods of the Rust's Visitor, then what the message level reports (validator.rs).
-#[derive(Drop)]
+#[derive(Clone, Copy)]
 pub enum Kind {
     // A group instance starts.
     Enter,
@@ -32,7 +32,7 @@ pub enum Kind {
 }
 
 // An event of the group with this count tag, at this depth; both are 0 for an event of the message level.
-#[derive(Drop)]
+#[derive(Clone, Copy)]
 pub struct Event {
     pub count_tag: u32,
     pub depth: u32,
@@ -40,7 +40,7 @@ pub struct Event {
 }
 
 // A kind as document 01's three words: the kind's number, a and b.
-#[derive(Drop)]
+#[derive(Clone, Copy)]
 struct KindWords {
     number: u64,
     first: u64,

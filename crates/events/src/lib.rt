@@ -1,2 +1,3 @@
 // The events of a walk: what they are, and their words in lent space.
+#![tactic(auto)]
 pub mod event;

@@ -12,7 +12,7 @@ use layouts::put_layout::put_layout;
 use refusals::refusal::Refusal;
 
 // What the expansion of a message type gives.
-#[derive(Drop)]
+#[derive(Clone, Copy)]
 pub enum Expanded {
     // how many nodes were spent, and how many words were written
     Done { nodes: usize, words: usize },

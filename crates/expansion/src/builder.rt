@@ -15,7 +15,7 @@ pub const MEMBERS: usize = 8192;
 pub const REQUIRED: usize = 2048;
 
 // What was spent and added so far, and how many words of the trace it takes.
-#[derive(Drop)]
+#[derive(Clone, Copy)]
 pub struct Builder {
     pub nodes: usize,
     pub members: usize,
@@ -24,14 +24,14 @@ pub struct Builder {
 }
 
 // Why nothing more is added. The Rust's builder goes on past an error; the gate stops at the first.
-#[derive(Drop)]
+#[derive(Clone, Copy)]
 pub enum Stop {
     Error(Refusal),
     // the trace is full: fewer words were lent than the 14,336 for each member, required entry and node
     NoRoom,
 }
 
-#[derive(Drop)]
+#[derive(Clone, Copy)]
 pub enum Added {
     Done(Builder),
     Stopped(Stop),

@@ -8,7 +8,7 @@ ghost use Rattle.field_table.specs.WalkInput.{count_at};
 use counts::count::Count;
 
 // Whether a field table is accepted, or refused with 12 at this place.
-#[derive(Drop)]
+#[derive(Clone, Copy)]
 pub enum TableCheck {
     Accepted,
     Refused(usize),

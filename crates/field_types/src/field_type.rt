@@ -5,7 +5,7 @@ ghost use Rattle.field_types.specs.FieldType.{format_of, is_multi_value, type_nu
 use multi_values::multi_value::TokenLen;
 
 // FIX field data type.
-#[derive(Drop)]
+#[derive(Clone, Copy)]
 pub enum FieldType {
     // Integer value.
     Int,
@@ -78,7 +78,7 @@ pub enum FieldType {
 }
 
 // The on-the-wire forms that the data types admit: those that the arms of the Rust's `is_valid_value` test.
-#[derive(Drop)]
+#[derive(Clone, Copy)]
 pub enum Format {
     SignedInteger,
     UnsignedInteger,
@@ -96,7 +96,7 @@ pub enum Format {
 }
 
 // The type of a number, where there is one.
-#[derive(Drop)]
+#[derive(Clone, Copy)]
 pub enum NumberedType {
     Numbered(FieldType),
     Nothing,

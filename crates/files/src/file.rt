@@ -3,7 +3,7 @@ ghost use Rattle.files.specs.Files.{Within};
 ghost use Rattle.std.specs.Prelude.{length};
 
 // What reading a file gives: how many bytes it has, or that it was not read.
-#[derive(Drop)]
+#[derive(Clone, Copy)]
 pub enum FileRead {
     Bytes(usize),
     Unread,

@@ -1,2 +1,3 @@
 // Files, read whole into lent space.
+#![tactic(auto)]
 pub mod file;

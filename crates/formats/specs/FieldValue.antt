@@ -12,7 +12,7 @@ use Rattle.field_types.specs.declared.field_type.Format.TheVariants.{SignedInteg
 use Rattle.ascii.specs.Notation.{◌≡ᵇ◌}
 use Rattle.formats.specs.Boolean.{is_boolean}
 use Rattle.numbers.specs.Number.{is_integer, is_decimal, is_day_of_month}
-use Rattle.unicode.specs.Characters.{characters}
+use Rattle.characters.specs.Characters.{characters}
 use Rattle.multi_values.specs.MultiValue.{is_multi_value_list}
 use Rattle.ascii.specs.Letters.{is_alpha_of_len}
 use Rattle.dates.specs.Date.{is_month_year, is_date, is_time_of_day, is_utc_timestamp}

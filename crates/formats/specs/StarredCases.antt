@@ -8,7 +8,7 @@ use Rattle.ascii.specs.Bytes.{ascii, non_empty, every, how_many}
 use Rattle.ascii.specs.Digits.{is_digits, is_digits_of_len, decimal_from}
 use Rattle.counts.specs.Count.{count_of}
 use Rattle.numbers.specs.Number.{is_signed, without_sign, is_integer, is_decimal_body, is_decimal, is_day_of_month}
-use Rattle.unicode.specs.Characters.{expected_after, continues, characters_from, characters}
+use Rattle.characters.specs.Characters.{expected_after, continues, characters_from, characters}
 use Rattle.ascii.specs.Split.{with_first, split, every_part}
 use Rattle.multi_values.specs.MultiValue.{is_token, is_multi_value_list}
 use Rattle.dates.specs.Date.{stands_for, has_picture, is_month_year}

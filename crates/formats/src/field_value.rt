@@ -12,7 +12,7 @@ use numbers::number::{is_day_of_month, is_decimal, is_integer};
 use strict_dates::strict_date::{
     is_strict_date, is_strict_month_year, is_strict_time_of_day, is_strict_utc_timestamp,
 };
-use unicode::characters::count_chars;
+use characters::characters::count_chars;
 
 // Returns true if `value` has this form.
 pub fn is_of_format(format: Format, value: &[u8]) -> bool

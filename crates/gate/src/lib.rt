@@ -1,4 +1,5 @@
 // The gate's calls for C and Rust, on numbers and lent words: one static library, `rt staticlib gate`. include/gate.h declares them.
+#![tactic(auto)]
 pub mod check_values;
 pub mod expand_type;
 pub mod level;

@@ -1,4 +1,5 @@
 // Prints the lists of the cases that cases.txt names: a dictionary file and a message file a line, with a space between them.
+#![tactic(auto)]
 use ascii::split::find;
 use files::file::{FileRead, read_file};
 use libc::STDOUT_FILENO;

@@ -11,14 +11,14 @@ use walk_steps::group_steps::{EntryStep, Turn, opening_at, row_count, step_at};
 use walk_steps::layout_input::first_group_of;
 
 // The first field behind a group, and the place behind the events' words.
-#[derive(Drop)]
+#[derive(Clone, Copy)]
 pub struct GroupEnd {
     pub next: usize,
     pub at: usize,
 }
 
 // The same for an entry, with its number of distinct direct members and whether one of them repeats.
-#[derive(Drop)]
+#[derive(Clone, Copy)]
 pub struct EntryEnd {
     pub next: usize,
     pub at: usize,

@@ -1,2 +1,3 @@
 // Whether lent words are a layout.
+#![tactic(auto)]
 pub mod layout_check;

@@ -12,7 +12,7 @@ use layout_text::level_line::{LevelLine, line_at};
 use layouts::layout_words::{narrow, wide};
 
 // How many members, required tags and groups there are.
-#[derive(Drop)]
+#[derive(Clone, Copy)]
 pub struct Parts {
     pub members: usize,
     pub required: usize,
@@ -20,14 +20,14 @@ pub struct Parts {
 }
 
 // The tag of a line of one kind.
-#[derive(Drop)]
+#[derive(Clone, Copy)]
 pub enum LineTag {
     Tag(u32),
     NoTag,
 }
 
 // How many tags stand in a row, and where the lines behind theirs begin.
-#[derive(Drop)]
+#[derive(Clone, Copy)]
 pub struct TakenTags {
     pub count: usize,
     pub next: usize,

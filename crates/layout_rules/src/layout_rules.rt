@@ -14,14 +14,14 @@ use layout_text::level_line::{LevelLine, line_at};
 use layouts::layout_words::{narrow, wide};
 
 // The first broken rule, and the count tag of its group: 0 for a rule of the top.
-#[derive(Drop)]
+#[derive(Clone, Copy)]
 pub enum FirstBroken {
     BrokenRule(u32, u32),
     Unbroken,
 }
 
 // A block that is open, and how many members and count tags the open levels around it have.
-#[derive(Drop)]
+#[derive(Clone, Copy)]
 pub struct OpenBlock {
     pub count: u32,
     pub delimiter: u32,

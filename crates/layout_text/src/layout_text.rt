@@ -15,7 +15,7 @@ pub const REQUIRED: u8 = 1;
 
 pub const NESTED: u8 = 2;
 
-#[derive(Drop)]
+#[derive(Clone, Copy)]
 pub struct LevelState {
     pub part: u8,
     // how many group blocks are open
@@ -25,7 +25,7 @@ pub struct LevelState {
 }
 
 // What a line does: its fault, or the state behind it.
-#[derive(Drop)]
+#[derive(Clone, Copy)]
 pub struct LevelStep {
     pub fault: Fault,
     pub next: LevelState,
@@ -150,7 +150,7 @@ pub fn take_level_line(state: LevelState, number: u64, line: Line) -> LevelStep
 }
 
 // What reading a layout text gives: how many lines it has, or its refusal.
-#[derive(Drop)]
+#[derive(Clone, Copy)]
 pub enum LayoutTextOutcome {
     Ordered(u64),
     Unordered(Refusal),

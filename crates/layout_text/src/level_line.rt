@@ -7,7 +7,7 @@ use lines::line_parts::Number32;
 use lines::lines::position_of;
 
 // A line of a layout text: what it adds to the innermost open level, opens or closes.
-#[derive(Drop)]
+#[derive(Clone, Copy)]
 pub enum LevelLine {
     // member=TAG
     MemberLine(u32),
@@ -22,7 +22,7 @@ pub enum LevelLine {
 }
 
 // A line, and where the next one begins.
-#[derive(Drop)]
+#[derive(Clone, Copy)]
 pub struct NextLine {
     pub line: LevelLine,
     pub next: usize,

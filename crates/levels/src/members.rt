@@ -11,7 +11,7 @@ use layouts::layout_words::{stretch_at, wide};
 use refusals::refusal::Refusal;
 
 // Where a path of count tags leads: to the level of that number, or to a refusal.
-#[derive(Drop)]
+#[derive(Clone, Copy)]
 pub enum LevelOutcome {
     Reached(usize),
     Refused(Refusal),

@@ -1,2 +1,3 @@
 // The forms of the lines of dictionary and layout texts.
+#![tactic(auto)]
 pub mod line;

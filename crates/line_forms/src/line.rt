@@ -8,7 +8,7 @@ use lines::line_parts::{
 };
 use lines::lines::{before, behind, is_same, starts_with};
 
-#[derive(Drop)]
+#[derive(Clone, Copy)]
 pub enum Line {
     // def=TAG,TYPE: the tag, and the place of TYPE among the names of FieldType
     Def(u32, u32),

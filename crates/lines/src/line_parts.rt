@@ -9,14 +9,14 @@ use crate::lines::{is_same, position_of};
 use counts::count::{Count, parse_count};
 
 // What stands for TAG, COUNT, DELIMITER or N.
-#[derive(Drop)]
+#[derive(Clone, Copy)]
 pub enum Number32 {
     Number(u32),
     NoNumber,
 }
 
 // What stands for R.
-#[derive(Drop)]
+#[derive(Clone, Copy)]
 pub enum Flag {
     Required,
     Optional,
@@ -24,21 +24,21 @@ pub enum Flag {
 }
 
 // What stands for TYPE: the place of its name among the names of FieldType (schema.rs), from 0.
-#[derive(Drop)]
+#[derive(Clone, Copy)]
 pub enum TypeName {
     TypeAt(u32),
     NoType,
 }
 
 // What stands for T: its letters or digits as the bytes of a number, the first highest, 0 behind the last.
-#[derive(Drop)]
+#[derive(Clone, Copy)]
 pub enum MessageType {
     Letters(u32),
     NoLetters,
 }
 
 // An admitted value V: how many bytes it has, and its bytes, four to a word, the first highest, 0 behind the last.
-#[derive(Drop)]
+#[derive(Clone, Copy)]
 pub struct Admitted {
     pub len: u32,
     pub word0: u32,
@@ -52,7 +52,7 @@ pub struct Admitted {
 }
 
 // What stands for V.
-#[derive(Drop)]
+#[derive(Clone, Copy)]
 pub enum ValueText {
     Bytes(Admitted),
     NoBytes,

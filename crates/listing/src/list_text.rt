@@ -8,7 +8,7 @@ use list_lines::list_lines::{put_event_line, put_refused_line, put_type_line, pu
 use refusals::refusal::Refusal;
 
 // What a list is made of: where the message's type stands in it, how many fields it has, and how many events were written.
-#[derive(Drop)]
+#[derive(Clone, Copy)]
 pub struct Shape {
     pub first: usize,
     pub past: usize,
@@ -17,7 +17,7 @@ pub struct Shape {
 }
 
 // What the calls of the gate gave: a list, or the first refusal.
-#[derive(Drop)]
+#[derive(Clone, Copy)]
 pub enum Listed {
     Full(Shape),
     Refused(Refusal),

@@ -10,14 +10,14 @@ use lines::lines::position_of;
 use refusals::refusal::Refusal;
 
 // What a line says: the tag of its field, and where its value begins in the line.
-#[derive(Drop)]
+#[derive(Clone, Copy)]
 pub enum FieldLine {
     Field(u32, usize),
     NoField,
 }
 
 // What reading a message text gives: how many fields it has, or its refusal.
-#[derive(Drop)]
+#[derive(Clone, Copy)]
 pub enum ReadMessage {
     Fields(usize),
     Refused(Refusal),

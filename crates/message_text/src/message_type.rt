@@ -3,7 +3,7 @@ ghost use Rattle.std.specs.Prelude.{◌≡◌};
 ghost use Rattle.message_text.specs.MessageType.{type_place_of};
 
 // Where a value stands in a message: the index of its first byte, and the one behind its last.
-#[derive(Drop)]
+#[derive(Clone, Copy)]
 pub struct Stretch {
     pub first: usize,
     pub past: usize,

@@ -5,7 +5,7 @@
 -- The Rust cuts the value at its spaces after `from_utf8_lossy`; here the bytes are cut at 20 (hexadecimal) and the characters of each
 -- token are counted by themselves. That is the same: 20 stands in no row of table 3-7 behind the first byte, so a space is inside no
 -- character of several bytes and inside no maximal invalid part. The replacement joins nothing across a space, makes no space and takes
--- none away, and what it makes of a token depends on the token's bytes alone. Proved: `characters-parted` (unicode,
+-- none away, and what it makes of a token depends on the token's bytes alone. Proved: `characters-parted` (characters,
 -- CharactersLaws.antt) of the numbers, `cut-before_or_behind` (MultiValueOrder.antt) of the answer.
 --
 --   TokenLen                        the code's enum: `Any`, or `Exactly len` characters
@@ -17,7 +17,7 @@ use Rattle.multi_values.specs.declared.multi_value.TokenLen.{TokenLen}
 use Rattle.multi_values.specs.declared.multi_value.TokenLen.TheVariants.{Any, Exactly}
 use Rattle.ascii.specs.Notation.{◌≡ᵇ◌}
 use Rattle.ascii.specs.Bytes.{non_empty}
-use Rattle.unicode.specs.Characters.{characters}
+use Rattle.characters.specs.Characters.{characters}
 use Rattle.ascii.specs.Split.{split, every_part}
 
 unfoldable pub is_token : TokenLen → List ℕ → Bool

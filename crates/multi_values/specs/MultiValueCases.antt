@@ -4,7 +4,7 @@ use Rattle.std.specs.Prelude.{◌≡◌, refl, true, false, [], ◌∷◌}
 use Rattle.multi_values.specs.declared.multi_value.TokenLen.TheVariants.{Any, Exactly}
 use Rattle.ascii.specs.Notation.{is_between}
 use Rattle.ascii.specs.Bytes.{ascii, non_empty}
-use Rattle.unicode.specs.Characters.{expected_after, continues, characters_from, characters}
+use Rattle.characters.specs.Characters.{expected_after, continues, characters_from, characters}
 use Rattle.ascii.specs.Split.{with_first, split, every_part}
 use Rattle.multi_values.specs.MultiValue.{is_token, is_multi_value_list}
 

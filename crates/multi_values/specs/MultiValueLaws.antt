@@ -5,7 +5,7 @@ use Rattle.std.proofs.Common.{◌∙◌, arith}
 use Rattle.multi_values.specs.declared.multi_value.TokenLen.{TokenLen}
 use Rattle.multi_values.specs.declared.multi_value.TokenLen.TheVariants.{Any, Exactly}
 use Rattle.ascii.specs.BytesLaws.{non_empty-none, non_empty-some, part_to_end}
-use Rattle.unicode.specs.Characters.{characters}
+use Rattle.characters.specs.Characters.{characters}
 use Rattle.ascii.specs.Split.{index_of, split, every_part}
 use Rattle.ascii.specs.SplitLaws.{found_within, every_part-last, every_part-goes_on, every_part-fails}
 use Rattle.multi_values.specs.MultiValue.{is_token, is_multi_value_list}

@@ -13,13 +13,13 @@ use Rattle.std.proofs.lemmas.Bool.{false≢true}
 use mathlib.Core.List.{List, [], ◌∷◌}
 use native.Mathlib.Omega.{arith}
 use borrow.Author.Tests.{eqb-true}
-use Rattle.unicode.specs.declared.characters.Expected.{Expected}
+use Rattle.characters.specs.declared.characters.Expected.{Expected}
 use Rattle.multi_values.specs.declared.multi_value.TokenLen.{TokenLen}
 use Rattle.multi_values.specs.declared.multi_value.TokenLen.TheVariants.{Any, Exactly}
 use Rattle.ascii.specs.Notation.{◌≡ᵇ◌}
 use Rattle.ascii.specs.Bytes.{non_empty}
-use Rattle.unicode.specs.Characters.{nothing_expected, expected_after, continues, next, leads_from, leads}
-use Rattle.unicode.specs.CharactersLaws.{
+use Rattle.characters.specs.Characters.{nothing_expected, expected_after, continues, next, leads_from, leads}
+use Rattle.characters.specs.CharactersLaws.{
   BehindAscii,
   expected_after-below,
   expected_after-behind,

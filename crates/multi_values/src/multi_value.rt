@@ -3,10 +3,10 @@ ghost use Rattle.std.specs.Prelude.{◌≡◌};
 ghost use Rattle.multi_values.specs.MultiValue.{is_token, is_multi_value_list};
 
 use ascii::split::find;
-use unicode::characters::count_chars;
+use characters::characters::count_chars;
 
 // How many characters each token has. The Rust's Option<usize>.
-#[derive(Drop)]
+#[derive(Clone, Copy)]
 pub enum TokenLen {
     Any,
     Exactly(usize),

@@ -1,2 +1,3 @@
 // Whole and decimal numbers, and days of a month. Ported from schema.rs.
+#![tactic(auto)]
 pub mod number;

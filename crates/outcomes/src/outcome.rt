@@ -5,7 +5,7 @@ ghost use Rattle.outcomes.specs.Outcome.{refused_with, answered_with};
 use refusals::refusal::{Refusal, number_of, place_of};
 
 #[repr(C)]
-#[derive(Drop)]
+#[derive(Clone, Copy)]
 pub struct Outcome {
     // document 01's number of the refusal; 0 for an answer
     pub refusal: u64,

@@ -15,7 +15,7 @@ use refusals::refusal::Refusal;
 use texts::dictionary_text::{Counts, TextOutcome};
 
 // What reading a dictionary text gives.
-#[derive(Drop)]
+#[derive(Clone, Copy)]
 pub enum Read {
     // how many words were written
     Written(usize),

@@ -19,7 +19,7 @@ use sorting::sort::sort_unstable;
 use texts::dictionary_text::{Counts, Defined, TextOutcome, check_dictionary_text, defined_by};
 
 // What reading the lines in order gives, and what was counted up to the end or to the line that is refused.
-#[derive(Drop)]
+#[derive(Clone, Copy)]
 pub struct LinesRead {
     pub outcome: TextOutcome,
     pub counts: Counts,

@@ -19,7 +19,7 @@ const MEMBERS: usize = 8192;
 const REQUIRED: usize = 2048;
 
 // What reading a layout text gives: how many words its layout takes, or its refusal.
-#[derive(Drop)]
+#[derive(Clone, Copy)]
 pub enum ReadLayout {
     Written(usize),
     Refused(Refusal),

@@ -1,3 +1,4 @@
 // A line of a dictionary text as a record of ten words, and how long its text is.
+#![tactic(auto)]
 pub mod line_texts;
 pub mod records;

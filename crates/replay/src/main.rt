@@ -1,5 +1,6 @@
 // Replays the answers of the Rust that oracle/record.sh recorded, and says how many cases ran and how
 // many differ.
+#![tactic(auto)]
 use libc::STDOUT_FILENO;
 use replay_lists::files::replay_file;
 use replay_lists::lists::List;

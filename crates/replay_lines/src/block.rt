@@ -9,7 +9,7 @@ use crate::recorded_numbers::{NO_FORM, read_words};
 
 // How many words or bytes there are of each kind; more than there is room for where their line is
 // of no known form.
-#[derive(Drop)]
+#[derive(Clone, Copy)]
 pub struct Block {
     pub dictionary: usize,
     pub layout: usize,

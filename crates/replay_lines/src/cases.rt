@@ -3,7 +3,7 @@ use libc::STDOUT_FILENO;
 use std::num::wrapping_add_u64;
 
 // How one case went; a line that only gives what cases run on is none.
-#[derive(Drop)]
+#[derive(Clone, Copy)]
 pub enum Replayed {
     NoCase,
     Same,
@@ -12,7 +12,7 @@ pub enum Replayed {
 }
 
 // How many cases ran, how many of them differ, and how many lines are of no known form.
-#[derive(Drop)]
+#[derive(Clone, Copy)]
 pub struct Tally {
     pub cases: u64,
     pub differ: u64,

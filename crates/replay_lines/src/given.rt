@@ -4,7 +4,7 @@ use ascii::split::find;
 use refusals::refusal::{Refusal, number_of, place_of};
 
 // What a call gave.
-#[derive(Drop)]
+#[derive(Clone, Copy)]
 pub enum Given {
     // A number and how many words were written. The number is the nodes of an expansion, the
     // position after a group; 0 of any other call.

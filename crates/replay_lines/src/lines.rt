@@ -6,7 +6,7 @@ use ascii::split::find;
 
 // Where a line stands in the buffer, without its line feed, and where the bytes that were read end;
 // it is not there after the last one.
-#[derive(Drop)]
+#[derive(Clone, Copy)]
 pub struct Line {
     pub first: usize,
     pub past: usize,

@@ -7,7 +7,7 @@ use replay_space::event_space::UNWRITTEN;
 use replay_space::word_space::UNWRITTEN_WORD;
 
 // The block that the lines so far give, and how their cases went.
-#[derive(Drop)]
+#[derive(Clone, Copy)]
 struct Progress {
     block: Block,
     tally: Tally,

@@ -8,7 +8,7 @@ use replay_walks::{message_cases, walk_cases};
 use replay_words::dictionary_line::read_dictionary_line;
 use replay_words::{dictionary_cases, expand_cases, layout_cases};
 
-#[derive(Drop)]
+#[derive(Clone, Copy)]
 pub enum List {
     Values,
     Counts,

@@ -11,7 +11,7 @@ use replay_lines::recorded_numbers::NO_FORM;
 
 // The size of the text so far, and where the line goes on; past the end of every line where a piece
 // is of no known form.
-#[derive(Drop)]
+#[derive(Clone, Copy)]
 struct Filled {
     size: usize,
     next: usize,

@@ -5,7 +5,7 @@ use validator::message_call::{WalkedMessage, walk_message};
 use verdicts::verdicts_call::{Judged, check_values};
 use walk::walk_call::{Walked, walk_group};
 
-#[derive(Drop)]
+#[derive(Clone, Copy)]
 pub enum Call {
     // the walk of the group with this count tag from the position on
     WalkGroup { position: usize, tag: u32 },

@@ -5,7 +5,7 @@ use read_dictionary::read_dictionary::{Read, read_dictionary};
 use read_layout::read_layout::{ReadLayout, read_layout};
 use replay_lines::given::Given;
 
-#[derive(Drop)]
+#[derive(Clone, Copy)]
 pub enum Call {
     ReadDictionary,
     ReadLayout,

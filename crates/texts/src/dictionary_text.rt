@@ -11,7 +11,7 @@ use lines::lines::position_of;
 use refusals::refusal::{Refusal, place_of};
 
 // What a line defines.
-#[derive(Drop)]
+#[derive(Clone, Copy)]
 pub enum Defined {
     Tag(u32),
     ComponentName(u32),
@@ -42,7 +42,7 @@ pub fn defined_by(line: Line) -> Defined
 }
 
 // How many lines a text has, and how many of them define a tag, a component, a message type.
-#[derive(Drop)]
+#[derive(Clone, Copy)]
 pub struct Counts {
     pub lines: u64,
     pub tags: u64,
@@ -83,7 +83,7 @@ fn count(counts: Counts, defined: Defined) -> Counts
 }
 
 // What reading a text gives: what it has, or its refusal.
-#[derive(Drop)]
+#[derive(Clone, Copy)]
 pub enum TextOutcome {
     Accepted(Counts),
     Refused(Refusal),
@@ -146,7 +146,7 @@ fn read_in_order(text: &[u8]) -> TextOutcome
 }
 
 // What a line defines as one number: a tag, a component or a message type.
-#[derive(Drop)]
+#[derive(Clone, Copy)]
 pub enum Key {
     Of(u64),
     NoKey,
@@ -177,7 +177,7 @@ fn is_in(keys: &[u64], key: u64) -> bool
 }
 
 // The first line that defines again what a line before it defines.
-#[derive(Drop)]
+#[derive(Clone, Copy)]
 pub enum Again {
     At(u64),
     Nowhere,

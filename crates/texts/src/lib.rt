@@ -1,2 +1,3 @@
 // The dictionary text: read in order, and what its lines define.
+#![tactic(auto)]
 pub mod dictionary_text;

@@ -20,7 +20,7 @@ use refusals::refusal::Refusal;
 use walk_steps::group_steps::row_count;
 
 // What the call answers.
-#[derive(Drop)]
+#[derive(Clone, Copy)]
 pub enum WalkedMessage {
     // How many words were written.
     Done { words: usize },

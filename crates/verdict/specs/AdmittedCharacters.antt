@@ -1,5 +1,5 @@
 -- A value compared with the admitted ones by its bytes, as `is_admitted` does, or by its characters after `from_utf8_lossy`, as the Rust does: the answer is the
--- same. Characters stand here by their first bytes, `leads` (unicode, Characters.antt): an ASCII character is its own first byte, that of any other is 80 or
+-- same. Characters stand here by their first bytes, `leads` (characters, Characters.antt): an ASCII character is its own first byte, that of any other is 80 or
 -- above, and so is what is left of a maximal invalid part. An admitted value has the bytes 21 to 7E alone (`is_visible`), so it is the text of the same characters
 -- exactly where these bytes are the first bytes of the text's characters. Assumes nothing.
 --
@@ -13,8 +13,8 @@ use Rattle.ascii.specs.NotationLaws.{and_left, and_right, is_between-range}
 use Rattle.ascii.specs.Bytes.{every}
 use Rattle.ascii.specs.Split.{Parts, last, part, split, every_part}
 use Rattle.field_types.specs.declared.field_type.FieldType.{FieldType}
-use Rattle.unicode.specs.Characters.{nothing_expected, expected_after, leads_from, leads}
-use Rattle.unicode.specs.CharactersLaws.{expected_after-below, continues-none, leads_from-begins}
+use Rattle.characters.specs.Characters.{nothing_expected, expected_after, leads_from, leads}
+use Rattle.characters.specs.CharactersLaws.{expected_after-below, continues-none, leads_from-begins}
 use Rattle.multi_values.specs.MultiValueOrder.{leads_of_parts, split-leads}
 use Rattle.lines.specs.Lines.{is_same}
 use Rattle.lines.specs.LineParts.{is_visible}

@@ -1,2 +1,3 @@
 // The verdict on one field.
+#![tactic(auto)]
 pub mod verdict;

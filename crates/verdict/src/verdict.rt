@@ -11,7 +11,7 @@ use field_types::field_type::{FieldType, NumberedType, type_numbered};
 use formats::field_value::{is_in_ranges, is_of_format};
 
 // What is said of a value. The Rust pushes an error for each but the first.
-#[derive(Drop)]
+#[derive(Clone, Copy)]
 pub enum Verdict {
     Good,
     // the Rust's UnknownTag

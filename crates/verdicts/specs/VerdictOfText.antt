@@ -8,7 +8,7 @@ use Rattle.ascii.specs.Bytes.{ascii, non_empty, every, how_many}
 use Rattle.ascii.specs.Digits.{is_digits, decimal_from}
 use Rattle.field_types.specs.FieldType.{type_numbered}
 use Rattle.formats.specs.FieldValue.{is_of_format}
-use Rattle.unicode.specs.Characters.{expected_after, continues, characters_from, characters}
+use Rattle.characters.specs.Characters.{expected_after, continues, characters_from, characters}
 use Rattle.line_forms.specs.declared.line.Line.{Line}
 use Rattle.line_forms.specs.LineForms.{def_of, begin_of, message_of, field_of, group_rest, group_of, use_of, end_of, block_line_of, definition_line_of, line_of}
 use Rattle.lines.specs.Lines.{position_of, starts_with, is_same, longer, cut, lines_of}

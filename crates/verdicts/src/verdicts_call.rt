@@ -12,7 +12,7 @@ use refusals::refusal::Refusal;
 use verdict::verdict::{Verdict, check_value, record_of, verdict_word};
 
 // What the call answers.
-#[derive(Drop)]
+#[derive(Clone, Copy)]
 pub enum Judged {
     // How many words were written, one a field.
     Done { words: usize },

@@ -19,7 +19,7 @@ use walk_steps::group_steps::row_count;
 use walk_steps::layout_input::top_group;
 
 // What the call answers.
-#[derive(Drop)]
+#[derive(Clone, Copy)]
 pub enum Walked {
     // The position of the first field behind the group, and how many words were written.
     Done { position: usize, words: usize },

@@ -13,7 +13,7 @@ use counts::count::Count;
 use field_table::field_table::tag_at;
 
 // What the field at a cursor is to an entry.
-#[derive(Drop)]
+#[derive(Clone, Copy)]
 pub enum EntryStep {
     // Not the entry's: the entry ends before it.
     Stop,
@@ -24,7 +24,7 @@ pub enum EntryStep {
 }
 
 // What the field at a cursor is to a group.
-#[derive(Drop)]
+#[derive(Clone, Copy)]
 pub enum Turn {
     // Not the group's: the group ends before it.
     Over,

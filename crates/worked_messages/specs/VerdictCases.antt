@@ -12,7 +12,7 @@ use Rattle.ascii.specs.Split.{with_first, split, every_part}
 use Rattle.dates.specs.Date.{stands_for, has_picture, is_month_year}
 use Rattle.strict_dates.specs.StrictDate.{is_in_range, is_strict_month_year}
 use Rattle.numbers.specs.Number.{is_signed, without_sign, is_integer, is_decimal_body, is_decimal}
-use Rattle.unicode.specs.Characters.{expected_after, continues, characters_from, characters}
+use Rattle.characters.specs.Characters.{expected_after, continues, characters_from, characters}
 use Rattle.multi_values.specs.MultiValue.{is_token, is_multi_value_list}
 use Rattle.field_types.specs.FieldType.{type_numbered}
 use Rattle.formats.specs.FieldValue.{is_of_format, is_in_ranges}

@@ -1,1 +1,2 @@
 // Small messages walked and judged by computation: specs/ alone, no function.
+#![tactic(auto)]

@@ -1,0 +1,15 @@
+-- `layout_rules::layout_rules::first_broken` meets its contract. The loop's invariant is `RulesSoFar`; every answer cites a law of
+-- specs/RulesLoop.antt.
+use mathlib.Core.Path.{sym, refl, ◌∙◌}
+use Prim.Native.Nat.{◌-◌}
+use native.Mathlib.Omega.{arith}
+use lib.ListN.{length, length-replicate}
+use Rattle.layout_rules.specs.RulesLoop.{RulesSoFar, rules-begin, rules-end, member-inside, rules-member, rules-required, block_room, rules-group, end-open, block_there, block_parts, rules-break, rules-close, no_other}
+use borrow.Author.Rules.{rules}
+use Rattle.layout_rules.proofs.layout_rules.first_broken.Given as goal
+
+abbrev pub invariant-loop-first : goal.invariant-loop-first
+invariant-loop-first l = RulesSoFar l.text l.members l.tags l.blocks l.first l.depth l.member_count l.tag_count
+
+abbrev pub decreases-loop-first : goal.decreases-loop-first
+decreases-loop-first l = length l.text - l.first

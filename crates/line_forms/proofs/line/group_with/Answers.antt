@@ -1,0 +1,10 @@
+-- `line_forms::line::group_with` meets its contract, a case at a time.
+use borrow.Author.Rules.{rules}
+use Rattle.line_forms.proofs.line.group_with.Goals as goal
+
+-- fn group_with(count: Number32, delimiter: Number32, flag: Flag) -> Line
+pub returns-in-Required : goal.returns-in-Required
+returns-in-Required c = rw (c.in-Number.is, c.in-Number-delimiter.is, c.in-Required.is)
+
+pub returns-in-Optional : goal.returns-in-Optional
+returns-in-Optional c = rw (c.in-Number.is, c.in-Number-delimiter.is, c.in-Optional.is)

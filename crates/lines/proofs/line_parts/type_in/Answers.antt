@@ -1,0 +1,25 @@
+-- `lines::line_parts::type_in` meets its contract: the names from `first` on, whose number is `number`, are what is left to look through (specs/LinePartsLaws.antt).
+use mathlib.Core.Path.{◌≡◌, refl, sym, ◌∙◌}
+use Prim.Native.Nat.{◌≤◌, ◌-◌}
+use native.Mathlib.Omega.{arith}
+use lib.ListN.{length, drop}
+use Rattle.lines.specs.Lines.{cut, comma}
+use Rattle.lines.specs.LineParts.{type_in}
+use Rattle.lines.specs.LinePartsLaws.{type-here, type-nowhere, type-further}
+use borrow.Author.Rules.{rules}
+use Rattle.lines.proofs.line_parts.type_in.Goals as goal
+
+-- loop {
+pub loop-number-init : goal.loop-number-init
+loop-number-init c = (omega arith, (omega arith, refl))
+
+-- return TypeName::TypeAt(number);
+pub returns-then-is_same : goal.returns-then-is_same
+returns-then-is_same c = sym (c.loop-number.invariant.1.1 ∙ type-here _ _ _ _ _ c.loop-number.invariant.1.0 c.position_of-past.ensures.place (sym c.is_same.ensures ∙ c.if-is_same.true))
+
+-- return TypeName::NoType;
+pub returns-then-past-names : goal.returns-then-past-names
+returns-then-past-names c = sym (c.loop-number.invariant.1.1 ∙ type-nowhere _ _ _ _ _ c.loop-number.invariant.1.0 c.position_of-past.ensures.place (sym c.is_same.ensures ∙ c.if-is_same.false) c.if-past-names.true)
+
+pub loop-number-preserved : goal.loop-number-preserved
+loop-number-preserved c = (omega arith, (omega arith, c.loop-number.invariant.1.1 ∙ type-further _ _ _ _ _ c.loop-number.invariant.1.0 c.position_of-past.ensures.place (sym c.is_same.ensures ∙ c.if-is_same.false) c.if-past-names.false))

@@ -1,2 +1,0 @@
-// Characters of values, counted as after the Rust's String::from_utf8_lossy.
-pub mod characters;
