@@ -13,14 +13,8 @@ returns-then-trace-len c = record {
 
 pub returns-then-builder-lt-MEMBERS : goal.returns-then-builder-lt-MEMBERS
 returns-then-builder-lt-MEMBERS c = record {
-      change = ((
-  adds_member _ _ _ c.ranges.tag.fits c.requires c.if-builder-lt-MEMBERS.true (omega (arith, c.if-trace-len.false)),
-  grown_grows _ _ (member-grows _ c.args.trace.now c.args.tag c.ranges.tag.fits c.requires c.if-builder-lt-MEMBERS.true),
-)).0;
-      grows = ((
-  adds_member _ _ _ c.ranges.tag.fits c.requires c.if-builder-lt-MEMBERS.true (omega (arith, c.if-trace-len.false)),
-  grown_grows _ _ (member-grows _ c.args.trace.now c.args.tag c.ranges.tag.fits c.requires c.if-builder-lt-MEMBERS.true),
-)).1;
+      change = adds_member _ _ _ c.ranges.tag.fits c.requires c.if-builder-lt-MEMBERS.true (omega (arith, c.if-trace-len.false));
+      grows = grown_grows _ _ (member-grows _ c.args.trace.now c.args.tag c.ranges.tag.fits c.requires c.if-builder-lt-MEMBERS.true);
     }
 
 -- pub fn add_member(trace: &mut [u64], builder: Builder, tag: u32) -> Added

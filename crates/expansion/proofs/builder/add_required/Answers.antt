@@ -13,14 +13,8 @@ returns-then-trace-len c = record {
 
 pub returns-then-builder-lt-REQUIRED : goal.returns-then-builder-lt-REQUIRED
 returns-then-builder-lt-REQUIRED c = record {
-      change = ((
-  adds_required _ _ _ c.ranges.tag.fits c.requires c.if-builder-lt-REQUIRED.true (omega (arith, c.if-trace-len.false)),
-  grown_grows _ _ (required-grows _ c.args.trace.now c.args.tag c.ranges.tag.fits c.requires c.if-builder-lt-REQUIRED.true),
-)).0;
-      grows = ((
-  adds_required _ _ _ c.ranges.tag.fits c.requires c.if-builder-lt-REQUIRED.true (omega (arith, c.if-trace-len.false)),
-  grown_grows _ _ (required-grows _ c.args.trace.now c.args.tag c.ranges.tag.fits c.requires c.if-builder-lt-REQUIRED.true),
-)).1;
+      change = adds_required _ _ _ c.ranges.tag.fits c.requires c.if-builder-lt-REQUIRED.true (omega (arith, c.if-trace-len.false));
+      grows = grown_grows _ _ (required-grows _ c.args.trace.now c.args.tag c.ranges.tag.fits c.requires c.if-builder-lt-REQUIRED.true);
     }
 
 -- pub fn add_required(trace: &mut [u64], builder: Builder, tag: u32) -> Added

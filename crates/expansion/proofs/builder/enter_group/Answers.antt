@@ -17,14 +17,8 @@ bounds-trace-len-then-builder-lt-MEMBERS c = omega (arith, length-set c.args.tra
 
 pub returns-then-builder-lt-MEMBERS : goal.returns-then-builder-lt-MEMBERS
 returns-then-builder-lt-MEMBERS c = record {
-      change = ((
-  enters _ _ _ _ _ c.entering-word.result c.ranges.delimiter.fits c.requires c.entering-word.ensures c.if-builder-lt-MEMBERS.true (omega (arith, c.if-trace-len.false)),
-  grown_grows _ _ (enter_grows _ c.args.trace.now c.args.count c.args.required c.args.delimiter c.entering-word.result c.ranges.delimiter.fits c.requires c.if-builder-lt-MEMBERS.true),
-)).0;
-      grows = ((
-  enters _ _ _ _ _ c.entering-word.result c.ranges.delimiter.fits c.requires c.entering-word.ensures c.if-builder-lt-MEMBERS.true (omega (arith, c.if-trace-len.false)),
-  grown_grows _ _ (enter_grows _ c.args.trace.now c.args.count c.args.required c.args.delimiter c.entering-word.result c.ranges.delimiter.fits c.requires c.if-builder-lt-MEMBERS.true),
-)).1;
+      change = enters _ _ _ _ _ c.entering-word.result c.ranges.delimiter.fits c.requires c.entering-word.ensures c.if-builder-lt-MEMBERS.true (omega (arith, c.if-trace-len.false));
+      grows = grown_grows _ _ (enter_grows _ c.args.trace.now c.args.count c.args.required c.args.delimiter c.entering-word.result c.ranges.delimiter.fits c.requires c.if-builder-lt-MEMBERS.true);
     }
 
 -- pub fn enter_group(

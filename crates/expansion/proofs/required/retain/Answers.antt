@@ -14,7 +14,7 @@ pub loop-index-init : goal.loop-index-init
 loop-index-init c = retain_begins _ _
 
 pub slice_bounds-is_dropped-end-in-loop-index : goal.slice_bounds-is_dropped-end-in-loop-index
-slice_bounds-is_dropped-end-in-loop-index c = sym (length-take-le c.loop-index.auto c.loop-index.required (omega (arith, c.loop-index.invariant.order, c.loop-index.invariant.within, c.loop-index.invariant.size)))
+slice_bounds-is_dropped-end-in-loop-index c = sym (length-take-le c.loop-index.kept c.loop-index.required (omega (arith, c.loop-index.invariant.order, c.loop-index.invariant.within, c.loop-index.invariant.size)))
 
 pub loop-index-preserved-then-not-is_dropped : goal.loop-index-preserved-then-not-is_dropped
 loop-index-preserved-then-not-is_dropped c = retain_keeps _ _ _ _ _ c.loop-index.invariant c.loop-index-test.true (sym c.is_dropped.ensures ∙ not-true _ c.if-not-is_dropped.true-raw)

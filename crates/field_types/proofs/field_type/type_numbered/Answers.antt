@@ -142,4 +142,4 @@ unfolding type_numbered
 returns-in-33 c = type_numbered-at 33 c.args.number (omega arith)
 
 pub returns-in_default : goal.returns-in_default
-returns-in_default c = type_numbered-behind _ c.in_default.rest
+returns-in_default c = type_numbered-behind _ c.in_default.in_default-own.rest

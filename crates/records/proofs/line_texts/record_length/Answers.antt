@@ -67,4 +67,4 @@ unfolding length_of
 returns-in-13 c = record { length = rw (known-end_number c.args.words.now c.requires.1 (omega arith)) (omega (arith, c.digit_count-in-13.ensures.count)) }
 
 pub returns-in_default : goal.returns-in_default
-returns-in_default c = record { length = other_unknown c.args.words.now c.requires.1 (line_from-other c.args.words.now c.in_default.rest) }
+returns-in_default c = record { length = other_unknown c.args.words.now c.requires.1 (line_from-other c.args.words.now c.in_default.in_default-own.rest) }

@@ -210,6 +210,6 @@ returns-in-33 c = record {
 
 pub returns-in_default : goal.returns-in_default
 returns-in_default c = record {
-      length = type_lengths-behind c.args.place c.in_default.rest;
+      length = type_lengths-behind c.args.place c.in_default.in_default-own.rest;
       few = omega arith;
     }

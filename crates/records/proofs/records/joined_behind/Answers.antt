@@ -16,4 +16,4 @@ pub returns-in-3 : goal.returns-in-3
 returns-in-3 c = let three : c.args.used ≡ 3 = omega arith in rw (three, c.pair_at-in-3.ensures.pair, c.pair_at.ensures.pair, c.pair_at-2.ensures.pair, c.pair_at-3.ensures.pair) (behind-three c.args.words.now c.requires.1 _ (behind-four c.args.words.now c.requires.1))
 
 pub returns-in_default : goal.returns-in_default
-returns-in_default c = let last : c.args.used ≡ 4 = omega (arith, c.requires.0.0, c.requires.0.1, c.in_default.rest.1, c.in_default.rest.0.1, c.in_default.rest.0.0.1) in rw (last, c.pair_at.ensures.pair, c.pair_at-2.ensures.pair, c.pair_at-3.ensures.pair) (behind-four c.args.words.now c.requires.1)
+returns-in_default c = let last : c.args.used ≡ 4 = omega (arith, c.requires.0.0, c.requires.0.1, c.in_default.in_default-own.rest.1, c.in_default.in_default-own.rest.0.1, c.in_default.in_default-own.rest.0.0.1) in rw (last, c.pair_at.ensures.pair, c.pair_at-2.ensures.pair, c.pair_at-3.ensures.pair) (behind-four c.args.words.now c.requires.1)

@@ -46,4 +46,4 @@ pub returns-in-13 : goal.returns-in-13
 returns-in-13 c = c.end_of_number.ensures ∙ line_from-kind c.args.words.now 13 (omega arith)
 
 pub returns-in_default : goal.returns-in_default
-returns-in_default c = line_from-other c.args.words.now c.in_default.rest
+returns-in_default c = line_from-other c.args.words.now c.in_default.in_default-own.rest
