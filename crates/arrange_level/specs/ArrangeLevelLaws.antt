@@ -177,7 +177,7 @@ pub record OwnRead (own : Own) (members : List ℕ) (member : ℕ) (required : L
   pub tags_are : tags_now ≡ sets tags 0 (count_tags own.starts)
   pub member_end : level.members ≡ member + length own.members
   pub need_end : level.required ≡ need + length own.required
-  pub group_end_is : level.groups ≡ length own.starts
+  pub group_end : level.groups ≡ length own.starts
   pub delimiter_is : level.delimiter ≡ own.delimiter
 
 sets_last : (words : List ℕ) (at : ℕ) (list : List ℕ) (word place : ℕ) → place ≡ at + length list → set (sets words at list) place word ≡ sets words at (list ++ (word ∷ []))
@@ -229,7 +229,7 @@ module _ (trace : List ℕ) (first : ℕ) (members₀ : List ℕ) (member₀ : �
         → level.groups ≡ group
         → level.delimiter ≡ own.delimiter
         → OwnRead (own_at trace first) members₀ member₀ required₀ need₀ tags₀ level members required tags
-    all_read own level same members-same required-same starts-same member_end need_end group_end_is delimiter_is =
+    all_read own level same members-same required-same starts-same member_end need_end group_end delimiter_is =
         rw same
         (record {
           members_are = so_far.members_are ∙ ap (sets members₀ member₀) (sym members-same);
@@ -237,7 +237,7 @@ module _ (trace : List ℕ) (first : ℕ) (members₀ : List ℕ) (member₀ : �
           tags_are = so_far.tags_are ∙ ap (λ (starts : List Start). sets tags₀ 0 (count_tags starts)) (sym starts-same);
           member_end = omega (arith, member_end, so_far.member_is, ap length members-same);
           need_end = omega (arith, need_end, so_far.need_is, ap length required-same);
-          group_end_is = omega (arith, group_end_is, so_far.group_is, ap length starts-same);
+          group_end = omega (arith, group_end, so_far.group_is, ap length starts-same);
           delimiter_is = delimiter_is;
         })
 
@@ -248,7 +248,7 @@ module _ (trace : List ℕ) (first : ℕ) (members₀ : List ℕ) (member₀ : �
         → level.groups ≡ group
         → level.delimiter ≡ 0
         → OwnRead (own_at trace first) members₀ member₀ required₀ need₀ tags₀ level members required tags
-    read-ends level over member_end need_end group_end_is none =
+    read-ends level over member_end need_end group_end none =
         all_read so_far.own level
         (so_far.same ∙ rw (drop_of_length-le trace {i = place} over) (told-ends place 0 so_far.own))
         refl
@@ -256,7 +256,7 @@ module _ (trace : List ℕ) (first : ℕ) (members₀ : List ℕ) (member₀ : �
         refl
         member_end
         need_end
-        group_end_is
+        group_end
         (none ∙ sym so_far.not_left)
 
     module _ (inside : place < length trace) where
@@ -340,7 +340,7 @@ module _ (trace : List ℕ) (first : ℕ) (members₀ : List ℕ) (member₀ : �
           → level.groups ≡ group
           → level.delimiter ≡ tag_in here
           → OwnRead (own_at trace first) members₀ member₀ required₀ need₀ tags₀ level members required tags
-      read_left level step member_end need_end group_end_is delimiter_is =
+      read_left level step member_end need_end group_end delimiter_is =
           all_read (own_left here so_far.own) level
           (step_same _ (told-left place here (drop (place + 1) trace) so_far.own step))
           refl
@@ -348,7 +348,7 @@ module _ (trace : List ℕ) (first : ℕ) (members₀ : List ℕ) (member₀ : �
           refl
           member_end
           need_end
-          group_end_is
+          group_end
           delimiter_is
 
       module _ (room : ReadRoom trace first members₀ member₀ required₀ need₀ tags₀) where

@@ -210,7 +210,7 @@ module _ (trace : List ℕ) (final : Frame) where
     pub rest : List ℕ
     pub there : drop next trace ≡ rest
     pub shorter : length rest < length words
-    pub going_on : run (left (told place 0 words own).delimiter (with_level (level_of trace turns (told place 0 words own)) frame) outer) rest ≡ final ∷ []
+    pub goes_on : run (left (told place 0 words own).delimiter (with_level (level_of trace turns (told place 0 words own)) frame) outer) rest ≡ final ∷ []
     pub passes : (depth : ℕ) (other : Own) → told place (suc depth) words other ≡ told next depth rest other
 
   abbrev Ends : ℕ → ℕ → Own → Frame → List Frame → List ℕ → Type 0
@@ -233,7 +233,7 @@ module _ (trace : List ℕ) (final : Frame) where
     rest = ends.rest;
     there = ends.there;
     shorter = omega (arith, ends.shorter);
-    going_on = rw (same, ← tag, ← needed) ends.goes_on;
+    goes_on = rw (same, ← tag, ← needed) ends.goes_on;
     passes = λ depth other. passing depth other ∙ ends.passes depth other;
   }
 
@@ -269,7 +269,7 @@ module _ (trace : List ℕ) (final : Frame) where
         rest = words;
         there = behind;
         shorter = omega arith;
-        going_on = rw (told-left place word words own step) goes;
+        goes_on = rw (told-left place word words own step) goes;
         passes = λ depth other. passed-left place word words other depth step;
       }
 

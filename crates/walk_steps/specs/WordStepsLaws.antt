@@ -114,7 +114,7 @@ step-says true at_start delimits (found.At there) here inner = taken-says at_sta
 
 -- a field that is taken: its tag, and the tag's rank
 pub record FieldHere (words fields message : List ℕ) (group start cursor rank tag : ℕ) : Type 0 where
-  pub going_on : entry_stops (input_of words fields message) (eqb cursor start) group cursor ≡ false
+  pub goes_on : entry_stops (input_of words fields message) (eqb cursor start) group cursor ≡ false
   pub tag_is : tag ≡ tag_of fields cursor
   pub ranked : rank_in (level_members words (1 + group)) tag ≡ found.At rank
 
@@ -140,13 +140,13 @@ module _ (words fields message : List ℕ) (group start cursor : ℕ) where
         → FieldHere words fields message group start cursor rank tag × (group_of words (1 + group) (tag_of fields cursor) ≡ none)
     entry-plain rank tag is =
         let facts = says.plain rank tag (sym steps ∙ is) in
-        (record { going_on = entry_stops-is (eqb cursor start) ∙ facts.0; tag_is = facts.2; ranked = rw facts.2 facts.1 }, facts.3)
+        (record { goes_on = entry_stops-is (eqb cursor start) ∙ facts.0; tag_is = facts.2; ranked = rw facts.2 facts.1 }, facts.3)
 
     pub entry-nested : (rank tag number : ℕ) → step ≡ Nested rank tag number
         → FieldHere words fields message group start cursor rank tag × (group_of words (1 + group) (tag_of fields cursor) ≡ some number)
     entry-nested rank tag number is =
         let facts = says.nested rank tag number (sym steps ∙ is) in
-        (record { going_on = entry_stops-is (eqb cursor start) ∙ facts.0; tag_is = facts.2; ranked = rw facts.2 facts.1 }, facts.3)
+        (record { goes_on = entry_stops-is (eqb cursor start) ∙ facts.0; tag_is = facts.2; ranked = rw facts.2 facts.1 }, facts.3)
 
 -- ---- the end of a group by its declared count
 
