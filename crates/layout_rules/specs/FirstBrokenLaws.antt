@@ -101,6 +101,7 @@ pub data Nested (group : Group) : List Group → Type 0 where
   nested_inside : {first : Group} {others : List Group} → Nested group (groups_of (entry first)) → Nested group (first ∷ others)
 
 nested-left : (group : Group) (these those : List Group) → Nested group these → Nested group (these ++ those)
+nested-left group [] those stands = elim stands [ ]
 nested-left group (first ∷ these) those (nested_here same) = nested_here same
 nested-left group (first ∷ these) those (nested_later stands) = nested_later (nested-left group these those stands)
 nested-left group (first ∷ these) those (nested_inside stands) = nested_inside stands
@@ -111,6 +112,8 @@ nested-right group (first ∷ these) those stands = nested_later (nested-right g
 
 nested-order : (group : Group) (count : ℕ) (waiting : List Group) → group_total waiting ≡ count → Nested group waiting → Memᴰ group (level_order count waiting)
 unfolding level_order
+nested-order group zero [] all stands = elim stands [ ]
+nested-order group (suc count) [] all stands = elim stands [ ]
 nested-order group zero (first ∷ waiting) all stands = absurd (omega (arith, group_total-first first waiting))
 nested-order group (suc count) (first ∷ waiting) all (nested_here same) = Memᴰ.head same
 nested-order group (suc count) (first ∷ waiting) all (nested_later stands) =

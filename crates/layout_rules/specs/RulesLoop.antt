@@ -235,7 +235,9 @@ module _ (text members tags words : List ℕ) (first depth member_count tag_coun
         members_held = so_far.members_held ∙ sym (held-opened so_far.level so_far.blocks count delimiter flag);
         tags_held = so_far.tags_held ∙ sym (held-tags_opened so_far.level so_far.blocks count delimiter flag);
         hold =
-            rw stored
+            subst
+            (λ now. BlocksHold now (block_of count delimiter flag so_far.level ∷ so_far.blocks))
+            (sym stored)
             (blocks-opened words depth count delimiter member_count tag_count room_of_block.0 so_far.level so_far.blocks flag so_far.deep held-count held-tag_count so_far.hold);
         rest = so_far.rest ∙ broken-group so_far.level so_far.blocks (lines_at text first) (lines_at text next) count delimiter flag (after (GroupLine count delimiter flag) is);
       }

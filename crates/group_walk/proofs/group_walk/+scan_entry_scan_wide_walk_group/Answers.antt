@@ -10,10 +10,11 @@ use Rattle.events.specs.EventSpaceLaws.{wrote-length}
 use Rattle.field_table.specs.FieldTable.{row_count}
 use Rattle.walk_steps.specs.WalkWordsLaws.{level-searches, level-ascends, level-length, members-few_here}
 use Rattle.walk_steps.specs.WordStepsLaws.{level-step, level-turn, entry-stops, entry-plain, entry-nested, turn-over, turn-entry, turn-lead}
-use Rattle.group_walk.specs.WalkLoops.{EntryWritten, entry-starts, field_inside, rank_low, repeat_room, entry-adds_plain, inner-valid, nested-moves, entry-adds_nested, entry-stopped, GroupWritten, group-starts, entry-opens, lead-opens, one-opens, group-ended, walk_outside, walk_too_deep, begun-room}
+use Rattle.group_walk.specs.WalkLoops.{EntryWritten, entry-starts, field_inside, rank_low, repeat_room, entry-adds_plain, inner-valid, nested-moves, entry-adds_nested, entry-stopped, GroupWritten, group-starts, entry-opens, lead-opens, EntryOpened, one-opens, group-ended, walk_outside, walk_too_deep, begun-room}
 use borrow.Author.Rules.{rules}
 use Prim.Native.Nat.{ℕ, ◌<◌}
 use Rattle.group_walk.proofs.group_walk.+scan_entry_scan_wide_walk_group.Goals as goal
+use Rattle.group_walk.proofs.group_walk.+scan_entry_scan_wide_walk_group.Goals.{walk_group-in-Entry, walk_group-in-Lead}
 
 -- let tag = count_tag_at(words, group);
 pub scan_entry-count_tag_at-tag-requires : goal.scan_entry-count_tag_at-tag-requires
@@ -305,11 +306,29 @@ walk_group-put_event-to-requires t c = omega (arith, c.loop-member.invariant.roo
 
 -- let entry = scan_entry(fields, message, words, group, cursor, depth, events, to);
 pub walk_group-scan_entry-entry-requires : goal.walk_group-scan_entry-entry-requires
-walk_group-scan_entry-entry-requires t c = ?
+walk_group-scan_entry-entry-requires t c =     let opened : EntryOpened c.args.words.now c.args.fields.now c.args.message.now c.args.enclosing.now c.args.group c.args.index c.args.depth c.put_start-to.new.events c.put_start-to.result c.count_tag_at-tag.result c.loop-member.cursor c.loop-member.entries c.match-opening_at.events c.match-opening_at.to c.match-opening_at.unparseable =
+      elim c.match-opening_at.branch [
+        walk_group-in-Entry w ↦ let begins = turn-entry c.args.words.now c.args.fields.now c.args.message.now c.args.enclosing.now c.args.group c.count_at-declared.result c.loop-member.entries c.loop-member.cursor _ (level-turn c.args.words.now c.args.group _ _ c.members_at-members.ensures c.delimiter_at-delimiter.ensures c.args.fields.now c.args.enclosing.now c.count_at-declared.result c.loop-member.entries c.loop-member.cursor _ c.opening_at.ensures) w.in-Entry.is in entry-opens c.args.words.now c.args.fields.now c.args.message.now c.args.enclosing.now c.requires.lent.passed c.args.group c.requires.lent.valid c.args.index c.args.depth _ _ (omega (arith, c.row_count.ensures, c.if-row_count-index.false)) c.if-depth-gt32.false c.count_at-declared.result c.count_at-declared.ensures _ c.count_tag_at-tag.ensures _ _ c.loop-member.cursor c.loop-member.entries c.loop-member.unparseable c.loop-member.invariant begins.0 begins.1 _ w.events-is _ w.to-is _ w.unparseable-is
+        | walk_group-in-Lead w ↦ let leads = turn-lead c.args.words.now c.args.fields.now c.args.message.now c.args.enclosing.now c.args.group c.count_at-declared.result c.loop-member.entries c.loop-member.cursor _ (level-turn c.args.words.now c.args.group _ _ c.members_at-members.ensures c.delimiter_at-delimiter.ensures c.args.fields.now c.args.enclosing.now c.count_at-declared.result c.loop-member.entries c.loop-member.cursor _ c.opening_at.ensures) _ w.in-Lead.is in lead-opens c.args.words.now c.args.fields.now c.args.message.now c.args.enclosing.now c.requires.lent.passed c.args.group c.requires.lent.valid c.args.index c.args.depth _ _ (omega (arith, c.row_count.ensures, c.if-row_count-index.false)) c.if-depth-gt32.false c.count_at-declared.result c.count_at-declared.ensures _ c.count_tag_at-tag.ensures _ _ c.loop-member.cursor c.loop-member.entries c.loop-member.unparseable c.loop-member.invariant leads.0 leads.1 _ leads.2 _ _ w.put_event-to.ensures _ w.events-is _ w.to-is _ w.unparseable-is
+      ] in (
+      omega (arith, c.decreases, opened.inside, c.loop-member.invariant.ahead),
+      record {
+        lent = c.requires.lent;
+        few_members_lem = omega (arith, (level-length c.args.words.now (1 + c.args.group) _ c.members_at-members.ensures), c.if-members-le256.true);
+        taken = opened.taken;
+        inside = opened.inside;
+        shallow = c.if-depth-gt32.false;
+        room = opened.room;
+      },
+    )
 
 -- to = put_event(events, entry.at, tag, depth, close);
 pub walk_group-put_event-to-requires-then-members-le256 : goal.walk_group-put_event-to-requires-then-members-le256
-walk_group-put_event-to-requires-then-members-le256 t c = let opened = one-opens c.args.words.now c.args.fields.now c.args.message.now c.args.enclosing.now c.requires.lent.passed c.args.group c.requires.lent.valid c.args.index c.args.depth _ _ (omega (arith, c.row_count.ensures, c.if-row_count-index.false)) c.if-depth-gt32.false c.count_at-declared.result c.count_at-declared.ensures _ c.count_tag_at-tag.ensures _ _ c.loop-member.cursor c.loop-member.entries c.loop-member.unparseable c.loop-member.invariant c.match-opening_at.events c.match-opening_at.to c.match-opening_at.unparseable (λ way. let begins = turn-entry c.args.words.now c.args.fields.now c.args.message.now c.args.enclosing.now c.args.group c.count_at-declared.result c.loop-member.entries c.loop-member.cursor _ (level-turn c.args.words.now c.args.group _ _ c.members_at-members.ensures c.delimiter_at-delimiter.ensures c.args.fields.now c.args.enclosing.now c.count_at-declared.result c.loop-member.entries c.loop-member.cursor _ c.opening_at.ensures) way.1.given.1 in entry-opens c.args.words.now c.args.fields.now c.args.message.now c.args.enclosing.now c.requires.lent.passed c.args.group c.requires.lent.valid c.args.index c.args.depth _ _ (omega (arith, c.row_count.ensures, c.if-row_count-index.false)) c.if-depth-gt32.false c.count_at-declared.result c.count_at-declared.ensures _ c.count_tag_at-tag.ensures _ _ c.loop-member.cursor c.loop-member.entries c.loop-member.unparseable c.loop-member.invariant begins.0 begins.1 _ way.2 _ way.3 _ way.4) (λ way. let leads = turn-lead c.args.words.now c.args.fields.now c.args.message.now c.args.enclosing.now c.args.group c.count_at-declared.result c.loop-member.entries c.loop-member.cursor _ (level-turn c.args.words.now c.args.group _ _ c.members_at-members.ensures c.delimiter_at-delimiter.ensures c.args.fields.now c.args.enclosing.now c.count_at-declared.result c.loop-member.entries c.loop-member.cursor _ c.opening_at.ensures) _ way.1.given.1 in lead-opens c.args.words.now c.args.fields.now c.args.message.now c.args.enclosing.now c.requires.lent.passed c.args.group c.requires.lent.valid c.args.index c.args.depth _ _ (omega (arith, c.row_count.ensures, c.if-row_count-index.false)) c.if-depth-gt32.false c.count_at-declared.result c.count_at-declared.ensures _ c.count_tag_at-tag.ensures _ _ c.loop-member.cursor c.loop-member.entries c.loop-member.unparseable c.loop-member.invariant leads.0 leads.1 _ leads.2 _ _ way.4.ensures _ way.7 _ way.8 _ way.9) c.match-opening_at.branch in omega (arith, c.scan_entry-entry.ensures.few, c.scan_entry-entry.ensures.within, opened.room, c.requires.lent.table.few)
+walk_group-put_event-to-requires-then-members-le256 t c = let opened : EntryOpened c.args.words.now c.args.fields.now c.args.message.now c.args.enclosing.now c.args.group c.args.index c.args.depth c.put_start-to.new.events c.put_start-to.result c.count_tag_at-tag.result c.loop-member.cursor c.loop-member.entries c.match-opening_at.events c.match-opening_at.to c.match-opening_at.unparseable =
+      elim c.match-opening_at.branch [
+        walk_group-in-Entry w ↦ let begins = turn-entry c.args.words.now c.args.fields.now c.args.message.now c.args.enclosing.now c.args.group c.count_at-declared.result c.loop-member.entries c.loop-member.cursor _ (level-turn c.args.words.now c.args.group _ _ c.members_at-members.ensures c.delimiter_at-delimiter.ensures c.args.fields.now c.args.enclosing.now c.count_at-declared.result c.loop-member.entries c.loop-member.cursor _ c.opening_at.ensures) w.in-Entry.is in entry-opens c.args.words.now c.args.fields.now c.args.message.now c.args.enclosing.now c.requires.lent.passed c.args.group c.requires.lent.valid c.args.index c.args.depth _ _ (omega (arith, c.row_count.ensures, c.if-row_count-index.false)) c.if-depth-gt32.false c.count_at-declared.result c.count_at-declared.ensures _ c.count_tag_at-tag.ensures _ _ c.loop-member.cursor c.loop-member.entries c.loop-member.unparseable c.loop-member.invariant begins.0 begins.1 _ w.events-is _ w.to-is _ w.unparseable-is
+        | walk_group-in-Lead w ↦ let leads = turn-lead c.args.words.now c.args.fields.now c.args.message.now c.args.enclosing.now c.args.group c.count_at-declared.result c.loop-member.entries c.loop-member.cursor _ (level-turn c.args.words.now c.args.group _ _ c.members_at-members.ensures c.delimiter_at-delimiter.ensures c.args.fields.now c.args.enclosing.now c.count_at-declared.result c.loop-member.entries c.loop-member.cursor _ c.opening_at.ensures) _ w.in-Lead.is in lead-opens c.args.words.now c.args.fields.now c.args.message.now c.args.enclosing.now c.requires.lent.passed c.args.group c.requires.lent.valid c.args.index c.args.depth _ _ (omega (arith, c.row_count.ensures, c.if-row_count-index.false)) c.if-depth-gt32.false c.count_at-declared.result c.count_at-declared.ensures _ c.count_tag_at-tag.ensures _ _ c.loop-member.cursor c.loop-member.entries c.loop-member.unparseable c.loop-member.invariant leads.0 leads.1 _ leads.2 _ _ w.put_event-to.ensures _ w.events-is _ w.to-is _ w.unparseable-is
+      ] in omega (arith, c.scan_entry-entry.ensures.few, c.scan_entry-entry.ensures.within, opened.room, c.requires.lent.table.few)
 
 -- entries += 1;
 pub walk_group-overflow_add-entries : goal.walk_group-overflow_add-entries
@@ -320,11 +339,19 @@ pub walk_group-loop-member-smaller-then-members-le256 : goal.walk_group-loop-mem
 walk_group-loop-member-smaller-then-members-le256 t c = omega (arith, c.scan_entry-entry.ensures.moves, c.scan_entry-entry.ensures.within)
 
 pub walk_group-loop-member-preserved-then-members-le256 : goal.walk_group-loop-member-preserved-then-members-le256
-walk_group-loop-member-preserved-then-members-le256 t c = let opened = one-opens c.args.words.now c.args.fields.now c.args.message.now c.args.enclosing.now c.requires.lent.passed c.args.group c.requires.lent.valid c.args.index c.args.depth _ _ (omega (arith, c.row_count.ensures, c.if-row_count-index.false)) c.if-depth-gt32.false c.count_at-declared.result c.count_at-declared.ensures _ c.count_tag_at-tag.ensures _ _ c.loop-member.cursor c.loop-member.entries c.loop-member.unparseable c.loop-member.invariant c.match-opening_at.events c.match-opening_at.to c.match-opening_at.unparseable (λ way. let begins = turn-entry c.args.words.now c.args.fields.now c.args.message.now c.args.enclosing.now c.args.group c.count_at-declared.result c.loop-member.entries c.loop-member.cursor _ (level-turn c.args.words.now c.args.group _ _ c.members_at-members.ensures c.delimiter_at-delimiter.ensures c.args.fields.now c.args.enclosing.now c.count_at-declared.result c.loop-member.entries c.loop-member.cursor _ c.opening_at.ensures) way.1.given.1 in entry-opens c.args.words.now c.args.fields.now c.args.message.now c.args.enclosing.now c.requires.lent.passed c.args.group c.requires.lent.valid c.args.index c.args.depth _ _ (omega (arith, c.row_count.ensures, c.if-row_count-index.false)) c.if-depth-gt32.false c.count_at-declared.result c.count_at-declared.ensures _ c.count_tag_at-tag.ensures _ _ c.loop-member.cursor c.loop-member.entries c.loop-member.unparseable c.loop-member.invariant begins.0 begins.1 _ way.2 _ way.3 _ way.4) (λ way. let leads = turn-lead c.args.words.now c.args.fields.now c.args.message.now c.args.enclosing.now c.args.group c.count_at-declared.result c.loop-member.entries c.loop-member.cursor _ (level-turn c.args.words.now c.args.group _ _ c.members_at-members.ensures c.delimiter_at-delimiter.ensures c.args.fields.now c.args.enclosing.now c.count_at-declared.result c.loop-member.entries c.loop-member.cursor _ c.opening_at.ensures) _ way.1.given.1 in lead-opens c.args.words.now c.args.fields.now c.args.message.now c.args.enclosing.now c.requires.lent.passed c.args.group c.requires.lent.valid c.args.index c.args.depth _ _ (omega (arith, c.row_count.ensures, c.if-row_count-index.false)) c.if-depth-gt32.false c.count_at-declared.result c.count_at-declared.ensures _ c.count_tag_at-tag.ensures _ _ c.loop-member.cursor c.loop-member.entries c.loop-member.unparseable c.loop-member.invariant leads.0 leads.1 _ leads.2 _ _ way.4.ensures _ way.7 _ way.8 _ way.9) c.match-opening_at.branch in opened.adds _ _ _ _ _ c.scan_entry-entry.ensures _ _ c.put_event-to-then-members-le256.ensures _ c.either-unparseable.ensures
+walk_group-loop-member-preserved-then-members-le256 t c = let opened : EntryOpened c.args.words.now c.args.fields.now c.args.message.now c.args.enclosing.now c.args.group c.args.index c.args.depth c.put_start-to.new.events c.put_start-to.result c.count_tag_at-tag.result c.loop-member.cursor c.loop-member.entries c.match-opening_at.events c.match-opening_at.to c.match-opening_at.unparseable =
+      elim c.match-opening_at.branch [
+        walk_group-in-Entry w ↦ let begins = turn-entry c.args.words.now c.args.fields.now c.args.message.now c.args.enclosing.now c.args.group c.count_at-declared.result c.loop-member.entries c.loop-member.cursor _ (level-turn c.args.words.now c.args.group _ _ c.members_at-members.ensures c.delimiter_at-delimiter.ensures c.args.fields.now c.args.enclosing.now c.count_at-declared.result c.loop-member.entries c.loop-member.cursor _ c.opening_at.ensures) w.in-Entry.is in entry-opens c.args.words.now c.args.fields.now c.args.message.now c.args.enclosing.now c.requires.lent.passed c.args.group c.requires.lent.valid c.args.index c.args.depth _ _ (omega (arith, c.row_count.ensures, c.if-row_count-index.false)) c.if-depth-gt32.false c.count_at-declared.result c.count_at-declared.ensures _ c.count_tag_at-tag.ensures _ _ c.loop-member.cursor c.loop-member.entries c.loop-member.unparseable c.loop-member.invariant begins.0 begins.1 _ w.events-is _ w.to-is _ w.unparseable-is
+        | walk_group-in-Lead w ↦ let leads = turn-lead c.args.words.now c.args.fields.now c.args.message.now c.args.enclosing.now c.args.group c.count_at-declared.result c.loop-member.entries c.loop-member.cursor _ (level-turn c.args.words.now c.args.group _ _ c.members_at-members.ensures c.delimiter_at-delimiter.ensures c.args.fields.now c.args.enclosing.now c.count_at-declared.result c.loop-member.entries c.loop-member.cursor _ c.opening_at.ensures) _ w.in-Lead.is in lead-opens c.args.words.now c.args.fields.now c.args.message.now c.args.enclosing.now c.requires.lent.passed c.args.group c.requires.lent.valid c.args.index c.args.depth _ _ (omega (arith, c.row_count.ensures, c.if-row_count-index.false)) c.if-depth-gt32.false c.count_at-declared.result c.count_at-declared.ensures _ c.count_tag_at-tag.ensures _ _ c.loop-member.cursor c.loop-member.entries c.loop-member.unparseable c.loop-member.invariant leads.0 leads.1 _ leads.2 _ _ w.put_event-to.ensures _ w.events-is _ w.to-is _ w.unparseable-is
+      ] in opened.adds _ _ _ _ _ c.scan_entry-entry.ensures _ _ c.put_event-to-then-members-le256.ensures _ c.either-unparseable.ensures
 
 -- let entry = scan_wide(fields, message, words, group, cursor, depth, events, to);
 pub walk_group-scan_wide-entry-requires : goal.walk_group-scan_wide-entry-requires
-walk_group-scan_wide-entry-requires t c =     let opened = one-opens c.args.words.now c.args.fields.now c.args.message.now c.args.enclosing.now c.requires.lent.passed c.args.group c.requires.lent.valid c.args.index c.args.depth _ _ (omega (arith, c.row_count.ensures, c.if-row_count-index.false)) c.if-depth-gt32.false c.count_at-declared.result c.count_at-declared.ensures _ c.count_tag_at-tag.ensures _ _ c.loop-member.cursor c.loop-member.entries c.loop-member.unparseable c.loop-member.invariant c.match-opening_at.events c.match-opening_at.to c.match-opening_at.unparseable (λ way. let begins = turn-entry c.args.words.now c.args.fields.now c.args.message.now c.args.enclosing.now c.args.group c.count_at-declared.result c.loop-member.entries c.loop-member.cursor _ (level-turn c.args.words.now c.args.group _ _ c.members_at-members.ensures c.delimiter_at-delimiter.ensures c.args.fields.now c.args.enclosing.now c.count_at-declared.result c.loop-member.entries c.loop-member.cursor _ c.opening_at.ensures) way.1.given.1 in entry-opens c.args.words.now c.args.fields.now c.args.message.now c.args.enclosing.now c.requires.lent.passed c.args.group c.requires.lent.valid c.args.index c.args.depth _ _ (omega (arith, c.row_count.ensures, c.if-row_count-index.false)) c.if-depth-gt32.false c.count_at-declared.result c.count_at-declared.ensures _ c.count_tag_at-tag.ensures _ _ c.loop-member.cursor c.loop-member.entries c.loop-member.unparseable c.loop-member.invariant begins.0 begins.1 _ way.2 _ way.3 _ way.4) (λ way. let leads = turn-lead c.args.words.now c.args.fields.now c.args.message.now c.args.enclosing.now c.args.group c.count_at-declared.result c.loop-member.entries c.loop-member.cursor _ (level-turn c.args.words.now c.args.group _ _ c.members_at-members.ensures c.delimiter_at-delimiter.ensures c.args.fields.now c.args.enclosing.now c.count_at-declared.result c.loop-member.entries c.loop-member.cursor _ c.opening_at.ensures) _ way.1.given.1 in lead-opens c.args.words.now c.args.fields.now c.args.message.now c.args.enclosing.now c.requires.lent.passed c.args.group c.requires.lent.valid c.args.index c.args.depth _ _ (omega (arith, c.row_count.ensures, c.if-row_count-index.false)) c.if-depth-gt32.false c.count_at-declared.result c.count_at-declared.ensures _ c.count_tag_at-tag.ensures _ _ c.loop-member.cursor c.loop-member.entries c.loop-member.unparseable c.loop-member.invariant leads.0 leads.1 _ leads.2 _ _ way.4.ensures _ way.7 _ way.8 _ way.9) c.match-opening_at.branch in (
+walk_group-scan_wide-entry-requires t c =     let opened : EntryOpened c.args.words.now c.args.fields.now c.args.message.now c.args.enclosing.now c.args.group c.args.index c.args.depth c.put_start-to.new.events c.put_start-to.result c.count_tag_at-tag.result c.loop-member.cursor c.loop-member.entries c.match-opening_at.events c.match-opening_at.to c.match-opening_at.unparseable =
+      elim c.match-opening_at.branch [
+        walk_group-in-Entry w ↦ let begins = turn-entry c.args.words.now c.args.fields.now c.args.message.now c.args.enclosing.now c.args.group c.count_at-declared.result c.loop-member.entries c.loop-member.cursor _ (level-turn c.args.words.now c.args.group _ _ c.members_at-members.ensures c.delimiter_at-delimiter.ensures c.args.fields.now c.args.enclosing.now c.count_at-declared.result c.loop-member.entries c.loop-member.cursor _ c.opening_at.ensures) w.in-Entry.is in entry-opens c.args.words.now c.args.fields.now c.args.message.now c.args.enclosing.now c.requires.lent.passed c.args.group c.requires.lent.valid c.args.index c.args.depth _ _ (omega (arith, c.row_count.ensures, c.if-row_count-index.false)) c.if-depth-gt32.false c.count_at-declared.result c.count_at-declared.ensures _ c.count_tag_at-tag.ensures _ _ c.loop-member.cursor c.loop-member.entries c.loop-member.unparseable c.loop-member.invariant begins.0 begins.1 _ w.events-is _ w.to-is _ w.unparseable-is
+        | walk_group-in-Lead w ↦ let leads = turn-lead c.args.words.now c.args.fields.now c.args.message.now c.args.enclosing.now c.args.group c.count_at-declared.result c.loop-member.entries c.loop-member.cursor _ (level-turn c.args.words.now c.args.group _ _ c.members_at-members.ensures c.delimiter_at-delimiter.ensures c.args.fields.now c.args.enclosing.now c.count_at-declared.result c.loop-member.entries c.loop-member.cursor _ c.opening_at.ensures) _ w.in-Lead.is in lead-opens c.args.words.now c.args.fields.now c.args.message.now c.args.enclosing.now c.requires.lent.passed c.args.group c.requires.lent.valid c.args.index c.args.depth _ _ (omega (arith, c.row_count.ensures, c.if-row_count-index.false)) c.if-depth-gt32.false c.count_at-declared.result c.count_at-declared.ensures _ c.count_tag_at-tag.ensures _ _ c.loop-member.cursor c.loop-member.entries c.loop-member.unparseable c.loop-member.invariant leads.0 leads.1 _ leads.2 _ _ w.put_event-to.ensures _ w.events-is _ w.to-is _ w.unparseable-is
+      ] in (
       omega (arith, c.decreases, opened.inside, c.loop-member.invariant.ahead),
       record {
         lent = c.requires.lent;
@@ -338,7 +365,11 @@ walk_group-scan_wide-entry-requires t c =     let opened = one-opens c.args.word
 
 -- to = put_event(events, entry.at, tag, depth, close);
 pub walk_group-put_event-to-requires-else-members-le256 : goal.walk_group-put_event-to-requires-else-members-le256
-walk_group-put_event-to-requires-else-members-le256 t c = let opened = one-opens c.args.words.now c.args.fields.now c.args.message.now c.args.enclosing.now c.requires.lent.passed c.args.group c.requires.lent.valid c.args.index c.args.depth _ _ (omega (arith, c.row_count.ensures, c.if-row_count-index.false)) c.if-depth-gt32.false c.count_at-declared.result c.count_at-declared.ensures _ c.count_tag_at-tag.ensures _ _ c.loop-member.cursor c.loop-member.entries c.loop-member.unparseable c.loop-member.invariant c.match-opening_at.events c.match-opening_at.to c.match-opening_at.unparseable (λ way. let begins = turn-entry c.args.words.now c.args.fields.now c.args.message.now c.args.enclosing.now c.args.group c.count_at-declared.result c.loop-member.entries c.loop-member.cursor _ (level-turn c.args.words.now c.args.group _ _ c.members_at-members.ensures c.delimiter_at-delimiter.ensures c.args.fields.now c.args.enclosing.now c.count_at-declared.result c.loop-member.entries c.loop-member.cursor _ c.opening_at.ensures) way.1.given.1 in entry-opens c.args.words.now c.args.fields.now c.args.message.now c.args.enclosing.now c.requires.lent.passed c.args.group c.requires.lent.valid c.args.index c.args.depth _ _ (omega (arith, c.row_count.ensures, c.if-row_count-index.false)) c.if-depth-gt32.false c.count_at-declared.result c.count_at-declared.ensures _ c.count_tag_at-tag.ensures _ _ c.loop-member.cursor c.loop-member.entries c.loop-member.unparseable c.loop-member.invariant begins.0 begins.1 _ way.2 _ way.3 _ way.4) (λ way. let leads = turn-lead c.args.words.now c.args.fields.now c.args.message.now c.args.enclosing.now c.args.group c.count_at-declared.result c.loop-member.entries c.loop-member.cursor _ (level-turn c.args.words.now c.args.group _ _ c.members_at-members.ensures c.delimiter_at-delimiter.ensures c.args.fields.now c.args.enclosing.now c.count_at-declared.result c.loop-member.entries c.loop-member.cursor _ c.opening_at.ensures) _ way.1.given.1 in lead-opens c.args.words.now c.args.fields.now c.args.message.now c.args.enclosing.now c.requires.lent.passed c.args.group c.requires.lent.valid c.args.index c.args.depth _ _ (omega (arith, c.row_count.ensures, c.if-row_count-index.false)) c.if-depth-gt32.false c.count_at-declared.result c.count_at-declared.ensures _ c.count_tag_at-tag.ensures _ _ c.loop-member.cursor c.loop-member.entries c.loop-member.unparseable c.loop-member.invariant leads.0 leads.1 _ leads.2 _ _ way.4.ensures _ way.7 _ way.8 _ way.9) c.match-opening_at.branch in omega (arith, c.scan_wide-entry.ensures.few, c.scan_wide-entry.ensures.within, opened.room, c.requires.lent.table.few)
+walk_group-put_event-to-requires-else-members-le256 t c = let opened : EntryOpened c.args.words.now c.args.fields.now c.args.message.now c.args.enclosing.now c.args.group c.args.index c.args.depth c.put_start-to.new.events c.put_start-to.result c.count_tag_at-tag.result c.loop-member.cursor c.loop-member.entries c.match-opening_at.events c.match-opening_at.to c.match-opening_at.unparseable =
+      elim c.match-opening_at.branch [
+        walk_group-in-Entry w ↦ let begins = turn-entry c.args.words.now c.args.fields.now c.args.message.now c.args.enclosing.now c.args.group c.count_at-declared.result c.loop-member.entries c.loop-member.cursor _ (level-turn c.args.words.now c.args.group _ _ c.members_at-members.ensures c.delimiter_at-delimiter.ensures c.args.fields.now c.args.enclosing.now c.count_at-declared.result c.loop-member.entries c.loop-member.cursor _ c.opening_at.ensures) w.in-Entry.is in entry-opens c.args.words.now c.args.fields.now c.args.message.now c.args.enclosing.now c.requires.lent.passed c.args.group c.requires.lent.valid c.args.index c.args.depth _ _ (omega (arith, c.row_count.ensures, c.if-row_count-index.false)) c.if-depth-gt32.false c.count_at-declared.result c.count_at-declared.ensures _ c.count_tag_at-tag.ensures _ _ c.loop-member.cursor c.loop-member.entries c.loop-member.unparseable c.loop-member.invariant begins.0 begins.1 _ w.events-is _ w.to-is _ w.unparseable-is
+        | walk_group-in-Lead w ↦ let leads = turn-lead c.args.words.now c.args.fields.now c.args.message.now c.args.enclosing.now c.args.group c.count_at-declared.result c.loop-member.entries c.loop-member.cursor _ (level-turn c.args.words.now c.args.group _ _ c.members_at-members.ensures c.delimiter_at-delimiter.ensures c.args.fields.now c.args.enclosing.now c.count_at-declared.result c.loop-member.entries c.loop-member.cursor _ c.opening_at.ensures) _ w.in-Lead.is in lead-opens c.args.words.now c.args.fields.now c.args.message.now c.args.enclosing.now c.requires.lent.passed c.args.group c.requires.lent.valid c.args.index c.args.depth _ _ (omega (arith, c.row_count.ensures, c.if-row_count-index.false)) c.if-depth-gt32.false c.count_at-declared.result c.count_at-declared.ensures _ c.count_tag_at-tag.ensures _ _ c.loop-member.cursor c.loop-member.entries c.loop-member.unparseable c.loop-member.invariant leads.0 leads.1 _ leads.2 _ _ w.put_event-to.ensures _ w.events-is _ w.to-is _ w.unparseable-is
+      ] in omega (arith, c.scan_wide-entry.ensures.few, c.scan_wide-entry.ensures.within, opened.room, c.requires.lent.table.few)
 
 -- entries += 1;
 pub walk_group-overflow_add-entries-else-members-le256 : goal.walk_group-overflow_add-entries-else-members-le256
@@ -349,7 +380,11 @@ pub walk_group-loop-member-smaller : goal.walk_group-loop-member-smaller
 walk_group-loop-member-smaller t c = omega (arith, c.scan_wide-entry.ensures.moves, c.scan_wide-entry.ensures.within)
 
 pub walk_group-loop-member-preserved : goal.walk_group-loop-member-preserved
-walk_group-loop-member-preserved t c = let opened = one-opens c.args.words.now c.args.fields.now c.args.message.now c.args.enclosing.now c.requires.lent.passed c.args.group c.requires.lent.valid c.args.index c.args.depth _ _ (omega (arith, c.row_count.ensures, c.if-row_count-index.false)) c.if-depth-gt32.false c.count_at-declared.result c.count_at-declared.ensures _ c.count_tag_at-tag.ensures _ _ c.loop-member.cursor c.loop-member.entries c.loop-member.unparseable c.loop-member.invariant c.match-opening_at.events c.match-opening_at.to c.match-opening_at.unparseable (λ way. let begins = turn-entry c.args.words.now c.args.fields.now c.args.message.now c.args.enclosing.now c.args.group c.count_at-declared.result c.loop-member.entries c.loop-member.cursor _ (level-turn c.args.words.now c.args.group _ _ c.members_at-members.ensures c.delimiter_at-delimiter.ensures c.args.fields.now c.args.enclosing.now c.count_at-declared.result c.loop-member.entries c.loop-member.cursor _ c.opening_at.ensures) way.1.given.1 in entry-opens c.args.words.now c.args.fields.now c.args.message.now c.args.enclosing.now c.requires.lent.passed c.args.group c.requires.lent.valid c.args.index c.args.depth _ _ (omega (arith, c.row_count.ensures, c.if-row_count-index.false)) c.if-depth-gt32.false c.count_at-declared.result c.count_at-declared.ensures _ c.count_tag_at-tag.ensures _ _ c.loop-member.cursor c.loop-member.entries c.loop-member.unparseable c.loop-member.invariant begins.0 begins.1 _ way.2 _ way.3 _ way.4) (λ way. let leads = turn-lead c.args.words.now c.args.fields.now c.args.message.now c.args.enclosing.now c.args.group c.count_at-declared.result c.loop-member.entries c.loop-member.cursor _ (level-turn c.args.words.now c.args.group _ _ c.members_at-members.ensures c.delimiter_at-delimiter.ensures c.args.fields.now c.args.enclosing.now c.count_at-declared.result c.loop-member.entries c.loop-member.cursor _ c.opening_at.ensures) _ way.1.given.1 in lead-opens c.args.words.now c.args.fields.now c.args.message.now c.args.enclosing.now c.requires.lent.passed c.args.group c.requires.lent.valid c.args.index c.args.depth _ _ (omega (arith, c.row_count.ensures, c.if-row_count-index.false)) c.if-depth-gt32.false c.count_at-declared.result c.count_at-declared.ensures _ c.count_tag_at-tag.ensures _ _ c.loop-member.cursor c.loop-member.entries c.loop-member.unparseable c.loop-member.invariant leads.0 leads.1 _ leads.2 _ _ way.4.ensures _ way.7 _ way.8 _ way.9) c.match-opening_at.branch in opened.adds _ _ _ _ _ c.scan_wide-entry.ensures _ _ c.put_event-to-else-members-le256.ensures _ c.either-unparseable-else-members-le256.ensures
+walk_group-loop-member-preserved t c = let opened : EntryOpened c.args.words.now c.args.fields.now c.args.message.now c.args.enclosing.now c.args.group c.args.index c.args.depth c.put_start-to.new.events c.put_start-to.result c.count_tag_at-tag.result c.loop-member.cursor c.loop-member.entries c.match-opening_at.events c.match-opening_at.to c.match-opening_at.unparseable =
+      elim c.match-opening_at.branch [
+        walk_group-in-Entry w ↦ let begins = turn-entry c.args.words.now c.args.fields.now c.args.message.now c.args.enclosing.now c.args.group c.count_at-declared.result c.loop-member.entries c.loop-member.cursor _ (level-turn c.args.words.now c.args.group _ _ c.members_at-members.ensures c.delimiter_at-delimiter.ensures c.args.fields.now c.args.enclosing.now c.count_at-declared.result c.loop-member.entries c.loop-member.cursor _ c.opening_at.ensures) w.in-Entry.is in entry-opens c.args.words.now c.args.fields.now c.args.message.now c.args.enclosing.now c.requires.lent.passed c.args.group c.requires.lent.valid c.args.index c.args.depth _ _ (omega (arith, c.row_count.ensures, c.if-row_count-index.false)) c.if-depth-gt32.false c.count_at-declared.result c.count_at-declared.ensures _ c.count_tag_at-tag.ensures _ _ c.loop-member.cursor c.loop-member.entries c.loop-member.unparseable c.loop-member.invariant begins.0 begins.1 _ w.events-is _ w.to-is _ w.unparseable-is
+        | walk_group-in-Lead w ↦ let leads = turn-lead c.args.words.now c.args.fields.now c.args.message.now c.args.enclosing.now c.args.group c.count_at-declared.result c.loop-member.entries c.loop-member.cursor _ (level-turn c.args.words.now c.args.group _ _ c.members_at-members.ensures c.delimiter_at-delimiter.ensures c.args.fields.now c.args.enclosing.now c.count_at-declared.result c.loop-member.entries c.loop-member.cursor _ c.opening_at.ensures) _ w.in-Lead.is in lead-opens c.args.words.now c.args.fields.now c.args.message.now c.args.enclosing.now c.requires.lent.passed c.args.group c.requires.lent.valid c.args.index c.args.depth _ _ (omega (arith, c.row_count.ensures, c.if-row_count-index.false)) c.if-depth-gt32.false c.count_at-declared.result c.count_at-declared.ensures _ c.count_tag_at-tag.ensures _ _ c.loop-member.cursor c.loop-member.entries c.loop-member.unparseable c.loop-member.invariant leads.0 leads.1 _ leads.2 _ _ w.put_event-to.ensures _ w.events-is _ w.to-is _ w.unparseable-is
+      ] in opened.adds _ _ _ _ _ c.scan_wide-entry.ensures _ _ c.put_event-to-else-members-le256.ensures _ c.either-unparseable-else-members-le256.ensures
 
 -- let past = put_end(events, to, tag, depth, declared, unparseable, entries);
 pub walk_group-put_end-past-requires : goal.walk_group-put_end-past-requires
