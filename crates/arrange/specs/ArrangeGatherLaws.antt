@@ -1183,33 +1183,51 @@ module _ (trace : List ℕ) where
       ∙ sym (listed-grouped (firsts_of (sorted_groups groups))) in
       omega (arith, ap group_total same, total-listed (listed (grouped (firsts_of (sorted_groups groups)))), finished_groups one groups, total-listed groups)
 
-  total-within : (turns place : ℕ) (starts : List Start)
+  total_none : (place : ℕ) (starts : List Start)
       → AllBehind place starts
-      → length trace ≤ turns + place
+      → length trace ≤ place
       → group_total (groups_told trace starts) ≤ length starts + weight_all counts_group trace starts
   unfolding AllBehind group_total
-  total-within zero place [] behind enough = omega arith
-  total-within zero place (start ∷ rest) behind enough =
+  total_none place [] behind enough = omega arith
+  total_none place (start ∷ rest) behind enough =
       let own-none : own_at trace start.first ≡ nothing_own = own-past trace start.first (omega (arith, enough, behind.0)) in
       omega (
         arith,
-        total-within 0 place rest behind.1 enough,
+        total_none place rest behind.1 enough,
         groups_with-total (group_at trace start),
         entry-total start,
         ap (λ (own : Own). group_total (groups_told trace own.starts)) own-none,
         weight_all-first counts_group trace start rest,
       )
-  total-within (suc turns) place [] behind enough = omega arith
-  total-within (suc turns) place (start ∷ rest) behind enough =
+
+  total_more : (turns : ℕ)
+      → ((place : ℕ) (starts : List Start)
+        → AllBehind place starts
+        → length trace ≤ turns + place
+        → group_total (groups_told trace starts) ≤ length starts + weight_all counts_group trace starts)
+      → (place : ℕ) (starts : List Start)
+      → AllBehind place starts
+      → length trace ≤ suc turns + place
+      → group_total (groups_told trace starts) ≤ length starts + weight_all counts_group trace starts
+  unfolding AllBehind group_total
+  total_more turns below place [] behind enough = omega arith
+  total_more turns below place (start ∷ rest) behind enough =
       omega (
         arith,
-        total-within (suc turns) place rest behind.1 enough,
+        total_more turns below place rest behind.1 enough,
         groups_with-total (group_at trace start),
         entry-total start,
-        total-within turns start.first (own_at trace start.first).starts (own_behind trace start.first) (omega (arith, enough, behind.0)),
+        below start.first (own_at trace start.first).starts (own_behind trace start.first) (omega (arith, enough, behind.0)),
         groups-weight trace start,
         weight_all-first counts_group trace start rest,
       )
+
+  total-within : (turns place : ℕ) (starts : List Start)
+      → AllBehind place starts
+      → length trace ≤ turns + place
+      → group_total (groups_told trace starts) ≤ length starts + weight_all counts_group trace starts
+  total-within zero place starts behind enough = total_none place starts behind (omega (arith, enough))
+  total-within (suc turns) place starts behind enough = total_more turns (total-within turns) place starts behind enough
 
   pub level_count-within : level_count trace ≤ 1 + counted counts_group trace
   level_count-within =

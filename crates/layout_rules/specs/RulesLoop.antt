@@ -4,7 +4,7 @@
 --   RulesSoFar text members tags words first depth member_count tag_count   `depth` blocks are open, and the rows hold so many members and tags
 use Rattle.std.specs.Prelude.{◌≡◌, ℕ, zero, suc, ◌+◌, ◌*◌, ◌-◌, ◌≤◌, ◌<◌, Bool, List, [], ◌∷◌, ◌++◌, length, get_or, set, take, drop}
 use Rattle.std.proofs.Math.Path.{refl}
-use Rattle.std.proofs.Common.{sym, ap, ◌∙◌, append-nil, arith, length-append, length-set, length-take-le}
+use Rattle.std.proofs.Common.{sym, subst, ap, ◌∙◌, append-nil, arith, length-append, length-set, length-take-le}
 use Rattle.std.proofs.lemmas.List.Edits.{sets}
 use Rattle.std.proofs.Math.Seq.{length-sets, take-length}
 use Rattle.layouts.specs.Layout.{Level, group_of_lem, members_of, count_tags_of}

@@ -4,7 +4,7 @@ use mathlib.Core.Path.{sym, refl, ◌∙◌}
 use Prim.Native.Nat.{◌-◌}
 use native.Mathlib.Omega.{arith}
 use lib.ListN.{length, length-replicate}
-use Rattle.layout_rules.specs.RulesLoop.{RulesSoFar, rules-begin, rules-end, member-inside, rules-member, rules-required, block_room, rules-group, end-open, block_there, block_parts, rules-break, rules-close, no_other}
+use Rattle.layout_rules.specs.RulesLoop.{RulesSoFar, rules-begin, rules-end, member-inside, rules-member, rules-required, room_of_block, rules-group, end-open, block_there, block_parts, rules-break, rules-close, no_other}
 use borrow.Author.Rules.{rules}
 use Rattle.layout_rules.proofs.layout_rules.first_broken.Goals as goal
 
@@ -26,7 +26,7 @@ pub loop-first-preserved-in-RequiredLine : goal.loop-first-preserved-in-Required
 loop-first-preserved-in-RequiredLine c = rules-required _ _ _ _ _ _ _ _ c.loop-first.invariant c.line_at-found.result.line c.line_at-found.result.next c.line_at-found.ensures.line c.line_at-found.ensures.bounds _ c.in-RequiredLine.is
 
 pub open_block-requires : goal.open_block-requires
-open_block-requires c = block_room _ _ _ _ _ _ _ _ c.loop-first.invariant c.line_at-found.result.line c.line_at-found.result.next c.line_at-found.ensures.line c.line_at-found.ensures.bounds _ _ _ c.in-GroupLine.is
+open_block-requires c = room_of_block _ _ _ _ _ _ _ _ c.loop-first.invariant c.line_at-found.result.line c.line_at-found.result.next c.line_at-found.ensures.line c.line_at-found.ensures.bounds _ _ _ c.in-GroupLine.is
 
 pub loop-first-preserved-in-GroupLine : goal.loop-first-preserved-in-GroupLine
 loop-first-preserved-in-GroupLine c = rules-group _ _ _ _ _ _ _ _ c.loop-first.invariant c.line_at-found.result.line c.line_at-found.result.next c.line_at-found.ensures.line c.line_at-found.ensures.bounds _ _ _ c.in-GroupLine.is _ c.open_block.ensures

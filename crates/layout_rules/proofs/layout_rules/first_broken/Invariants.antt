@@ -4,7 +4,7 @@ use mathlib.Core.Path.{sym, refl, ◌∙◌}
 use Prim.Native.Nat.{◌-◌}
 use native.Mathlib.Omega.{arith}
 use lib.ListN.{length, length-replicate}
-use Rattle.layout_rules.specs.RulesLoop.{RulesSoFar, rules-begin, rules-end, member-inside, rules-member, rules-required, block_room, rules-group, end-open, block_there, block_parts, rules-break, rules-close, no_other}
+use Rattle.layout_rules.specs.RulesLoop.{RulesSoFar, rules-begin, rules-end, member-inside, rules-member, rules-required, room_of_block, rules-group, end-open, block_there, block_parts, rules-break, rules-close, no_other}
 use borrow.Author.Rules.{rules}
 use Rattle.layout_rules.proofs.layout_rules.first_broken.Given as goal
 
