@@ -1,7 +1,7 @@
 -- Laws of `DictionaryCheck.antt`: its loops, turn by turn, and its tests, one by one. Assumes nothing.
 use Rattle.std.specs.Prelude.{◌≡◌, refl, Bool, cond, ◌&&◌, List, [], ◌∷◌, leb, eqb, length, get_or, take}
 use Rattle.std.proofs.Math.Path.{sym}
-use Rattle.std.proofs.Common.{◌∙◌, add-one, length-take, length-drop, drop-cons, get_or-drop}
+use Rattle.std.proofs.Common.{subst, ◌∙◌, add-one, length-take, length-drop, drop-cons, get_or-drop}
 use Prim.Native.Nat.{ℕ, zero, suc, ◌+◌, ◌*◌, ◌-◌, ◌≤◌, ◌<◌}
 use Rattle.std.proofs.Math.Bool.{true, false}
 use Rattle.std.proofs.lemmas.Bool.{false≢true}
@@ -178,7 +178,7 @@ module _ (words : List ℕ) (lines : ℕ) (state : State) (bytes done at : ℕ) 
           record {
             within = omega arith;
             place = omega (arith, so_far.place);
-            few_open = rw behind (step-depth state (done + 1) so_far.few_open line);
+            few_open = subst (λ (standing : State). standing.depth ≤ 40) (sym behind) (step-depth state (done + 1) so_far.few_open line);
             few_bytes = omega (arith, so_far.few_bytes);
             short = longer fits;
             rest = so_far.rest ∙ rw (next-line, taken-same, taken, ← behind, over, drop-drop (10 * run-lines) (at + 10) words, number, left, place);

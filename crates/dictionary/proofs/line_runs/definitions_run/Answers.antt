@@ -8,6 +8,7 @@ use borrow.Author.Tests.{not-false}
 use Rattle.dictionary.specs.LineRunsLaws.{run_none, DefinitionsSoFar, definitions-begin, one-byte_goes_on, short-value_goes_on, def_goes_on, definitions-end, definitions-few}
 use borrow.Author.Rules.{rules}
 use Rattle.dictionary.proofs.line_runs.definitions_run.Goals as goal
+use Rattle.dictionary.proofs.line_runs.definitions_run.Goals.{then-head-eq-ONE_BYTE+else-not-is_one_byte, else-head-eq-ONE_BYTE+then-head-eq1+else-next-ge34, else-head-eq-ONE_BYTE+else-head-eq1+else-not-is_short_value}
 
 -- while lines < count {
 pub loop-lines-init : goal.loop-lines-init
@@ -73,10 +74,18 @@ pub loop-lines-smaller : goal.loop-lines-smaller
 loop-lines-smaller c = omega (arith, c.loop-lines-test.true)
 
 pub loop-lines-preserved : goal.loop-lines-preserved
-loop-lines-preserved c = ⊎_elim (λ one. one-byte_goes_on _ _ _ _ _ _ _ _ _ _ _ c.loop-lines.invariant c.loop-lines-test.true omega (arith, c.loop-lines.invariant.place, c.requires) _ _ _ c.pair_at-pair4.ensures.pair c.pair_at-pair6.ensures.pair c.pair_at-pair8.ensures.pair _ _ c.pair_at-head.ensures.halves c.pair_at-next.ensures.halves _ _ _ one.0.taken (one.1.ensures (not-false _ one.2.left)) one.3 one.4 one.5) (⊎_elim (λ def. def_goes_on _ _ _ _ _ _ _ _ _ _ _ c.loop-lines.invariant c.loop-lines-test.true omega (arith, c.loop-lines.invariant.place, c.requires) _ _ _ c.pair_at-pair4.ensures.pair c.pair_at-pair6.ensures.pair c.pair_at-pair8.ensures.pair _ _ c.pair_at-head.ensures.halves c.pair_at-next.ensures.halves _ _ _ def.1.taken def.2.left _ def.3.ensures.0 def.3.ensures.1 def.4 def.5 def.6) (λ value. short-value_goes_on _ _ _ _ _ _ _ _ _ _ _ c.loop-lines.invariant c.loop-lines-test.true omega (arith, c.loop-lines.invariant.place, c.requires) _ _ _ c.pair_at-pair4.ensures.pair c.pair_at-pair6.ensures.pair c.pair_at-pair8.ensures.pair _ _ c.pair_at-head.ensures.halves c.pair_at-next.ensures.halves _ _ _ (value.2.ensures (not-false _ value.3.left)) value.4 value.5 value.6)) c.if-head-eq-ONE_BYTE.branch
+loop-lines-preserved c =
+    elim c.if-head-eq-ONE_BYTE.branch [
+      then-head-eq-ONE_BYTE+else-not-is_one_byte w ↦ one-byte_goes_on _ _ _ _ _ _ _ _ _ _ _ c.loop-lines.invariant c.loop-lines-test.true omega (arith, c.loop-lines.invariant.place, c.requires) _ _ _ c.pair_at-pair4.ensures.pair c.pair_at-pair6.ensures.pair c.pair_at-pair8.ensures.pair _ _ c.pair_at-head.ensures.halves c.pair_at-next.ensures.halves _ _ _ w.if-head-eq-ONE_BYTE.true (w.is_one_byte.ensures w.if-not-is_one_byte.false) w.bytes-is w.tags-is w.names-is
+      | else-head-eq-ONE_BYTE+then-head-eq1+else-next-ge34 w ↦ def_goes_on _ _ _ _ _ _ _ _ _ _ _ c.loop-lines.invariant c.loop-lines-test.true omega (arith, c.loop-lines.invariant.place, c.requires) _ _ _ c.pair_at-pair4.ensures.pair c.pair_at-pair6.ensures.pair c.pair_at-pair8.ensures.pair _ _ c.pair_at-head.ensures.halves c.pair_at-next.ensures.halves _ _ _ w.if-head-eq1.true w.if-next-ge34.false _ w.type_length-bytes.ensures.length w.type_length-bytes.ensures.few w.bytes-is w.tags-is w.names-is
+      | else-head-eq-ONE_BYTE+else-head-eq1+else-not-is_short_value w ↦ short-value_goes_on _ _ _ _ _ _ _ _ _ _ _ c.loop-lines.invariant c.loop-lines-test.true omega (arith, c.loop-lines.invariant.place, c.requires) _ _ _ c.pair_at-pair4.ensures.pair c.pair_at-pair6.ensures.pair c.pair_at-pair8.ensures.pair _ _ c.pair_at-head.ensures.halves c.pair_at-next.ensures.halves _ _ _ (w.is_short_value.ensures w.if-not-is_short_value.false) w.bytes-is w.tags-is w.names-is
+    ]
 
 pub returns-then-pair4-pair6-ne0 : goal.returns-then-pair4-pair6-ne0
-returns-then-pair4-pair6-ne0 c = record { run = rw c.no_clean_run.ensures (run_none true 0 (drop c.args.first c.args.words.now), (omega arith, (omega arith, omega arith))); few = rw c.no_clean_run.ensures (run_none true 0 (drop c.args.first c.args.words.now), (omega arith, (omega arith, omega arith))); }
+returns-then-pair4-pair6-ne0 c = record {
+      run = rw c.no_clean_run.ensures (run_none true 0 (drop c.args.first c.args.words.now));
+      few = rw c.no_clean_run.ensures ((omega arith, (omega arith, omega arith)));
+    }
 
 -- bytes: bytes + 8 * (lines - tags) + tags * (6 + digits),
 pub overflow_sub-result : goal.overflow_sub-result

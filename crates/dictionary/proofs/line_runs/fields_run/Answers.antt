@@ -59,7 +59,10 @@ pub loop-lines-preserved : goal.loop-lines-preserved
 loop-lines-preserved c = field_goes_on _ _ _ _ _ _ _ _ _ _ c.loop-lines.invariant c.loop-lines-test.true omega (arith, c.loop-lines.invariant.place, c.requires) _ _ _ c.pair_at-pair4.ensures.pair c.pair_at-pair6.ensures.pair c.pair_at-pair8.ensures.pair _ _ c.pair_at-head.ensures.halves c.pair_at-flags.ensures.halves c.if-head-ne7.false
 
 pub returns-then-flags-pair4-ne0 : goal.returns-then-flags-pair4-ne0
-returns-then-flags-pair4-ne0 c = record { run = rw c.no_clean_run.ensures (run_none false 0 (drop c.args.first c.args.words.now), (omega arith, (omega arith, omega arith))); few = rw c.no_clean_run.ensures (run_none false 0 (drop c.args.first c.args.words.now), (omega arith, (omega arith, omega arith))); }
+returns-then-flags-pair4-ne0 c = record {
+      run = rw c.no_clean_run.ensures (run_none false 0 (drop c.args.first c.args.words.now));
+      few = rw c.no_clean_run.ensures ((omega arith, (omega arith, omega arith)));
+    }
 
 -- bytes: lines * (9 + digits),
 pub overflow_add-result : goal.overflow_add-result
