@@ -755,14 +755,26 @@ module _ (rest : List Line) where
   parted-here : ((place : ℕ) → place < length rest → is_definition (get_or rest place Unknown) ≡ false) → Parted (BeginHeader ∷ rest) (place_of 3 0 (BeginHeader ∷ rest))
   unfolding place_of is_of name_of record_of
   parted-here none = record {
-    before_it = λ number. elim number [ zero ↦ λ low. absurd (omega arith) | suc number ↦ λ low. absurd (omega arith) ];
-    behind_it = λ number. elim number [ zero ↦ λ from inside. refl | suc number ↦ λ from inside. none number (omega arith) ];
+    before_it = λ number low. absurd (omega arith);
+    behind_it = λ number.
+        elim number as (λ at. 0 ≤ at → at < length (BeginHeader ∷ rest) → is_definition (get_or (BeginHeader ∷ rest) at Unknown) ≡ false) [
+          zero ↦ λ from inside. refl
+          | suc number ↦ λ from inside. none number (omega arith)
+        ];
   }
 
   parted-next : (line : Line) (header : ℕ) → is_definition line ≡ true → Parted rest header → Parted (line ∷ rest) (suc header)
   parted-next line header defines parted = record {
-    before_it = λ number. elim number [ zero ↦ λ low. defines | suc number ↦ λ low. parted.before_it number (omega arith) ];
-    behind_it = λ number. elim number [ zero ↦ λ from inside. absurd (omega arith) | suc number ↦ λ from inside. parted.behind_it number (omega arith) (omega arith) ];
+    before_it = λ number.
+        elim number as (λ at. at < suc header → is_definition (get_or (line ∷ rest) at Unknown) ≡ true) [
+          zero ↦ λ low. defines
+          | suc number ↦ λ low. parted.before_it number (omega arith)
+        ];
+    behind_it = λ number.
+        elim number as (λ at. suc header ≤ at → at < length (line ∷ rest) → is_definition (get_or (line ∷ rest) at Unknown) ≡ false) [
+          zero ↦ λ from inside. absurd (omega arith)
+          | suc number ↦ λ from inside. parted.behind_it number (omega arith) (omega arith)
+        ];
   }
 
 parted-later : (line : Line) (state next : State) (rest : List Line)
