@@ -24,8 +24,8 @@ returns-in-Error c = record {
 
 pub returns-in-NoRoom : goal.returns-in-NoRoom
 returns-in-NoRoom c = record {
-      outcome = (absurd (expand_room c.args.dictionary.now c.args.message_type.now c.args.layout.now c.requires _ _ c.expand.ensures (c.in-Stopped.is ∙ ap Stopped c.in-NoRoom.is) (omega (arith, c.expand.auto.trace)))).0;
-      memory = (absurd (expand_room c.args.dictionary.now c.args.message_type.now c.args.layout.now c.requires _ _ c.expand.ensures (c.in-Stopped.is ∙ ap Stopped c.in-NoRoom.is) (omega (arith, c.expand.auto.trace)))).1;
+      outcome = absurd (expand_room c.args.dictionary.now c.args.message_type.now c.args.layout.now c.requires _ _ c.expand.ensures (c.in-Stopped.is ∙ ap Stopped c.in-NoRoom.is) (omega (arith, c.expand.auto.trace)));
+      memory = absurd (expand_room c.args.dictionary.now c.args.message_type.now c.args.layout.now c.requires _ _ c.expand.ensures (c.in-Stopped.is ∙ ap Stopped c.in-NoRoom.is) (omega (arith, c.expand.auto.trace)));
     }
 
 pub returns-in-Done : goal.returns-in-Done
