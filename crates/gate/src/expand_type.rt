@@ -8,8 +8,7 @@ use outcomes::answers::expand_outcome;
 use outcomes::outcome::Outcome;
 
 // `words`: how many words the layout takes; `extra`: the nodes spent.
-#[unsafe(no_mangle)]
-pub extern "C" fn gate_expand(
+pub fn gate_expand(
     dictionary: &[u32],
     message_type: &[u8],
     layout: &mut [u32],
