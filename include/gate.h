@@ -1,6 +1,6 @@
 /* The order gate: judges FIX messages before an order may touch a book.
  *
- * Link with libgate.a, which `rt staticlib gate` writes to target/staticlib/. The archive is for
+ * Link with libgate.a, which tools/static_library.py writes to target/staticlib/. The archive is for
  * x86-64 alone: ELF objects that follow the System V calling convention, as on Linux. On another
  * machine this header compiles, and the archive does not link.
  *
