@@ -77,7 +77,7 @@ enum {
 
 /* Enough words for the events of gate_walk_message over a table of so many fields, under every
  * dictionary and layout. The loop over N fields writes at most 5 N events. After it comes at most
- * one event for each required tag of the top and one for each group of the top: `needs-few`,
+ * one event for each required tag of the top and one for each group of the top: `needs_few`,
  * crates/validator/specs/MessageCallLaws.antt. A layout has at most 2,048 required tags and 8,192
  * members, and each group's delimiter is a member of its own level, so that it has at most 8,192
  * groups: `arranged-few`, crates/layouts/specs/LayoutCheckComplete.antt. An event takes five words.
