@@ -1,8 +1,8 @@
 /* The order gate: judges FIX messages before an order may touch a book.
  *
- * Link with libgate.a, which tools/static_library.py writes to target/staticlib/. The archive is for
- * x86-64 alone: ELF objects that follow the System V calling convention, as on Linux. On another
- * machine this header compiles, and the archive does not link.
+ * Link with libgate.a, which tools/static_library.py writes to target/staticlib/: the exports of the
+ * crate gate_c. The archive is for x86-64 alone: ELF objects that follow the System V calling
+ * convention, as on Linux. On another machine this header compiles, and the archive does not link.
  *
  * Every call takes any bytes and any words, however broken, and returns a result or one of 14
  * refusals with its place. A refused call leaves all lent memory as it was; an answer leaves the
