@@ -1,8 +1,8 @@
 /* The order gate: judges FIX messages before an order may touch a book.
  *
- * Link with libgate.a, which `rt staticlib gate` writes to target/staticlib/. The archive is for
- * x86-64 alone: ELF objects that follow the System V calling convention, as on Linux. On another
- * machine this header compiles, and the archive does not link.
+ * Link with libgate.a, which tools/static_library.py writes to target/staticlib/: the exports of the
+ * crate gate_c. The archive is for x86-64 alone: ELF objects that follow the System V calling
+ * convention, as on Linux. On another machine this header compiles, and the archive does not link.
  *
  * Every call takes any bytes and any words, however broken, and returns a result or one of 14
  * refusals with its place. A refused call leaves all lent memory as it was; an answer leaves the
@@ -77,7 +77,7 @@ enum {
 
 /* Enough words for the events of gate_walk_message over a table of so many fields, under every
  * dictionary and layout. The loop over N fields writes at most 5 N events. After it comes at most
- * one event for each required tag of the top and one for each group of the top: `needs-few`,
+ * one event for each required tag of the top and one for each group of the top: `needs_few`,
  * crates/validator/specs/MessageCallLaws.antt. A layout has at most 2,048 required tags and 8,192
  * members, and each group's delimiter is a member of its own level, so that it has at most 8,192
  * groups: `arranged-few`, crates/layouts/specs/LayoutCheckComplete.antt. An event takes five words.

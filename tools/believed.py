@@ -26,7 +26,7 @@ BEGIN, END = "<!-- tools/believed.py: begin -->", "<!-- tools/believed.py: end -
 # calls of the gate's programs, which are not exported to C
 CALLS = ["list", "list_line"]
 # a test, and the theorems that say what it passes
-PINS = {"isLayout": ["isLayout-exact"], "isDictionary": ["accepted-pass", "pass-accepted"]}
+PINS = {"is_layout": ["is_layout-exact"], "is_dictionary": ["accepted-pass", "pass_accepted"]}
 
 
 def is_call(function):
@@ -52,7 +52,7 @@ def stated():
     """What the page's table of statements names: the crates of each row, and the names."""
     section = read(PAGE).split("\n## The statements\n", 1)[1].split("\n## ", 1)[0]
     places = [row.split("|")[-1] for row in re.findall(r"^\|(.*)\|$", section, re.M)]
-    crate, name = re.compile(r"\b(\w+)/specs"), re.compile(r"`([^`\s]+)`")
+    crate, name = re.compile(r"\b(\w+)/(?:specs|proofs)\b"), re.compile(r"`([^`\s]+)`")
     return [(crate.findall(place), name.findall(place)) for place in places]
 
 

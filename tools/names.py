@@ -1,11 +1,12 @@
 """What the files of the crates declare, and what their names stand for.
 
-A file of specs/ declares definitions (`abbrev`, `unfoldable`), `data`, `record` and laws (all
-else); a file of src/ declares types and functions. Names are resolved as they are written: by the
+A file of specs/, or a file of lemmas right in proofs/, declares definitions (`abbrev`,
+`unfoldable`), `data`, `record` and laws (all else); a file of src/ declares types and functions. Names are resolved as they are written: by the
 `use` and `ghost use` lines of a file and by what the file declares. A variable that is called as a
 definition in scope is taken for the variable in the declaration that binds it. This is a module of
 tools/believed.py and tools/unused.py, and has no command of its own.
 """
+import functools
 import glob
 import os
 import re
@@ -22,14 +23,20 @@ def read(path):
         return file.read()
 
 
+@functools.lru_cache(maxsize=None)
 def crates():
-    """The crates, in the order of crates.txt."""
+    """The crates, in the order of crates.txt. A line is NAME: DEP DEP .., or NAME staticlib: .."""
     lines = [line.split("#")[0].partition(":") for line in read(f"{ROOT}/crates.txt").split("\n")]
-    return [name.strip() for name, found, _ in lines if found]
+    return [head.split()[0] for head, found, _ in lines if found]
 
 
 def files(crate, folder, ending):
     return sorted(glob.glob(f"{ROOT}/crates/{crate}/{folder}/**/*{ending}", recursive=True))
+
+
+def lemma_files(crate):
+    """The files of lemmas in proofs/, beside the folders of the functions' proofs."""
+    return sorted(glob.glob(f"{ROOT}/crates/{crate}/proofs/*.antt"))
 
 
 def sources():
@@ -41,7 +48,7 @@ def without_comments(lines):
 
 
 class Declaration:
-    """A definition, a data type, a record or a law of a file of specs/; or a type of src/."""
+    """A definition, a data type, a record or a law of specs/ or proofs/; or a type of src/."""
 
     def __init__(self, source, name, kind, index, file=None):
         self.source, self.name, self.kind, self.file = source, name, kind, file
@@ -111,7 +118,7 @@ def declares_type(text, name):
 
 
 class SpecFile:
-    """A file of specs/: what it declares, and what its names stand for."""
+    """A file of specs/ or of lemmas: what it declares, and what its names stand for."""
 
     def __init__(self, path):
         self.path, self.declared, self.scope, self.aliases = path, {}, {}, {}
@@ -213,9 +220,8 @@ def read_uses(text):
 
 
 def spec_uses(text):
-    """Those `use` lines of a source or proof file that name a module of specs/ or of the kit."""
-    uses = read_uses(text)
-    return [use for use in uses if not re.search(r"::|[·.]proofs\b", use[0])]
+    """Those `use` lines of a source or proof file that name a module of definitions or lemmas."""
+    return [use for use in read_uses(text) if "::" not in use[0]]
 
 
 def tokens(text):
@@ -224,15 +230,15 @@ def tokens(text):
 
 
 def parts_of(name):
-    """What stands in a term for a name: of `_<ᵇ_` it is `<ᵇ`."""
-    return [part for part in name.split("_") if part] if name.strip("_") else [name]
+    """What stands in a term for a name: of `◌<ᵇ◌` it is `<ᵇ`."""
+    return [part for part in name.split("◌") if part] if name.strip("◌") else [name]
 
 
 class Repository:
     def __init__(self):
         self.files, self.types = {}, {}
         for crate in crates():
-            for path in files(crate, "specs", ".antt"):
+            for path in files(crate, "specs", ".antt") + lemma_files(crate):
                 self.files[path] = SpecFile(path)
         for file in self.files.values():
             file.scope, file.aliases = self.scope_of(file.uses)
@@ -243,19 +249,19 @@ class Repository:
         return {made for file in self.files.values() for made in file.declared.values()}
 
     def named_in(self, name):
-        """Whatever has this name, in any file of specs/."""
+        """Whatever has this name, in any file of specs/ or of lemmas."""
         found = [file.declared.get(name) for file in self.files.values()]
         return [made for made in found if made is not None]
 
     def module(self, name):
-        """What a module's name stands for: a file of specs/, a type of src/, or the kit's."""
-        match = re.match(r"Rattle·(\w+)(?:·specs)?\.specs(?:\.(.*))?$", name)
-        if not match:
+        """What a module's name stands for: a file of specs/ or proofs/, a type of src/, or the kit's."""
+        match = re.match(r"Rattle\.(\w+)\.(specs|proofs)(?:\.(.*))?$", name)
+        if not match or match.group(1) not in crates():
             return ("kit", name)
-        crate, path = match.group(1), match.group(2) or "Lib"
+        crate, folder, path = match.group(1), match.group(2), match.group(3) or "Lib"
         if not path.startswith("declared."):
-            return ("file", f"{ROOT}/crates/{crate}/specs/" + path.replace(".", "/") + ".antt")
-        *folders, type_ = [part for part in path.split(".")[1:] if part != "the-variants"]
+            return ("file", f"{ROOT}/crates/{crate}/{folder}/" + path.replace(".", "/") + ".antt")
+        *folders, type_ = [part for part in path.split(".")[1:] if part != "TheVariants"]
         for end in (".rt", "/mod.rt"):
             source = f"{ROOT}/crates/{crate}/src/" + ("/".join(folders) or "lib") + end
             if os.path.isfile(source) and declares_type(read(source), type_):
@@ -299,9 +305,13 @@ class Repository:
                 continue
             if name in scope:
                 found.append(scope[name])
-            elif name.split(".")[0] in aliases and "." in name:
-                module, member = name.split(".")[:2]
-                found.append(self.member(aliases[module], member))
+            elif "." in name:
+                head, member = name.split(".")[:2]
+                if head in aliases:
+                    found.append(self.member(aliases[head], member))
+                elif head in scope and head not in bound:
+                    # a field of what the name stands for
+                    found.append(scope[head])
         return [made for made in found if made is not None]
 
     def mentions(self, made, whole=False):
@@ -326,11 +336,16 @@ class Repository:
 def source_uses(path):
     """What the `use` lines of a source file bring: each name with the file and the name there."""
     own, brought = re.match(r".*/crates/\w+/src/", path).group(0), {}
-    line = r"^(?:pub )?use ([\w:]+)(?: as (\w+))?;"
-    for used, alias in re.findall(line, read(path), re.M):
-        *where, name = used.split("::")
+    line = r"^(?:pub )?use ([\w:]+?)(?:::\{([^}]*)\}|(?: as (\w+))?);"
+    for used, held, alias in re.findall(line, read(path), re.M):
+        pairs = [part.split(" as ") for part in held.split(",") if part.strip()]
+        where = used.split("::")
+        if not pairs:
+            pairs = [[where.pop(), alias] if alias else [where.pop()]]
         folder = own if where[0] == "crate" else f"{ROOT}/crates/{where[0]}/src/"
-        brought[alias or name] = (folder + ("/".join(where[1:]) or "lib") + ".rt", name)
+        for pair in pairs:
+            name, here = pair[0].strip(), pair[-1].strip()
+            brought[here] = (folder + ("/".join(where[1:]) or "lib") + ".rt", name)
     return brought
 
 

@@ -1,6 +1,6 @@
 /* Judges FIX messages: each line of standard input is one.
  *
- *     rt staticlib gate
+ *     tools/static_library.py
  *     cc -O2 -Iinclude bindings/c/judge.c target/staticlib/libgate.a -o judge
  *     ./judge examples/block-order/block-order.dict < messages
  *

@@ -1,4 +1,4 @@
-//! Links libgate.a, which `rt staticlib gate` writes to target/staticlib of the repository.
+//! Links libgate.a, which tools/static_library.py writes to target/staticlib of the repository.
 //! GATE_LIB_DIR names another folder.
 
 use std::env;
@@ -17,7 +17,7 @@ fn main() {
     println!("cargo:rerun-if-changed={}", library.display());
     assert!(
         library.exists(),
-        "{} is missing: run `rt staticlib gate` at the root of the repository",
+        "{} is missing: run `tools/static_library.py` at the root of the repository",
         library.display()
     );
     println!("cargo:rustc-link-search=native={}", folder.display());

@@ -11,8 +11,8 @@
 --   level_at trace place            this level, with the groups that stand in it finished
 --   group_at trace start            the group that begins there
 --   top_start                       the top, as if it were a group: its entry begins with the trace and keeps all its required tags
-use Rattle.std.specs.Prelude.{ℕ, zero, suc, ◌+◌, ◌%◌, ◌/◌, Bool, false, List, [], ◌∷◌, ◌++◌, map, length, drop}
-use Rattle.ascii.specs.Notation.{◌≡ᵇ◌, if◌then◌else◌}
+use Rattle.std.specs.Prelude.{ℕ, zero, suc, ◌+◌, ◌%◌, ◌/◌, Bool, false, List, [], ◌∷◌, ◌++◌, map, length, drop, if◌then◌else◌}
+use Rattle.ascii.specs.Notation.{◌≡ᵇ◌}
 use Rattle.layouts.specs.Layout.{Level, Group, group_of_lem}
 use Rattle.expansion.specs.Expansion.{OpenLevel, empty_level, finish, retained, finish_entry}
 use Rattle.expansion.specs.Trace.{tag_in, count_tag_in}

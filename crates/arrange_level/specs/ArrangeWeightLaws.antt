@@ -7,14 +7,14 @@
 --   weight_all counts trace starts their weights, added up
 --   counts_member word             1 for a word that adds a member, counts_required for one that adds a required tag, counts_group for one that
 --                                 enters a group
-use Rattle.std.specs.Prelude.{◌≡◌, Bool, true, false, cond, ◌||◌, eqb, length, drop}
+use Rattle.std.specs.Prelude.{◌≡◌, Bool, true, false, cond, ◌||◌, eqb, length, drop, if◌then◌else◌}
 use Rattle.std.proofs.Math.Path.{refl}
 use Rattle.std.proofs.Common.{sym, ap, ◌∙◌, length-append, drop-drop}
 use Prim.Native.Nat.{ℕ, zero, suc, ◌+◌, ◌≤◌, ◌<◌, ◌%◌, ◌/◌}
 use mathlib.Core.List.{List, [], ◌∷◌, ◌++◌, map}
 use native.Mathlib.Omega.{arith}
 use borrow.Author.Tests.{eqb-true, eqb-false, eq-eqb, ne_eqb}
-use Rattle.ascii.specs.Notation.{◌≡ᵇ◌, if◌then◌else◌}
+use Rattle.ascii.specs.Notation.{◌≡ᵇ◌}
 use Rattle.ascending.specs.Sort.{is_in}
 use Rattle.ascending.specs.Search.{StrictlyAbove, StrictlyAscending}
 use Rattle.ascending.specs.DedupLaws.{members_ascend, is_in-members}

@@ -4,8 +4,8 @@
 --   deduped_after last words   the words that stay where the word before them is `last`
 --   deduped words             the words that stay
 --   deduped_in words           what memory holds afterwards: the words that stay, and behind them those that stood there before
-use Rattle.std.specs.Prelude.{ℕ, List, [], ◌∷◌, ◌++◌, length, drop}
-use Rattle.ascii.specs.Notation.{◌≡ᵇ◌, if◌then◌else◌}
+use Rattle.std.specs.Prelude.{ℕ, List, [], ◌∷◌, ◌++◌, length, drop, if◌then◌else◌}
+use Rattle.ascii.specs.Notation.{◌≡ᵇ◌}
 
 unfoldable pub deduped_after : ℕ → List ℕ → List ℕ
 deduped_after last [] = []

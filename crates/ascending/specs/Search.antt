@@ -9,8 +9,8 @@
 --   rank_in words tag              the place of the first word that is the tag, or Nothing where there is none
 --   is_found found                 the tag is there
 --   Holds words tag found         where a place was found, the word there is the tag
-use Rattle.std.specs.Prelude.{◌≡◌, ℕ, ◌+◌, ◌<◌, Bool, true, false, ◌&&◌, List, [], ◌∷◌, length, get_or}
-use Rattle.ascii.specs.Notation.{◌<ᵇ◌, ◌≡ᵇ◌, if◌then◌else◌}
+use Rattle.std.specs.Prelude.{◌≡◌, ℕ, ◌+◌, ◌<◌, Bool, true, false, ◌&&◌, List, [], ◌∷◌, length, get_or, if◌then◌else◌}
+use Rattle.ascii.specs.Notation.{◌<ᵇ◌, ◌≡ᵇ◌}
 use Rattle.ascending.specs.declared.search.Found.{Found}
 use Rattle.ascending.specs.declared.search.Found.TheVariants.{At, Nothing}
 

@@ -4,10 +4,9 @@
 --   non_empty value        the value has a byte
 --   every test value      every byte of the value passes the test (so also of the empty value)
 --   how_many test value    how many bytes of the value pass the test
-use Rattle.std.specs.Prelude.{ℕ, suc, Bool, true, false, ◌&&◌, List, [], ◌∷◌}
+use Rattle.std.specs.Prelude.{ℕ, suc, Bool, true, false, ◌&&◌, List, [], ◌∷◌, if◌then◌else◌}
 use Prim.Native.Char.{code}
 use Prim.Native.String.{String}
-use Rattle.ascii.specs.Notation.{if◌then◌else◌}
 
 abbrev pub ascii : String → List ℕ
 ascii String.[] = []

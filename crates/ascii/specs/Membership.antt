@@ -2,8 +2,8 @@
 --
 --   tag ∈ᵇ tags                  the tag is one of the tags
 --   insert_if repeated tag seen   the tags with one more, unless it repeats; the Rust's `insert_rank`
-use Rattle.std.specs.Prelude.{ℕ, Bool, false, ◌||◌, List, [], ◌∷◌}
-use Rattle.ascii.specs.Notation.{◌≡ᵇ◌, if◌then◌else◌}
+use Rattle.std.specs.Prelude.{ℕ, Bool, false, ◌||◌, List, [], ◌∷◌, if◌then◌else◌}
+use Rattle.ascii.specs.Notation.{◌≡ᵇ◌}
 
 infix 50 ◌∈ᵇ◌
 abbrev pub ◌∈ᵇ◌ : ℕ → List ℕ → Bool

@@ -9,8 +9,8 @@
 --   every_part test parts      every part passes the test
 --   without separator value   no byte of the value is the separator
 --   join separator parts      the parts written one behind the other, with a separator between them
-use Rattle.std.specs.Prelude.{ℕ, suc, Bool, ◌&&◌, not, List, [], ◌∷◌, ◌++◌}
-use Rattle.ascii.specs.Notation.{◌≡ᵇ◌, if◌then◌else◌}
+use Rattle.std.specs.Prelude.{ℕ, suc, Bool, ◌&&◌, not, List, [], ◌∷◌, ◌++◌, if◌then◌else◌}
+use Rattle.ascii.specs.Notation.{◌≡ᵇ◌}
 use Rattle.ascii.specs.Bytes.{every}
 
 unfoldable pub index_of : ℕ → List ℕ → ℕ

@@ -3,10 +3,10 @@
 --
 --   read_from words            what the words of a record tell
 --   Tells read line           what was read is this line; where it was no field, no group and no use, the line is none
-use Rattle.std.specs.Prelude.{◌≡◌, ℕ, ◌+◌, ◌*◌, ◌-◌, ◌<◌, true, false, List, get_or, take, drop}
+use Rattle.std.specs.Prelude.{◌≡◌, ℕ, ◌+◌, ◌*◌, ◌-◌, ◌<◌, true, false, List, get_or, take, drop, if◌then◌else◌}
 use Rattle.std.proofs.Math.Path.{refl}
 use Rattle.std.proofs.Common.{ap, ◌∙◌, arith, get_or-take, get_or-drop}
-use Rattle.ascii.specs.Notation.{◌≡ᵇ◌, if◌then◌else◌}
+use Rattle.ascii.specs.Notation.{◌≡ᵇ◌}
 use Rattle.line_forms.specs.declared.line.Line.{Line}
 use Rattle.line_forms.specs.declared.line.Line.TheVariants.{Def, Value, BeginHeader, BeginTrailer, EndHeader, EndTrailer, Component, Message, Field, Group, Use, End, Member, RequiredTag, Unknown}
 use Rattle.lines.specs.declared.line_parts.Number32.{Number32}

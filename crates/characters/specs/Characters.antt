@@ -15,9 +15,9 @@
 --   characters value                the number of characters of the value
 --   leads_from expected value        the first bytes of the characters that begin in the value, where before it one is open that expects this
 --   leads value                     the value's characters in their order, each by its first byte (that of a space is 20)
-use Rattle.std.specs.Prelude.{ℕ, suc, ◌-◌, Bool, ◌&&◌, List, [], ◌∷◌}
+use Rattle.std.specs.Prelude.{ℕ, suc, ◌-◌, Bool, ◌&&◌, List, [], ◌∷◌, if◌then◌else◌}
 use Rattle.characters.specs.declared.characters.Expected.{Expected}
-use Rattle.ascii.specs.Notation.{◌<ᵇ◌, is_between, if◌then◌else◌}
+use Rattle.ascii.specs.Notation.{◌<ᵇ◌, is_between}
 
 abbrev pub expects : ℕ → ℕ → ℕ → Expected
 expects more low high = record { more = more; low = low; high = high }

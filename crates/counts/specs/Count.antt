@@ -2,10 +2,10 @@
 -- The Rust's `parse_count` (walk.rs) gives the same: no sign, leading zeros allowed. Assumes nothing.
 --
 --   count_of value   the number that a count field of this value declares, or Nothing where it declares none
-use Rattle.std.specs.Prelude.{ℕ, ◌^◌, ◌&&◌, List}
+use Rattle.std.specs.Prelude.{ℕ, ◌^◌, ◌&&◌, List, if◌then◌else◌}
 use Rattle.counts.specs.declared.count.Count.{Count}
 use Rattle.counts.specs.declared.count.Count.TheVariants.{Number, Nothing}
-use Rattle.ascii.specs.Notation.{◌<ᵇ◌, if◌then◌else◌}
+use Rattle.ascii.specs.Notation.{◌<ᵇ◌}
 use Rattle.ascii.specs.Digits.{is_digits, decimal}
 
 unfoldable pub count_of : List ℕ → Count

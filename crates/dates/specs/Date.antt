@@ -16,9 +16,9 @@
 -- `split_once('.')` cuts at the first point, and `split(':')` what stands before it at every colon. The Rust asks for three parts of two digits,
 -- which are with their two colons the eight bytes of HH:MM:SS. So the first point stands at place 8, or there is none and the value ends there.
 -- And none of the eight bytes of HH:MM:SS is a point, so that a point at place 8 is the first one.
-use Rattle.std.specs.Prelude.{ℕ, Bool, true, false, ◌&&◌, ◌||◌, List, [], ◌∷◌, length, get_or, take, drop}
+use Rattle.std.specs.Prelude.{ℕ, Bool, true, false, ◌&&◌, ◌||◌, List, [], ◌∷◌, length, get_or, take, drop, if◌then◌else◌}
 use Prim.Native.Char.{code}
-use Rattle.ascii.specs.Notation.{◌≡ᵇ◌, if◌then◌else◌, is_between}
+use Rattle.ascii.specs.Notation.{◌≡ᵇ◌, is_between}
 use Rattle.ascii.specs.Bytes.{ascii, every}
 use Rattle.ascii.specs.Digits.{is_digit, is_digits_of_len}
 

@@ -1,7 +1,7 @@
 -- What is looked up in a dictionary's words (`Definitions.antt`) is what its lines define (`DefinedFields.antt`), for all words that pass the check:
 -- the definition of a tag (`definition-found`, `definition-missing`), the values it admits (`admits_value-lines`, `is_enumerated-lines`) and the tags in the
 -- index of the definitions (`tags-index`). Assumes nothing.
-use Rattle.std.specs.Prelude.{◌≡◌, ℕ, zero, suc, ◌+◌, ◌*◌, ◌-◌, ◌≤◌, ◌<◌, Bool, true, ◌&&◌, ◌||◌, cond, ◌⊎◌, ltb, length, take, drop}
+use Rattle.std.specs.Prelude.{◌≡◌, ℕ, zero, suc, ◌+◌, ◌*◌, ◌-◌, ◌≤◌, ◌<◌, Bool, true, ◌&&◌, ◌||◌, cond, ◌⊎◌, ltb, length, take, drop, if◌then◌else◌}
 use Rattle.std.proofs.Math.Path.{refl, ap}
 use Rattle.std.proofs.Common.{sym, ◌∙◌, inl, inr, arith, length-drop, drop-drop, get_or-drop}
 use Rattle.std.proofs.Math.Bool.{false}
@@ -11,7 +11,7 @@ use Rattle.std.proofs.Math.Dec.{eqb}
 use Rattle.std.proofs.Math.ListN.{get_or}
 use Rattle.std.proofs.Math.Seq.{take_at}
 use borrow.Author.Tests.{ltb-true, ltb-false, lt-ltb, le-ltb, eqb-true, eq-eqb, ne_eqb}
-use Rattle.ascii.specs.Notation.{◌<ᵇ◌, if◌then◌else◌}
+use Rattle.ascii.specs.Notation.{◌<ᵇ◌}
 use Rattle.ascii.specs.NotationLaws.{and_left, and_right}
 use Rattle.ascii.specs.Bytes.{every}
 use Rattle.ascending.specs.declared.search.Found.{Found}

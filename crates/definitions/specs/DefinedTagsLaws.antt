@@ -1,8 +1,7 @@
 -- Laws of `DefinedTags.antt`: the tags are the names of the index of the definitions, they ascend, and a text of 65,536 bytes has at most 10,922 of them.
 -- Assumes nothing.
-use Rattle.std.specs.Prelude.{◌≡◌, refl, ℕ, zero, suc, ◌+◌, ◌*◌, ◌-◌, ◌≤◌, Bool, true, false, ◌&&◌, List, eqb, length, get_or, take, drop}
+use Rattle.std.specs.Prelude.{◌≡◌, refl, ℕ, zero, suc, ◌+◌, ◌*◌, ◌-◌, ◌≤◌, Bool, true, false, ◌&&◌, List, eqb, length, get_or, take, drop, if◌then◌else◌}
 use Rattle.std.proofs.Common.{ap, ◌∙◌, arith, length-drop, length-take-le, eqb-true}
-use Rattle.ascii.specs.Notation.{if◌then◌else◌}
 use Rattle.ascii.specs.NotationLaws.{and_left}
 use Rattle.ascending.specs.Search.{StrictlyAscending, is_strictly_ascending}
 use Rattle.dictionary.specs.DictionaryCheck.{count_of, stands_each, is_index, tags_at, size_of, is_dictionary}

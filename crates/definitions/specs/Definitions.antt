@@ -10,8 +10,8 @@
 --   is_among value left at words     the value is that of one of the `left` records from this place on, as long as they are `value=V` lines
 --   is_enumerated words number       the definition with this record has admitted values: a `value=V` line stands behind it
 --   admits_value words number value  "`value=V` lines (none: every value admitted)": the definition with this record admits the value
-use Rattle.std.specs.Prelude.{ℕ, zero, suc, ◌+◌, ◌*◌, ◌-◌, Bool, true, false, ◌&&◌, ◌||◌, List, get_or, take, drop}
-use Rattle.ascii.specs.Notation.{◌≡ᵇ◌, if◌then◌else◌}
+use Rattle.std.specs.Prelude.{ℕ, zero, suc, ◌+◌, ◌*◌, ◌-◌, Bool, true, false, ◌&&◌, ◌||◌, List, get_or, take, drop, if◌then◌else◌}
+use Rattle.ascii.specs.Notation.{◌≡ᵇ◌}
 use Rattle.ascending.specs.declared.search.Found.{Found}
 use Rattle.ascending.specs.declared.search.Found.TheVariants.{At, Nothing}
 use Rattle.ascending.specs.Search.{rank_in}

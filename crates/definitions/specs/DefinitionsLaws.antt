@@ -1,5 +1,5 @@
 -- Laws of `Definitions.antt`: what a dictionary's words are known to hold when they are searched. Assumes nothing.
-use Rattle.std.specs.Prelude.{◌≡◌, refl, Bool, ◌&&◌, List, leb, eqb, length, take, drop}
+use Rattle.std.specs.Prelude.{◌≡◌, refl, Bool, ◌&&◌, List, leb, eqb, length, take, drop, if◌then◌else◌}
 use Rattle.std.proofs.Common.{sym, ◌∙◌, length-drop, length-take-le}
 use Rattle.std.proofs.Math.Path.{ap}
 use Prim.Native.Nat.{ℕ, zero, suc, ◌+◌, ◌*◌, ◌-◌, ◌≤◌, ◌<◌}
@@ -8,7 +8,6 @@ use Rattle.std.proofs.lemmas.Bool.{false≢true}
 use native.Mathlib.Omega.{arith}
 use Rattle.std.proofs.Math.ListN.{get_or}
 use borrow.Author.Tests.{eq-eqb, ne_eqb, leb-true, ltb-true}
-use Rattle.ascii.specs.Notation.{if◌then◌else◌}
 use Rattle.ascii.specs.NotationLaws.{and_left, and_right}
 use Rattle.ascending.specs.declared.search.Found.{Found}
 use Rattle.ascending.specs.declared.search.Found.TheVariants.{At, Nothing}

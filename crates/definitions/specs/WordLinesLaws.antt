@@ -2,7 +2,7 @@
 -- is the place of its line, and words that pass the check begin, after their first four, with the records of these lines. Assumes nothing.
 --
 --   placed_at lines place   the place, or Nothing where it is after the last line
-use Rattle.std.specs.Prelude.{◌≡◌, ℕ, zero, suc, ◌+◌, ◌*◌, ◌≤◌, ◌<◌, Bool, ◌&&◌, ◌||◌, cond, ltb, eqb, take, drop}
+use Rattle.std.specs.Prelude.{◌≡◌, ℕ, zero, suc, ◌+◌, ◌*◌, ◌≤◌, ◌<◌, Bool, ◌&&◌, ◌||◌, cond, ltb, eqb, take, drop, if◌then◌else◌}
 use Rattle.std.proofs.Math.Path.{refl, sym, ap}
 use Rattle.std.proofs.Common.{◌∙◌, arith, length-drop, take-append-drop, drop-drop, get_or-take, get_or-drop, get_or-append-add, take-take, ltb-true, ltb-false, lt-ltb, le-ltb, eqb-true}
 use Rattle.std.proofs.Math.Bool.{true, false}
@@ -10,7 +10,7 @@ use mathlib.Core.List.{List, [], ◌∷◌, ◌++◌, map, append_assoc}
 use Rattle.std.proofs.Math.ListN.{length, get_or, get_or-map}
 use Rattle.std.proofs.lemmas.List.{length-map}
 use Rattle.std.proofs.Math.Seq.{take-append_seam}
-use Rattle.ascii.specs.Notation.{◌<ᵇ◌, if◌then◌else◌}
+use Rattle.ascii.specs.Notation.{◌<ᵇ◌}
 use Rattle.ascending.specs.declared.search.Found.{Found}
 use Rattle.ascending.specs.declared.search.Found.TheVariants.{At, Nothing}
 use Rattle.ascending.specs.Sort.{sorted, is_in}

@@ -6,8 +6,8 @@
 --   run_length definitions record                 how long the line of the record is, where it belongs to a run of definitions, or else of fields; 0 where it does not
 --   IsRun definitions lines bytes tags words     so many records at the head of these words are a run that has at most so many bytes and defines so many tags
 --   PassedOver standing lines bytes tags words   so many lines leave this standing as it is, have at most so many bytes and define so many tags
-use Rattle.std.specs.Prelude.{◌≡◌, ℕ, ◌+◌, ◌*◌, ◌-◌, ◌/◌, ◌≤◌, ◌<◌, Bool, true, false, ◌&&◌, List, get_or, take, drop}
-use Rattle.ascii.specs.Notation.{◌≡ᵇ◌, if◌then◌else◌}
+use Rattle.std.specs.Prelude.{◌≡◌, ℕ, ◌+◌, ◌*◌, ◌-◌, ◌/◌, ◌≤◌, ◌<◌, Bool, true, false, ◌&&◌, List, get_or, take, drop, if◌then◌else◌}
+use Rattle.ascii.specs.Notation.{◌≡ᵇ◌}
 use Rattle.dictionary_order.specs.DictionaryOrder as order
 use Rattle.lines.specs.LineParts.{is_visible}
 use Rattle.records.specs.Records.{holds_part, def_from, value_from, field_from, lines_from}

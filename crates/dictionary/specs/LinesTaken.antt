@@ -4,8 +4,8 @@
 --   takes state number lines     lines from this number on, read in this state, are taken, each
 --   count_one found kind          1 for a record of this kind
 --   Counted lines words tags components messages   so many records are definitions, components and messages
-use Rattle.std.specs.Prelude.{◌≡◌, ℕ, ◌+◌, Bool, ◌&&◌, List, [], ◌∷◌}
-use Rattle.ascii.specs.Notation.{◌≡ᵇ◌, if◌then◌else◌, is_between}
+use Rattle.std.specs.Prelude.{◌≡◌, ℕ, ◌+◌, Bool, ◌&&◌, List, [], ◌∷◌, if◌then◌else◌}
+use Rattle.ascii.specs.Notation.{◌≡ᵇ◌, is_between}
 use Rattle.line_forms.specs.declared.line.Line.{Line}
 use Rattle.dictionary_order.specs.declared.dictionary_order.State.{State}
 use Rattle.dictionary_order.specs.DictionaryOrder.{step_of, behind_trailer, behind_message}

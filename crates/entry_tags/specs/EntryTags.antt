@@ -9,10 +9,10 @@
 --   rank_count words members  how many are set in the words that a level of so many members uses, (members + 63) / 64 of them
 --   Stands words width members ranks   the words, so many, stand for the set of these ranks of a level of so many members, each listed once
 --   TagsSeen words width members is_member rank_of seen   the words stand for the tags seen, members of the level, by their ranks
-use Rattle.std.specs.Prelude.{◌≡◌, ℕ, ◌+◌, ◌*◌, ◌/◌, ◌%◌, ◌^◌, ◌≤◌, ◌<◌, Bool, true, List, [], ◌∷◌, map, length, get_or, set, take, replicate}
+use Rattle.std.specs.Prelude.{◌≡◌, ℕ, ◌+◌, ◌*◌, ◌/◌, ◌%◌, ◌^◌, ◌≤◌, ◌<◌, Bool, true, List, [], ◌∷◌, map, length, get_or, set, take, replicate, if◌then◌else◌}
 use Rattle.std.specs.Int.Bits.{bit_or}
 use Rattle.std.specs.Int.Count.{ones}
-use Rattle.ascii.specs.Notation.{◌≡ᵇ◌, if◌then◌else◌}
+use Rattle.ascii.specs.Notation.{◌≡ᵇ◌}
 use Rattle.ascii.specs.Membership.{◌∈ᵇ◌}
 
 abbrev pub no_ranks : ℕ → List ℕ

@@ -2,9 +2,9 @@
 --
 --   put_in space at event       the words with the event's from `at` on, or as they were where it has no room
 --   put_all_in space at events   the same for each of the events in turn
-use Rattle.std.specs.Prelude.{ℕ, ◌+◌, List, [], ◌∷◌, length}
+use Rattle.std.specs.Prelude.{ℕ, ◌+◌, List, [], ◌∷◌, length, if◌then◌else◌}
 use Rattle.std.proofs.lemmas.List.Edits.{sets}
-use Rattle.ascii.specs.Notation.{◌≤ᵇ◌, if◌then◌else◌}
+use Rattle.ascii.specs.Notation.{◌≤ᵇ◌}
 use Rattle.events.specs.declared.event.Event.{Event}
 use Rattle.events.specs.Events.{event_words}
 

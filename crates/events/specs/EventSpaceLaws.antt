@@ -1,7 +1,7 @@
 -- Laws of `EventSpace.antt`: one event, events one behind the other, and what the words hold where there is room for all of them. Assumes nothing.
 --
 --   Wrote before after at next events   a call that was lent the words `before` and began at `at` left `after`, having put the events, and gives `next`
-use Rattle.std.specs.Prelude.{◌≡◌, ℕ, suc, ◌+◌, ◌*◌, ◌≤◌, ◌<◌, Bool, List, [], ◌∷◌, ◌++◌, leb, take, drop, set}
+use Rattle.std.specs.Prelude.{◌≡◌, ℕ, suc, ◌+◌, ◌*◌, ◌≤◌, ◌<◌, Bool, List, [], ◌∷◌, ◌++◌, leb, take, drop, set, if◌then◌else◌}
 use Rattle.std.proofs.Math.Path.{refl}
 use Rattle.std.proofs.Common.{sym, ap, ◌∙◌, append_assoc, arith, length-append, take-append-drop, take_at, drop_at, drop-drop, length-take-le, le-leb}
 use Rattle.std.proofs.Math.Bool.{true, false}
@@ -10,7 +10,6 @@ use Rattle.std.proofs.Math.ListN.{length}
 use Rattle.std.proofs.Math.Seq.{sets, length-sets}
 use Rattle.std.proofs.lemmas.List.Edits.{sets-eq}
 use Rattle.std.proofs.lemmas.Bool.{lt-leb}
-use Rattle.ascii.specs.Notation.{if◌then◌else◌}
 use Rattle.events.specs.declared.event.Event.{Event}
 use Rattle.events.specs.Events.{kind_number, kind_first, kind_second, event_words, events_words}
 use Rattle.events.specs.EventSpace.{put_in, put_all_in}

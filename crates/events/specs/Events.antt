@@ -10,8 +10,8 @@
 --   is_fault kind        the kind is that of a fault event
 --   NoFault events      no event of the list is a fault event
 --   of_groups events     the events of kinds 1 to 8, in their order
-use Rattle.std.specs.Prelude.{◌≡◌, ℕ, Bool, false, List, [], ◌∷◌, ◌++◌}
-use Rattle.ascii.specs.Notation.{◌≤ᵇ◌, if◌then◌else◌}
+use Rattle.std.specs.Prelude.{◌≡◌, ℕ, Bool, false, List, [], ◌∷◌, ◌++◌, if◌then◌else◌}
+use Rattle.ascii.specs.Notation.{◌≤ᵇ◌}
 use Rattle.events.specs.declared.event.Kind.{Kind}
 use Rattle.events.specs.declared.event.Kind.TheVariants.{Enter, BadCount, Delim, Repeat, Close, Miscount, Deep, Leave, Twice, Foreign, Missing}
 use Rattle.events.specs.declared.event.Event.{Event}

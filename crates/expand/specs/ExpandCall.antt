@@ -7,8 +7,8 @@
 --   layout_with expansion words           what the lent words hold afterwards
 --   expanded_of dictionary type space     what the call answers on these dictionary words, where so many words are lent
 --   expanded_in dictionary type words     what the lent words hold afterwards
-use Rattle.std.specs.Prelude.{◌≡◌, ℕ, List, ◌++◌, length, drop}
-use Rattle.ascii.specs.Notation.{◌≤ᵇ◌, if◌then◌else◌}
+use Rattle.std.specs.Prelude.{◌≡◌, ℕ, List, ◌++◌, length, drop, if◌then◌else◌}
+use Rattle.ascii.specs.Notation.{◌≤ᵇ◌}
 use Rattle.refusals.specs.declared.refusal.Refusal.TheVariants.{UnknownForm, SpaceShort}
 use Rattle.dictionary.specs.DictionaryCheck.{is_dictionary}
 use Rattle.layouts.specs.LayoutWords.{arranged}

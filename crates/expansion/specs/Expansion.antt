@@ -19,8 +19,8 @@
 --   finish level                         the level with members and groups in order
 --   build limits transport dictionary message   the top level in work, everything added
 --   expand_of limits transport dictionary type   the layout of a message type and the nodes spent, or the refusal
-use Rattle.std.specs.Prelude.{ℕ, zero, suc, Bool, true, false, ◌&&◌, ◌||◌, List, [], ◌∷◌, ◌++◌}
-use Rattle.ascii.specs.Notation.{◌≤ᵇ◌, ◌<ᵇ◌, ◌≡ᵇ◌, if◌then◌else◌}
+use Rattle.std.specs.Prelude.{ℕ, zero, suc, Bool, true, false, ◌&&◌, ◌||◌, List, [], ◌∷◌, ◌++◌, if◌then◌else◌}
+use Rattle.ascii.specs.Notation.{◌≤ᵇ◌, ◌<ᵇ◌, ◌≡ᵇ◌}
 use Rattle.refusals.specs.declared.refusal.Refusal.{Refusal}
 use Rattle.refusals.specs.declared.refusal.Refusal.TheVariants.{TextTooLong, UnknownForm, NotAllowed, TooManyOpen, DefinedAgain, TypeNotDefined, ComponentNotDefined, TooDeep, OutOfNodes, MembersOver, RuleBroken, BadField, SpaceShort, NoSuchGroup}
 use Rattle.lines.specs.declared.line_parts.MessageType.{MessageType}

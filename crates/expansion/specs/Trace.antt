@@ -22,8 +22,8 @@
 --   Leaves delimiter builder before next after   the same for leaving a group
 --   Fits builder              what was added and spent is within the limits, and the trace has a word for each step so far
 --   Grows builder added       the builder that is given fits as well, with as many nodes spent or more
-use Rattle.std.specs.Prelude.{◌≡◌, ℕ, ◌+◌, ◌≤◌, ◌<◌, ◌/◌, ◌%◌, Bool, false, List, [], ◌∷◌, ◌++◌, length, take}
-use Rattle.ascii.specs.Notation.{◌≡ᵇ◌, if◌then◌else◌}
+use Rattle.std.specs.Prelude.{◌≡◌, ℕ, ◌+◌, ◌≤◌, ◌<◌, ◌/◌, ◌%◌, Bool, false, List, [], ◌∷◌, ◌++◌, length, take, if◌then◌else◌}
+use Rattle.ascii.specs.Notation.{◌≡ᵇ◌}
 use Rattle.refusals.specs.declared.refusal.Refusal.{Refusal}
 use Rattle.layouts.specs.Limits.{gate_limits}
 use Rattle.layouts.specs.Layout.{group_of_lem}

@@ -7,8 +7,8 @@
 --   bad_from fields message_length rows position   the first bad field among so many rows from the position on
 --   table_check_of fields message_length        row 12 of the refusals: whether it finds something, and its place
 --   fields_of fields message                  the fields as the walk sees them
-use Rattle.std.specs.Prelude.{ℕ, zero, suc, ◌+◌, ◌*◌, ◌-◌, ◌/◌, ◌%◌, Bool, not, ◌||◌, List, length, get_or, take, drop}
-use Rattle.ascii.specs.Notation.{◌≡ᵇ◌, ◌<ᵇ◌, if◌then◌else◌}
+use Rattle.std.specs.Prelude.{ℕ, zero, suc, ◌+◌, ◌*◌, ◌-◌, ◌/◌, ◌%◌, Bool, not, ◌||◌, List, length, get_or, take, drop, if◌then◌else◌}
+use Rattle.ascii.specs.Notation.{◌≡ᵇ◌, ◌<ᵇ◌}
 use Rattle.field_table.specs.declared.field_table.TableCheck.{TableCheck}
 use Rattle.field_table.specs.declared.field_table.TableCheck.TheVariants.{Accepted, Refused}
 use Rattle.field_table.specs.WalkInput.{Fields}

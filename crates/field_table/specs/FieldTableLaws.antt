@@ -4,13 +4,12 @@
 --   AcceptedTable fields message_length   what holds of a table in which row 12 finds nothing
 use Rattle.std.proofs.Math.Path.{◌≡◌, refl}
 use Rattle.std.proofs.Common.{◌∙◌, true≢false, arith, add-one}
-use Rattle.std.specs.Prelude.{◌↔◌, ℕ, zero, suc, ◌+◌, ◌*◌, ◌-◌, ◌%◌, ◌≤◌, ◌<◌, Bool, ◌||◌, List, take, drop}
+use Rattle.std.specs.Prelude.{◌↔◌, ℕ, zero, suc, ◌+◌, ◌*◌, ◌-◌, ◌%◌, ◌≤◌, ◌<◌, Bool, ◌||◌, List, take, drop, if◌then◌else◌}
 use Rattle.std.proofs.Math.Bool.{true, false, not}
 use Rattle.std.proofs.Math.Decide.{ℕ_discrete}
 use Rattle.std.proofs.Math.Dec.{eqb, ltb}
 use Rattle.std.proofs.Math.ListN.{length}
 use borrow.Author.Tests.{eq-eqb, ne_eqb, eqb-true, lt-ltb, le-ltb, ltb-false}
-use Rattle.ascii.specs.Notation.{if◌then◌else◌}
 use Rattle.field_table.specs.declared.field_table.TableCheck.TheVariants.{Accepted, Refused}
 use Rattle.field_table.specs.FieldTable.{row_count, first_of, past_of, is_bad_field, bad_from, table_check_of, fields_of}
 

@@ -7,7 +7,7 @@
 --   spelling_of type        the type's name, as a dictionary text spells it
 --   format_of type          the form that its values have; several types share one
 --   is_multi_value type      "this type carries a space-separated list of values" (schema.rs, `is_multi_value`)
-use Rattle.std.specs.Prelude.{ℕ, Bool, true, false, List, [], ◌∷◌, get_or}
+use Rattle.std.specs.Prelude.{ℕ, Bool, true, false, List, [], ◌∷◌, get_or, if◌then◌else◌}
 use Rattle.field_types.specs.declared.field_type.FieldType.{FieldType}
 use Rattle.field_types.specs.declared.field_type.FieldType.TheVariants.{Int, Length, SeqNum, NumInGroup, TagNum, DayOfMonth, Float, Qty, Price, PriceOffset, Amt, Percentage, Char, Boolean, String, MultipleCharValue, MultipleStringValue, Country, Currency, Exchange, MonthYear, UtcTimestamp, UtcTimeOnly, UtcDateOnly, LocalMktDate, LocalMktTime, TzTimeOnly, TzTimestamp, Data, XmlData, Language, Pattern, Tenor, Reserved}
 use Rattle.field_types.specs.declared.field_type.Format.{Format}
@@ -15,7 +15,7 @@ use Rattle.field_types.specs.declared.field_type.Format.TheVariants.{SignedInteg
 use Rattle.multi_values.specs.declared.multi_value.TokenLen.TheVariants.{Any, Exactly}
 use Rattle.field_types.specs.declared.field_type.NumberedType.{NumberedType}
 use Rattle.field_types.specs.declared.field_type.NumberedType.TheVariants.{Numbered, Nothing}
-use Rattle.ascii.specs.Notation.{◌<ᵇ◌, if◌then◌else◌}
+use Rattle.ascii.specs.Notation.{◌<ᵇ◌}
 use Rattle.ascii.specs.Bytes.{ascii}
 
 abbrev pub field_types : List FieldType

@@ -8,8 +8,7 @@ use outcomes::outcome::Outcome;
 use verdicts::verdicts_call::check_values;
 
 // `words`: how many verdicts were written, one a field.
-#[unsafe(no_mangle)]
-pub extern "C" fn gate_verdicts(
+pub fn gate_verdicts(
     dictionary: &[u32],
     fields: &[u32],
     message: &[u8],

@@ -8,12 +8,7 @@ use outcomes::answers::expand_outcome;
 use outcomes::outcome::Outcome;
 
 // `words`: how many words the layout takes; `extra`: the nodes spent.
-#[unsafe(no_mangle)]
-pub extern "C" fn gate_expand(
-    dictionary: &[u32],
-    message_type: &[u8],
-    layout: &mut [u32],
-) -> Outcome
+pub fn gate_expand(dictionary: &[u32], message_type: &[u8], layout: &mut [u32]) -> Outcome
     ensures outcome { result ≡ expand_outcome (expanded_of dictionary.now message_type.now (length layout.old)) }
     ensures memory { layout.new ≡ expanded_in dictionary.now message_type.now layout.old }
 {

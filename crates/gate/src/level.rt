@@ -9,8 +9,7 @@ use levels::members::{LevelOutcome, level_of};
 use outcomes::outcome::{Outcome, answered, refused};
 
 // `words`: how many members the level has that the path of count tags leads to; `extra`: where they stand in the layout's words.
-#[unsafe(no_mangle)]
-pub extern "C" fn gate_level_members(layout: &[u32], path: &[u32]) -> Outcome
+pub fn gate_level_members(layout: &[u32], path: &[u32]) -> Outcome
     ensures outcome { result ≡ members_outcome layout.now path.now }
     ensures part { take result.words (drop result.extra layout.now) ≡ level_part gate_limits layout.now path.now }
 {

@@ -1,5 +1,6 @@
-// The gate's calls for C and Rust, on numbers and lent words: one static library, `rt staticlib gate`. include/gate.h declares them.
+// The seven calls of the gate, on numbers and lent words. The crate `gate_c` exports them to C.
 #![tactic(auto)]
+
 pub mod check_values;
 pub mod expand_type;
 pub mod level;

@@ -8,8 +8,7 @@ use outcomes::outcome::Outcome;
 use read_dictionary::read_dictionary::read_dictionary;
 
 // `words`: how many words the dictionary takes.
-#[unsafe(no_mangle)]
-pub extern "C" fn gate_read_dictionary(text: &[u8], dictionary: &mut [u32]) -> Outcome
+pub fn gate_read_dictionary(text: &[u8], dictionary: &mut [u32]) -> Outcome
     ensures outcome { result ≡ dictionary_outcome (read_of text.now (length dictionary.old)) }
     ensures memory { dictionary.new ≡ read_in text.now dictionary.old }
 {

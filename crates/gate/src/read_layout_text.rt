@@ -8,8 +8,7 @@ use outcomes::outcome::Outcome;
 use read_layout::read_layout::read_layout;
 
 // `words`: how many words the layout takes.
-#[unsafe(no_mangle)]
-pub extern "C" fn gate_read_layout(text: &[u8], layout: &mut [u32]) -> Outcome
+pub fn gate_read_layout(text: &[u8], layout: &mut [u32]) -> Outcome
     ensures outcome { result ≡ layout_outcome (read_outcome text.now (length layout.old)) }
     ensures memory { layout.new ≡ read_words text.now layout.old }
 {

@@ -8,8 +8,7 @@ use outcomes::outcome::Outcome;
 use walk::walk_call::walk_group;
 
 // `words`: how many words of events were written; `extra`: the position of the first field behind the group.
-#[unsafe(no_mangle)]
-pub extern "C" fn gate_walk_group(
+pub fn gate_walk_group(
     layout: &[u32],
     fields: &[u32],
     message: &[u8],

@@ -8,8 +8,7 @@ use outcomes::outcome::Outcome;
 use validator::message_call::walk_message;
 
 // `words`: how many words of events were written.
-#[unsafe(no_mangle)]
-pub extern "C" fn gate_walk_message(
+pub fn gate_walk_message(
     dictionary: &[u32],
     layout: &[u32],
     fields: &[u32],

@@ -1,11 +1,10 @@
 -- Laws of `GroupSteps.antt`: what each decision tells of the fields, and which decision is taken where. Assumes nothing.
-use Rattle.std.specs.Prelude.{◌≡◌, refl, ◌≢◌, ℕ, suc, ◌≤◌, ◌<◌, Bool, true, not, ◌&&◌, ◌||◌, ltb, leb, eqb}
+use Rattle.std.specs.Prelude.{◌≡◌, refl, ◌≢◌, ℕ, suc, ◌≤◌, ◌<◌, Bool, true, not, ◌&&◌, ◌||◌, ltb, leb, eqb, if◌then◌else◌}
 use Rattle.std.proofs.Common.{sym, ◌∙◌, true≢false, arith}
 use Rattle.std.proofs.Math.Bool.{false}
 use Rattle.std.proofs.lemmas.Bool.{false≢true}
 use Rattle.std.proofs.Math.Option.{Option, none, some}
 use borrow.Author.Tests.{ltb-true, leb-true, eqb-true, eqb-false, lt-ltb, le-ltb, le-leb, lt-leb, eq-eqb, ne_eqb}
-use Rattle.ascii.specs.Notation.{if◌then◌else◌}
 use Rattle.counts.specs.declared.count.Count.{Count}
 use Rattle.field_table.specs.WalkInput.{Input, count_at}
 use Rattle.group_reading.specs.GroupSteps.{ends_group, Opening, outside, too_deep, member_leads_lem, entries_follow, Step, stops, plain_field, nested_group_lem, field_step, member_leads, entry_begins, entry_stops, opening_at, step_at}

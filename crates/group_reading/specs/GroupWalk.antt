@@ -9,8 +9,8 @@
 -- Each stands on a definition by clauses (`walk_by`, `entries_by`, `scan_by`) whose first argument, the fuel, bounds the calls, and whose second
 -- is what is decided at this place (`GroupSteps.antt`). A call passes at least one field, so that the fuel given here, three calls for each
 -- field left, is never used up (`GroupWalkLaws/Fuel.antt`); where it would be, the answer holds a fault event.
-use Rattle.std.specs.Prelude.{ℕ, zero, suc, ◌+◌, ◌*◌, ◌-◌, Bool, true, false, not, ◌||◌, List, [], ◌∷◌, ◌++◌, length}
-use Rattle.ascii.specs.Notation.{◌≡ᵇ◌, if◌then◌else◌}
+use Rattle.std.specs.Prelude.{ℕ, zero, suc, ◌+◌, ◌*◌, ◌-◌, Bool, true, false, not, ◌||◌, List, [], ◌∷◌, ◌++◌, length, if◌then◌else◌}
+use Rattle.ascii.specs.Notation.{◌≡ᵇ◌}
 use Rattle.counts.specs.declared.count.Count.{Count}
 use Rattle.counts.specs.declared.count.Count.TheVariants.{Number, Nothing}
 use Rattle.events.specs.declared.event.Kind.TheVariants.{Enter, BadCount, Delim, Repeat, Close, Miscount, Deep, Leave}

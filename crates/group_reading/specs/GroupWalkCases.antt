@@ -2,10 +2,10 @@
 -- 'reading of a group' apart, and a chain of groups that reaches the bound of `EventBound.antt`. Assumes nothing.
 --
 -- A layout is given here by a chain of groups, each nested in the one before it; a field by its tag and its value.
-use Rattle.std.specs.Prelude.{◌≡◌, refl, ℕ, zero, suc, ◌+◌, ◌*◌, ◌-◌, ◌&&◌, List, [], ◌∷◌, map, length, get_or}
+use Rattle.std.specs.Prelude.{◌≡◌, refl, ℕ, zero, suc, ◌+◌, ◌*◌, ◌-◌, ◌&&◌, List, [], ◌∷◌, map, length, get_or, if◌then◌else◌}
 use Prim.Native.String.{String}
 use Rattle.std.proofs.Math.Option.{none, some}
-use Rattle.ascii.specs.Notation.{◌<ᵇ◌, ◌≡ᵇ◌, if◌then◌else◌}
+use Rattle.ascii.specs.Notation.{◌<ᵇ◌, ◌≡ᵇ◌}
 use Rattle.ascii.specs.Bytes.{ascii, non_empty, every}
 use Rattle.ascii.specs.Digits.{is_digits, decimal_from}
 use Rattle.ascii.specs.Notation.{is_between}

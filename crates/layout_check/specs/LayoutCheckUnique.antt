@@ -1,10 +1,9 @@
 -- The words tell one layout: two layouts whose arrangements begin the same words are equal. So what is read from words that hold the
 -- arrangement of a layout is read from that layout. Assumes nothing.
-use Rattle.std.specs.Prelude.{◌≡◌, refl, ℕ, zero, suc, Bool, true, false, List, [], ◌∷◌, ◌++◌, map, length, take, drop}
+use Rattle.std.specs.Prelude.{◌≡◌, refl, ℕ, zero, suc, Bool, true, false, List, [], ◌∷◌, ◌++◌, map, length, take, drop, if◌then◌else◌}
 use Rattle.std.proofs.Common.{sym, ap, ap₂, ◌∙◌, arith, length-append}
 use Rattle.std.proofs.lemmas.List.{length-map}
 use Rattle.std.proofs.Math.Seq.{take-append_seam, drop-append_seam}
-use Rattle.ascii.specs.Notation.{if◌then◌else◌}
 use Rattle.layouts.specs.Limits.{Limits}
 use Rattle.layouts.specs.Layout.{Level, Groups, Group, Layout, level_of_lem, no_groups, group_and, group_of_lem, listed, grouped, members_of, required_of, groups_of, count_tag, delimiter, count_tags_of, entry, groups_below, level_order, all_groups, all_levels, joined}
 use Rattle.layouts.specs.LayoutLaws.{group_total, group_total-first, groups_below-total, length-level_order, level_order-count_tags}

@@ -7,8 +7,7 @@
 --   BlockStart                   a `group` line and the lines behind it
 --   blocks_in depth lines         the blocks of the level that `depth` blocks are open in, up to its `end` line
 --   member_count lines, required_count lines, group_count lines   how many `member`, `required` and `group` lines there are
-use Rattle.std.specs.Prelude.{ℕ, zero, suc, Bool, true, false, List, [], ◌∷◌}
-use Rattle.ascii.specs.Notation.{if◌then◌else◌}
+use Rattle.std.specs.Prelude.{ℕ, zero, suc, Bool, true, false, List, [], ◌∷◌, if◌then◌else◌}
 use Rattle.layout_text.specs.declared.level_line.LevelLine.{LevelLine}
 use Rattle.layout_text.specs.declared.level_line.LevelLine.TheVariants.{MemberLine, RequiredLine, GroupLine, EndLine, OtherLine}
 use Rattle.layout_parts.specs.declared.layout_parts.LineTag.{LineTag}

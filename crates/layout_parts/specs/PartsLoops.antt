@@ -4,7 +4,7 @@
 --   TagsTaken text first required tags count next index now   `index` tags were put behind the `count` of the row
 --   StartsHold text starts place blocks                    from `place` on stands where the lines of each block begin
 --   GroupsPut text rows starts groups blocks new_rows new_starts count   the rows and the starts of the blocks were put behind those of `groups` others
-use Rattle.std.specs.Prelude.{◌≡◌, Bool, List, [], ◌∷◌, ◌++◌, map, length, get_or, set, take}
+use Rattle.std.specs.Prelude.{◌≡◌, Bool, List, [], ◌∷◌, ◌++◌, map, length, get_or, set, take, if◌then◌else◌}
 use Rattle.std.proofs.Math.Path.{refl}
 use Rattle.std.proofs.Common.{sym, ap, ap₂, ◌∙◌, append_assoc, append-nil, length-append, length-set, get_or-set_same, get_or-set_other}
 use Prim.Native.Nat.{ℕ, zero, suc, ◌+◌, ◌*◌, ◌-◌, ◌≤◌, ◌<◌}
@@ -13,7 +13,6 @@ use Rattle.std.proofs.Math.Numerals.{towards_suc}
 use Rattle.std.proofs.lemmas.List.Edits.{sets}
 use Rattle.std.proofs.Math.Seq.{length-sets}
 use Rattle.std.proofs.lemmas.List.{take-set-le}
-use Rattle.ascii.specs.Notation.{if◌then◌else◌}
 use Rattle.layouts.specs.GatheredLayout.{column}
 use Rattle.layouts.specs.GatheredLayoutLaws.{column-set, column-set_next, Storing, storing-begins, storing-goes_on, storing-ends}
 use Rattle.layouts.specs.LayoutLaws.{map-append}

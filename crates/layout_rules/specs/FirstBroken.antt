@@ -7,8 +7,7 @@
 --   top_broken top              the lowest rule that the top breaks
 --   first_among groups          the first broken rule of these groups and of those nested in them
 --   first_broken layout         the first broken rule
-use Rattle.std.specs.Prelude.{ℕ, Bool, not}
-use Rattle.ascii.specs.Notation.{if◌then◌else◌}
+use Rattle.std.specs.Prelude.{ℕ, Bool, not, if◌then◌else◌}
 use Rattle.layouts.specs.Layout.{Level, Groups, Group, Layout, level_of_lem, no_groups, group_and, group_of_lem, count_tag}
 use Rattle.layouts.specs.LayoutRules.{rule1, rule2, rule3, rule4, rule5, rule6, rule7}
 use Rattle.layout_rules.specs.declared.layout_rules.FirstBroken.{FirstBroken}

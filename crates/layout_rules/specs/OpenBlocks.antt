@@ -7,8 +7,7 @@
 --   held_tags level blocks                      the count tags of the groups that are closed in them
 --   block_in words depth                        the block whose four words stand behind those of `depth` others
 --   BlocksHold words blocks                    the words hold the open blocks
-use Rattle.std.specs.Prelude.{◌≡◌, ℕ, ◌+◌, ◌*◌, not, List, [], ◌∷◌, ◌++◌, length, get_or}
-use Rattle.ascii.specs.Notation.{if◌then◌else◌}
+use Rattle.std.specs.Prelude.{◌≡◌, ℕ, ◌+◌, ◌*◌, not, List, [], ◌∷◌, ◌++◌, length, get_or, if◌then◌else◌}
 use Rattle.layouts.specs.Layout.{Level, members_of, count_tags_of}
 use Rattle.layouts.specs.LayoutRules.{is_ascending, ◌∈ᵇ◌, are_among}
 use Rattle.layout_rules.specs.declared.layout_rules.FirstBroken.{FirstBroken}

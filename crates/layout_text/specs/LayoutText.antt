@@ -4,8 +4,8 @@
 --
 --   level_step_of state number line   what the line of this number does in this state: its fault, or the state behind it
 --   layout_text_of text               rows 1 to 4: how many lines the text has, or the refusal
-use Rattle.std.specs.Prelude.{ℕ, ◌+◌, ◌-◌, List, length, get_or, set, replicate}
-use Rattle.ascii.specs.Notation.{◌≤ᵇ◌, ◌<ᵇ◌, ◌≡ᵇ◌, if◌then◌else◌}
+use Rattle.std.specs.Prelude.{ℕ, ◌+◌, ◌-◌, List, length, get_or, set, replicate, if◌then◌else◌}
+use Rattle.ascii.specs.Notation.{◌≤ᵇ◌, ◌<ᵇ◌, ◌≡ᵇ◌}
 use Rattle.ascii.specs.Bytes.{non_empty}
 use Rattle.refusals.specs.declared.refusal.Refusal.{Refusal}
 use Rattle.refusals.specs.declared.refusal.Refusal.TheVariants.{TextTooLong, UnknownForm, NotAllowed, TooManyOpen}

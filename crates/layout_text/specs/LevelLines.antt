@@ -6,8 +6,7 @@
 --   lines_in pieces         the lines of a text that is cut at its line feeds
 --   lines_at text first     the lines of the text from the byte `first` on
 --   least_bytes line        how many bytes such a line has at least, with its line feed
-use Rattle.std.specs.Prelude.{ℕ, List, [], ◌∷◌, drop}
-use Rattle.ascii.specs.Notation.{if◌then◌else◌}
+use Rattle.std.specs.Prelude.{ℕ, List, [], ◌∷◌, drop, if◌then◌else◌}
 use Rattle.ascii.specs.Bytes.{non_empty}
 use Rattle.line_forms.specs.declared.line.Line.{Line}
 use Rattle.line_forms.specs.declared.line.Line.TheVariants.{Def, Value, BeginHeader, BeginTrailer, EndHeader, EndTrailer, Component, Message, Field, Group, Use, End, Member, RequiredTag, Unknown}

@@ -1,6 +1,6 @@
 -- The arrangement of a layout that meets the seven rules and the limits passes the check, whatever words stand behind it; and how many words
 -- it has. Assumes nothing.
-use Rattle.std.specs.Prelude.{◌≡◌, ℕ, zero, suc, ◌+◌, ◌*◌, ◌-◌, ◌≤◌, ◌↔◌, Bool, true, false, ◌&&◌, leb}
+use Rattle.std.specs.Prelude.{◌≡◌, ℕ, zero, suc, ◌+◌, ◌*◌, ◌-◌, ◌≤◌, ◌↔◌, Bool, true, false, ◌&&◌, leb, if◌then◌else◌}
 use Rattle.std.proofs.Math.Path.{refl, sym, ap, ap₂}
 use Rattle.std.proofs.Common.{◌∙◌, drop_at, drop-drop, get_or-drop}
 use mathlib.Core.List.{List, [], ◌∷◌, ◌++◌, map, append_assoc, append-nil}
@@ -8,7 +8,6 @@ use native.Mathlib.Omega.{arith}
 use Rattle.std.proofs.Math.ListN.{length, get_or, take, drop, length-append, length-drop, length-map, get_or-append}
 use Rattle.std.proofs.Math.Seq.{take_at, take-append-le, drop-append-le}
 use borrow.Author.Tests.{le-leb, lt-ltb, eq-eqb, leb-true}
-use Rattle.ascii.specs.Notation.{if◌then◌else◌}
 use Rattle.ascii.specs.NotationLaws.{and_left, and_right, and_both}
 use Rattle.ascii.specs.Bytes.{every}
 use Rattle.ascii.specs.BytesLaws.{non_empty-some}

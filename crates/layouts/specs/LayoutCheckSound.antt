@@ -1,14 +1,13 @@
 -- Words that pass the check begin with the arrangement of a layout that meets the seven rules and the limits: of `layout_in words`. Read from
 -- the last group to the first, the groups of an entry are among those behind, and in the order of levels the groups come as they are numbered.
 -- Assumes nothing.
-use Rattle.std.specs.Prelude.{◌≡◌, true, leb, eqb}
+use Rattle.std.specs.Prelude.{◌≡◌, true, leb, eqb, if◌then◌else◌}
 use Rattle.std.proofs.Math.Path.{refl, sym, ap, ap₂}
 use Rattle.std.proofs.Common.{◌∙◌, take-append-drop, take-take, drop-drop, take-add, le-leb}
 use Prim.Native.Nat.{ℕ, zero, suc, ◌+◌, ◌*◌, ◌-◌, ◌≤◌, ◌<◌}
 use mathlib.Core.List.{List, [], ◌∷◌, ◌++◌, map, append_assoc}
 use native.Mathlib.Omega.{arith}
 use Rattle.std.proofs.Math.ListN.{length, get_or, take, drop}
-use Rattle.ascii.specs.Notation.{if◌then◌else◌}
 use Rattle.ascii.specs.NotationLaws.{and_both}
 use Rattle.ascii.specs.BytesLaws.{drop-step, first-and_rest}
 use Rattle.layouts.specs.Limits.{Limits}

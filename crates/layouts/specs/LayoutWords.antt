@@ -23,8 +23,8 @@
 --   first_group words number     the number of the first group that stands in the level of that number
 --   groups_from words number count   the `count` groups from that number on, the last of the words being the last of them
 --   layout_in words              the layout that the words tell of
-use Rattle.std.specs.Prelude.{ℕ, zero, suc, ◌+◌, ◌*◌, ◌-◌, List, [], ◌∷◌, ◌++◌, map, length, get_or, take, drop}
-use Rattle.ascii.specs.Notation.{◌≡ᵇ◌, if◌then◌else◌}
+use Rattle.std.specs.Prelude.{ℕ, zero, suc, ◌+◌, ◌*◌, ◌-◌, List, [], ◌∷◌, ◌++◌, map, length, get_or, take, drop, if◌then◌else◌}
+use Rattle.ascii.specs.Notation.{◌≡ᵇ◌}
 use Rattle.layouts.specs.Layout.{Group, Layout, level_of_lem, group_of_lem, grouped, members_of, required_of, count_tags_of, delimiter, is_required, all_groups, all_levels, joined}
 
 unfoldable pub places_from : ℕ → List (List ℕ) → List ℕ

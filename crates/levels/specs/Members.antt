@@ -9,9 +9,9 @@
 --   group_named tag groups, level_below level path   the same on a layout: the group of that count tag, the level that the path leads to
 --   members_below found                 its members, none where there is no such level
 -- That the members handed out are those of the layout is `level_part-layout` (MembersLayout.antt).
-use Rattle.std.specs.Prelude.{ℕ, ◌+◌, List, [], ◌∷◌}
+use Rattle.std.specs.Prelude.{ℕ, ◌+◌, List, [], ◌∷◌, if◌then◌else◌}
 use Rattle.std.proofs.Math.Option.{Option, none, some}
-use Rattle.ascii.specs.Notation.{◌≡ᵇ◌, if◌then◌else◌}
+use Rattle.ascii.specs.Notation.{◌≡ᵇ◌}
 use Rattle.ascending.specs.declared.search.Found.{Found}
 use Rattle.ascending.specs.declared.search.Found.TheVariants.{At, Nothing}
 use Rattle.ascending.specs.Search.{rank_in}

@@ -9,8 +9,7 @@
 -- texts, `LayoutText.antt` of layout_text). An `end` line may name a component, a group and a message at once: it carries its name as a number and as a message type. Assumes nothing.
 --
 --   line_of bytes   the form of a line, given without its line feed
-use Rattle.std.specs.Prelude.{ℕ, Bool, true, false, List, drop}
-use Rattle.ascii.specs.Notation.{if◌then◌else◌}
+use Rattle.std.specs.Prelude.{ℕ, Bool, true, false, List, drop, if◌then◌else◌}
 use Rattle.ascii.specs.Bytes.{ascii}
 use Rattle.line_forms.specs.declared.line.Line.{Line}
 use Rattle.line_forms.specs.declared.line.Line.TheVariants.{Def, Value, BeginHeader, BeginTrailer, EndHeader, EndTrailer, Component, Message, Field, Group, Use, End, Member, RequiredTag, Unknown}

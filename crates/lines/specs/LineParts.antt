@@ -8,9 +8,9 @@
 --   word_at first bytes    four bytes from `first` on as one number, the first highest, with 0 for a byte behind the last
 --   message_type_of bytes   .. where T stands
 --   value_of bytes         .. where V stands
-use Rattle.std.specs.Prelude.{ℕ, ◌+◌, ◌*◌, ◌^◌, Bool, true, ◌&&◌, ◌||◌, not, List, [], ◌∷◌, length, get_or}
+use Rattle.std.specs.Prelude.{ℕ, ◌+◌, ◌*◌, ◌^◌, Bool, true, ◌&&◌, ◌||◌, not, List, [], ◌∷◌, length, get_or, if◌then◌else◌}
 use Prim.Native.Char.{code}
-use Rattle.ascii.specs.Notation.{◌<ᵇ◌, ◌≡ᵇ◌, if◌then◌else◌, is_between}
+use Rattle.ascii.specs.Notation.{◌<ᵇ◌, ◌≡ᵇ◌, is_between}
 use Rattle.ascii.specs.Bytes.{ascii, every}
 use Rattle.ascii.specs.Digits.{is_digits, decimal}
 use Rattle.lines.specs.declared.line_parts.Number32.{Number32}

@@ -9,9 +9,9 @@
 --   Pieces                    the pieces of a cut: each that `byte` ends, then the last, which it does not end
 --   cut byte bytes            the pieces of the bytes
 --   lines_of text              the lines of a text, and what stands behind its last line feed
-use Rattle.std.specs.Prelude.{ℕ, suc, Bool, true, false, ◌&&◌, List, [], ◌∷◌, length, take, drop}
+use Rattle.std.specs.Prelude.{ℕ, suc, Bool, true, false, ◌&&◌, List, [], ◌∷◌, length, take, drop, if◌then◌else◌}
 use Prim.Native.Char.{code}
-use Rattle.ascii.specs.Notation.{◌≡ᵇ◌, if◌then◌else◌}
+use Rattle.ascii.specs.Notation.{◌≡ᵇ◌}
 
 unfoldable pub position_of : ℕ → List ℕ → ℕ
 position_of byte [] = 0

@@ -7,9 +7,9 @@
 --   event_line kind group depth a b     event=enter group=453 depth=0 a=0 b=0
 --   verdict_line verdicts               verdicts=00000
 --   refused_line refusal                refused=N place=P
-use Rattle.std.specs.Prelude.{ℕ, ◌+◌, ◌%◌, List, [], ◌∷◌, ◌++◌}
+use Rattle.std.specs.Prelude.{ℕ, ◌+◌, ◌%◌, List, [], ◌∷◌, ◌++◌, if◌then◌else◌}
 use Prim.Native.Char.{code}
-use Rattle.ascii.specs.Notation.{◌≡ᵇ◌, if◌then◌else◌}
+use Rattle.ascii.specs.Notation.{◌≡ᵇ◌}
 use Rattle.ascii.specs.Bytes.{ascii}
 use Rattle.refusals.specs.declared.refusal.Refusal.{Refusal}
 use Rattle.refusals.specs.Refusal.{refusal_number, refusal_place}

@@ -11,9 +11,9 @@
 --   message_events                  all events, in order
 --
 -- A turn passes at least one field, so that as many turns as there are fields are enough (`MessageWalkLaws.antt`).
-use Rattle.std.specs.Prelude.{ℕ, zero, suc, Bool, not, ◌&&◌, List, [], ◌∷◌, ◌++◌}
+use Rattle.std.specs.Prelude.{ℕ, zero, suc, Bool, not, ◌&&◌, List, [], ◌∷◌, ◌++◌, if◌then◌else◌}
 use Rattle.std.proofs.Math.Option.{Option, none, some}
-use Rattle.ascii.specs.Notation.{◌≡ᵇ◌, ◌<ᵇ◌, if◌then◌else◌}
+use Rattle.ascii.specs.Notation.{◌≡ᵇ◌, ◌<ᵇ◌}
 use Rattle.events.specs.declared.event.Kind.{Kind}
 use Rattle.events.specs.declared.event.Kind.TheVariants.{Twice, Foreign, Missing}
 use Rattle.events.specs.declared.event.Event.{Event}

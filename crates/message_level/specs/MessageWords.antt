@@ -4,8 +4,8 @@
 --   required_from words number count    of so many groups from this number on, the count tags of those that are required
 --   level_of defined words              the message level; the top's groups have the first numbers
 --   events_with defined words fields message   the events of the message walk where these tags are defined
-use Rattle.std.specs.Prelude.{ℕ, zero, suc, List, [], ◌∷◌, length}
-use Rattle.ascii.specs.Notation.{◌≡ᵇ◌, if◌then◌else◌}
+use Rattle.std.specs.Prelude.{ℕ, zero, suc, List, [], ◌∷◌, length, if◌then◌else◌}
+use Rattle.ascii.specs.Notation.{◌≡ᵇ◌}
 use Rattle.layouts.specs.LayoutWords.{level_required, level_count_tags, count_tag_at, flag_at}
 use Rattle.events.specs.declared.event.Event.{Event}
 use Rattle.walk_steps.specs.WalkWords.{among, group_of, input_of, top_members}

@@ -2,9 +2,9 @@
 --
 --   TagsWritten ..     the loop of `put_missing_tags`: the tags before `index` are looked at
 --   GroupsWritten ..   the loop of `put_missing_groups`: the groups before `number` are
-use Rattle.std.specs.Prelude.{◌≡◌, refl, ℕ, zero, suc, ◌+◌, ◌*◌, ◌≤◌, ◌<◌, Bool, true, false, not, ◌&&◌, List, [], ◌∷◌, ◌++◌, eqb, length, get_or, take}
+use Rattle.std.specs.Prelude.{◌≡◌, refl, ℕ, zero, suc, ◌+◌, ◌*◌, ◌≤◌, ◌<◌, Bool, true, false, not, ◌&&◌, List, [], ◌∷◌, ◌++◌, eqb, length, get_or, take, if◌then◌else◌}
 use Rattle.std.proofs.Common.{sym, ap, ◌∙◌, append_assoc, append-nil, arith, add-one, take-suc, take_all, eq-eqb, ne_eqb}
-use Rattle.ascii.specs.Notation.{◌≡ᵇ◌, if◌then◌else◌}
+use Rattle.ascii.specs.Notation.{◌≡ᵇ◌}
 use Rattle.layouts.specs.Limits.{gate_limits}
 use Rattle.layouts.specs.LayoutWords.{required_places, group_count, level_required, level_count_tags, count_tag_at, flag_at}
 use Rattle.layouts.specs.LayoutWordsLaws.{length-stretch}

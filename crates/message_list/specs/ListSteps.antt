@@ -5,12 +5,11 @@
 --   list-expanded, list-not-expanded      the stage from the expansion on
 --   list_read, list-not-read              .. from the message text on
 --   list_written, list-not-written        .. the whole
-use Rattle.std.specs.Prelude.{◌≡◌, refl, ℕ, zero, suc, ◌*◌, ◌-◌, ◌≤◌, Bool, true, false, List, [], ◌∷◌, leb, length}
+use Rattle.std.specs.Prelude.{◌≡◌, refl, ℕ, zero, suc, ◌*◌, ◌-◌, ◌≤◌, Bool, true, false, List, [], ◌∷◌, leb, length, if◌then◌else◌}
 use Rattle.std.proofs.Math.Path.{sym}
 use Rattle.std.proofs.Common.{ap, ◌∙◌, leb-true}
 use native.Mathlib.Omega.{arith}
 use Rattle.std.proofs.Math.ListN.{take}
-use Rattle.ascii.specs.Notation.{if◌then◌else◌}
 use Rattle.refusals.specs.declared.refusal.Refusal.{Refusal}
 use Rattle.refusals.specs.declared.refusal.Refusal.TheVariants.{SpaceShort}
 use Rattle.texts.specs.declared.dictionary_text.TextOutcome.{TextOutcome}

@@ -10,9 +10,9 @@
 --   message_text_of text          how many fields the text has, or its refusal
 --   read_message_of text space    what `read_message` answers where so many words are lent
 --   fields_in text words         what the lent words hold afterwards
-use Rattle.std.specs.Prelude.{ℕ, ◌+◌, ◌*◌, List, [], ◌∷◌, ◌++◌, length, drop}
+use Rattle.std.specs.Prelude.{ℕ, ◌+◌, ◌*◌, List, [], ◌∷◌, ◌++◌, length, drop, if◌then◌else◌}
 use Prim.Native.Char.{code}
-use Rattle.ascii.specs.Notation.{◌≤ᵇ◌, ◌<ᵇ◌, ◌≡ᵇ◌, if◌then◌else◌}
+use Rattle.ascii.specs.Notation.{◌≤ᵇ◌, ◌<ᵇ◌, ◌≡ᵇ◌}
 use Rattle.ascii.specs.Bytes.{non_empty}
 use Rattle.refusals.specs.declared.refusal.Refusal.TheVariants.{TextTooLong, UnknownForm, SpaceShort}
 use Rattle.lines.specs.declared.line_parts.Number32.{Number32}

@@ -1,6 +1,6 @@
 -- Laws of `MessageText.antt`, in its order: what a line says, the loops over the lines of a text, and how many words the table has. The lines still to be
 -- read are those of `drop first text`; a search for the line feed from `first` on stopped at `past`. Assumes nothing.
-use Rattle.std.specs.Prelude.{◌≡◌, ℕ, zero, suc, ◌+◌, ◌*◌, ◌-◌, ◌≤◌, ◌<◌, Bool, true, false, List, [], ◌∷◌, ◌++◌, eqb, take, drop}
+use Rattle.std.specs.Prelude.{◌≡◌, ℕ, zero, suc, ◌+◌, ◌*◌, ◌-◌, ◌≤◌, ◌<◌, Bool, true, false, List, [], ◌∷◌, ◌++◌, eqb, take, drop, if◌then◌else◌}
 use Rattle.std.proofs.Math.Path.{refl, sym}
 use Rattle.std.proofs.Common.{ap, ◌∙◌, length-append, length-take-le, eq-eqb, ne_eqb, eqb-true, le-leb, lt-ltb, le-ltb}
 use native.Mathlib.Omega.{arith}
@@ -9,7 +9,6 @@ use Rattle.std.proofs.Math.ListN.{length, length-drop}
 use Rattle.std.proofs.lemmas.List.Edits.{sets, sets-eq}
 use Rattle.std.proofs.Math.Seq.{length-sets}
 use Rattle.std.proofs.lemmas.Bool.{eqb-false, lt-leb}
-use Rattle.ascii.specs.Notation.{if◌then◌else◌}
 use Rattle.ascii.specs.Bytes.{non_empty}
 use Rattle.ascii.specs.BytesLaws.{non_empty-some}
 use Rattle.ascii.specs.Digits.{is_digits}

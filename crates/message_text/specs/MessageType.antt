@@ -4,8 +4,8 @@
 --   type_place_of fields    where the value of the first 35 of a field table stands in the message; an empty stretch where there is none
 --   part_of stretch text   the bytes of the stretch
 --   type_in lines          the value of the first line whose tag is 35, else no bytes
-use Rattle.std.specs.Prelude.{ℕ, ◌-◌, List, [], ◌∷◌, take, drop}
-use Rattle.ascii.specs.Notation.{◌≡ᵇ◌, if◌then◌else◌}
+use Rattle.std.specs.Prelude.{ℕ, ◌-◌, List, [], ◌∷◌, take, drop, if◌then◌else◌}
+use Rattle.ascii.specs.Notation.{◌≡ᵇ◌}
 use Rattle.lines.specs.Lines.{behind, Pieces, last, piece}
 use Rattle.message_text.specs.declared.message_text.FieldLine.{FieldLine}
 use Rattle.message_text.specs.declared.message_text.FieldLine.TheVariants.{Field, NoField}

@@ -8,9 +8,9 @@
 --   is_decimal_body body          the body has digits and points alone, at least one digit and at most one point
 --   is_decimal value             "a FIX decimal: optional sign, digits, at most one point"
 --   is_day_of_month value          a run of digits that makes a number from 1 to 31
-use Rattle.std.specs.Prelude.{ℕ, Bool, false, ◌&&◌, ◌||◌, List, [], ◌∷◌, drop}
+use Rattle.std.specs.Prelude.{ℕ, Bool, false, ◌&&◌, ◌||◌, List, [], ◌∷◌, drop, if◌then◌else◌}
 use Prim.Native.Char.{code}
-use Rattle.ascii.specs.Notation.{◌≤ᵇ◌, ◌≡ᵇ◌, if◌then◌else◌, is_between}
+use Rattle.ascii.specs.Notation.{◌≤ᵇ◌, ◌≡ᵇ◌, is_between}
 use Rattle.ascii.specs.Bytes.{every, how_many}
 use Rattle.ascii.specs.Digits.{is_digit, is_digits, decimal}
 

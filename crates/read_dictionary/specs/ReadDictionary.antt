@@ -6,8 +6,8 @@
 --   needed_for read        how many words the dictionary needs whose text was counted so
 --   read_of text space     what the call answers, where so many words are lent
 --   read_in text words     what the lent words hold afterwards
-use Rattle.std.specs.Prelude.{ℕ, ◌+◌, ◌*◌, List, ◌++◌, length, drop}
-use Rattle.ascii.specs.Notation.{◌≤ᵇ◌, if◌then◌else◌}
+use Rattle.std.specs.Prelude.{ℕ, ◌+◌, ◌*◌, List, ◌++◌, length, drop, if◌then◌else◌}
+use Rattle.ascii.specs.Notation.{◌≤ᵇ◌}
 use Rattle.refusals.specs.declared.refusal.Refusal.TheVariants.{SpaceShort}
 use Rattle.line_forms.specs.declared.line.Line.{Line}
 use Rattle.texts.specs.declared.dictionary_text.Counts.{Counts}

@@ -5,8 +5,8 @@
 --
 --   read_outcome text room    how many words the layout takes, or the refusal, where there is room for so many words
 --   read_words text words     the words afterwards
-use Rattle.std.specs.Prelude.{ℕ, Bool, not, List, ◌++◌, length, drop}
-use Rattle.ascii.specs.Notation.{◌≤ᵇ◌, if◌then◌else◌}
+use Rattle.std.specs.Prelude.{ℕ, Bool, not, List, ◌++◌, length, drop, if◌then◌else◌}
+use Rattle.ascii.specs.Notation.{◌≤ᵇ◌}
 use Rattle.refusals.specs.declared.refusal.Refusal.{Refusal}
 use Rattle.refusals.specs.declared.refusal.Refusal.TheVariants.{MembersOver, RuleBroken, SpaceShort}
 use Rattle.layout_text.specs.declared.layout_text.LayoutTextOutcome.{LayoutTextOutcome}

@@ -4,13 +4,13 @@
 --   second_of word, third_of word, fourth_of word    the letters from the second, third, fourth on
 --   number_behind high bytes                       the number that `high` makes with the bytes written behind it, where they are digits
 --   NumberSoFar word high bytes                   the letters before the bytes are digits and make `high`
-use Rattle.std.specs.Prelude.{◌≡◌, ℕ, ◌+◌, ◌*◌, ◌-◌, ◌^◌, ◌<◌, Bool, ◌&&◌, cond}
+use Rattle.std.specs.Prelude.{◌≡◌, ℕ, ◌+◌, ◌*◌, ◌-◌, ◌^◌, ◌<◌, Bool, ◌&&◌, cond, if◌then◌else◌}
 use Rattle.std.proofs.Math.Path.{refl}
 use Rattle.std.proofs.Common.{◌∙◌}
 use Rattle.std.proofs.Math.Bool.{true, false}
 use mathlib.Core.List.{List, [], ◌∷◌}
 use borrow.Author.Tests.{lt-ltb, eq-eqb, ne_eqb}
-use Rattle.ascii.specs.Notation.{◌<ᵇ◌, if◌then◌else◌}
+use Rattle.ascii.specs.Notation.{◌<ᵇ◌}
 use Rattle.ascii.specs.NotationLaws.{and-false}
 use Rattle.ascii.specs.Bytes.{non_empty, every}
 use Rattle.ascii.specs.Digits.{is_digit, is_digits, decimal_from}

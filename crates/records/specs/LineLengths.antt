@@ -4,8 +4,8 @@
 --   reaches bound n     1 where the number is at least the bound
 --   length_of line       how many bytes the line has, without its line feed
 --   text_length lines    how many bytes the text of these lines has
-use Rattle.std.specs.Prelude.{ℕ, zero, suc, ◌+◌, ◌*◌, Bool, true, false, List, [], ◌∷◌, get_or}
-use Rattle.ascii.specs.Notation.{◌<ᵇ◌, if◌then◌else◌}
+use Rattle.std.specs.Prelude.{ℕ, zero, suc, ◌+◌, ◌*◌, Bool, true, false, List, [], ◌∷◌, get_or, if◌then◌else◌}
+use Rattle.ascii.specs.Notation.{◌<ᵇ◌}
 use Rattle.line_forms.specs.declared.line.Line.{Line}
 use Rattle.line_forms.specs.declared.line.Line.TheVariants.{Def, Value, BeginHeader, BeginTrailer, EndHeader, EndTrailer, Component, Message, Field, Group, Use, End, Member, RequiredTag, Unknown}
 use Rattle.lines.specs.declared.line_parts.Number32.{Number32}

@@ -6,9 +6,9 @@
 --   type_text place      the name of `FieldType` at this place
 --   bytes_from left words   the first `left` bytes of the words
 --   text_of line         the bytes of the line, without its line feed
-use Rattle.std.specs.Prelude.{ℕ, zero, suc, ◌+◌, ◌*◌, ◌-◌, ◌/◌, ◌%◌, Bool, true, false, List, [], ◌∷◌, ◌++◌, take}
+use Rattle.std.specs.Prelude.{ℕ, zero, suc, ◌+◌, ◌*◌, ◌-◌, ◌/◌, ◌%◌, Bool, true, false, List, [], ◌∷◌, ◌++◌, take, if◌then◌else◌}
 use Prim.Native.Char.{code}
-use Rattle.ascii.specs.Notation.{◌<ᵇ◌, if◌then◌else◌}
+use Rattle.ascii.specs.Notation.{◌<ᵇ◌}
 use Rattle.ascii.specs.Bytes.{ascii}
 use Rattle.line_forms.specs.declared.line.Line.{Line}
 use Rattle.line_forms.specs.declared.line.Line.TheVariants.{Def, Value, BeginHeader, BeginTrailer, EndHeader, EndTrailer, Component, Message, Field, Group, Use, End, Member, RequiredTag, Unknown}

@@ -9,8 +9,8 @@
 --   is_strict_month_year value          month and day of YYYYMMDD are in range, the month of YYYYMM and YYYYMMwN
 --   is_strict_time_of_day value          hour, minute and second of HH:MM:SS are in range
 --   is_strict_utc_timestamp value       both parts of YYYYMMDD-HH:MM:SS are in range
-use Rattle.std.specs.Prelude.{ℕ, Bool, ◌&&◌, List, take, drop}
-use Rattle.ascii.specs.Notation.{if◌then◌else◌, is_between}
+use Rattle.std.specs.Prelude.{ℕ, Bool, ◌&&◌, List, take, drop, if◌then◌else◌}
+use Rattle.ascii.specs.Notation.{is_between}
 use Rattle.ascii.specs.Digits.{is_digits_of_len, decimal}
 
 abbrev pub pair_at : ℕ → List ℕ → List ℕ

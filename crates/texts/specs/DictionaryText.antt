@@ -6,8 +6,8 @@
 --   order_of text               rows 2 to 4: the first line of no known form, out of place or of a 41st group block; else what the text has
 --   again_of text               row 5: the first line that defines again what a line before it defines
 --   dictionary_text_of text      rows 1 to 5: what an accepted dictionary text has, or the refusal
-use Rattle.std.specs.Prelude.{ℕ, ◌+◌, Bool, false, ◌||◌, List, [], ◌∷◌, ◌++◌, length}
-use Rattle.ascii.specs.Notation.{◌<ᵇ◌, ◌≡ᵇ◌, if◌then◌else◌, is_between}
+use Rattle.std.specs.Prelude.{ℕ, ◌+◌, Bool, false, ◌||◌, List, [], ◌∷◌, ◌++◌, length, if◌then◌else◌}
+use Rattle.ascii.specs.Notation.{◌<ᵇ◌, ◌≡ᵇ◌, is_between}
 use Rattle.ascii.specs.Bytes.{non_empty}
 use Rattle.refusals.specs.declared.refusal.Refusal.{Refusal}
 use Rattle.refusals.specs.declared.refusal.Refusal.TheVariants.{TextTooLong, UnknownForm, NotAllowed, DefinedAgain}

@@ -8,8 +8,8 @@
 --   space_answer, space_with events space   13, or the answer and the words written
 --   walked_of dictionary words fields message space   what the call answers
 --   events_in dictionary words fields message space   what the event space holds afterwards
-use Rattle.std.specs.Prelude.{ℕ, ◌*◌, List, ◌++◌, length, drop}
-use Rattle.ascii.specs.Notation.{◌≤ᵇ◌, if◌then◌else◌}
+use Rattle.std.specs.Prelude.{ℕ, ◌*◌, List, ◌++◌, length, drop, if◌then◌else◌}
+use Rattle.ascii.specs.Notation.{◌≤ᵇ◌}
 use Rattle.refusals.specs.declared.refusal.Refusal.TheVariants.{UnknownForm, RuleBroken, BadField, SpaceShort}
 use Rattle.definitions.specs.DefinedTags.{defined_tags}
 use Rattle.dictionary.specs.DictionaryCheck.{is_dictionary}

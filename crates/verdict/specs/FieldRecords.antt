@@ -7,8 +7,8 @@
 --   filled_in word count space        the space with its first words replaced by those given for the positions from 0 on
 --   Holds word count space           so many words of the space are those given for their positions
 --   field_record dictionary fields position   the number of the record that defines the tag of the field at the position
-use Rattle.std.specs.Prelude.{◌≡◌, ℕ, zero, suc, ◌+◌, ◌*◌, ◌<◌, Bool, List, [], ◌∷◌, ◌++◌, get_or, drop}
-use Rattle.ascii.specs.Notation.{◌<ᵇ◌, if◌then◌else◌}
+use Rattle.std.specs.Prelude.{◌≡◌, ℕ, zero, suc, ◌+◌, ◌*◌, ◌<◌, Bool, List, [], ◌∷◌, ◌++◌, get_or, drop, if◌then◌else◌}
+use Rattle.ascii.specs.Notation.{◌<ᵇ◌}
 use Rattle.field_types.specs.FieldType.{type_numbered}
 use Rattle.definitions.specs.declared.definitions.Definition.{Definition}
 use Rattle.definitions.specs.declared.definitions.Definition.TheVariants.{Defined, Undefined}

@@ -12,9 +12,8 @@
 --   typed_verdict admits strict value type      the verdict on a value of this type
 --   defined_verdict strict value field          the verdict on a value whose tag has this definition, or none
 --   check_value lines strict tag value          the verdict on the value of a field with this tag
-use Rattle.std.specs.Prelude.{ℕ, Bool, List}
+use Rattle.std.specs.Prelude.{ℕ, Bool, List, if◌then◌else◌}
 use Prim.Native.Char.{code}
-use Rattle.ascii.specs.Notation.{if◌then◌else◌}
 use Rattle.ascii.specs.Split.{split, every_part}
 use Rattle.field_types.specs.declared.field_type.FieldType.{FieldType}
 use Rattle.field_types.specs.declared.field_type.NumberedType.{NumberedType}

@@ -7,8 +7,8 @@
 --   verdicts_of dictionary strict table                    .. on all fields
 --   judged_of dictionary fields message space              what the call answers
 --   verdicts_in dictionary fields message strict space     what the space holds afterwards
-use Rattle.std.specs.Prelude.{ℕ, zero, suc, Bool, List, [], ◌∷◌, ◌++◌, length, drop}
-use Rattle.ascii.specs.Notation.{◌≤ᵇ◌, if◌then◌else◌}
+use Rattle.std.specs.Prelude.{ℕ, zero, suc, Bool, List, [], ◌∷◌, ◌++◌, length, drop, if◌then◌else◌}
+use Rattle.ascii.specs.Notation.{◌≤ᵇ◌}
 use Rattle.refusals.specs.declared.refusal.Refusal.TheVariants.{UnknownForm, BadField, SpaceShort}
 use Rattle.dictionary.specs.DictionaryWords.{word_lines}
 use Rattle.dictionary.specs.DictionaryCheck.{is_dictionary}

@@ -6,9 +6,9 @@
 --   needed_for walk                              "space for a walk's events is five words each"
 --   walked_of words fields message position tag space   what the call answers
 --   events_in words fields message position tag space   what the event space holds afterwards
-use Rattle.std.specs.Prelude.{ℕ, ◌+◌, ◌*◌, List, ◌++◌, length, drop}
+use Rattle.std.specs.Prelude.{ℕ, ◌+◌, ◌*◌, List, ◌++◌, length, drop, if◌then◌else◌}
 use Rattle.std.proofs.Math.Option.{Option, none, some}
-use Rattle.ascii.specs.Notation.{◌≤ᵇ◌, if◌then◌else◌}
+use Rattle.ascii.specs.Notation.{◌≤ᵇ◌}
 use Rattle.refusals.specs.declared.refusal.Refusal.TheVariants.{RuleBroken, BadField, SpaceShort, NoSuchGroup}
 use Rattle.layouts.specs.Limits.{gate_limits}
 use Rattle.layouts.specs.LayoutCheck.{is_layout}

@@ -2,12 +2,11 @@
 -- on readings relies on. Assumes nothing.
 --
 --   rank_of members tag   the rank of a member, its place among the members
-use Rattle.std.specs.Prelude.{◌≡◌, refl, ℕ, zero, suc, ◌+◌, ◌*◌, ◌-◌, ◌≤◌, ◌<◌, Bool, true, false, List, [], ◌∷◌, eqb, length, get_or}
+use Rattle.std.specs.Prelude.{◌≡◌, refl, ℕ, zero, suc, ◌+◌, ◌*◌, ◌-◌, ◌≤◌, ◌<◌, Bool, true, false, List, [], ◌∷◌, eqb, length, get_or, if◌then◌else◌}
 use Rattle.std.proofs.Math.Path.{sym}
 use Rattle.std.proofs.Common.{ap, ◌∙◌, true≢false, arith, eqb-true}
 use Rattle.std.proofs.Math.Option.{Option, none, some}
 use Rattle.std.proofs.Math.Nat.{ℕ_set}
-use Rattle.ascii.specs.Notation.{if◌then◌else◌}
 use Rattle.ascending.specs.declared.search.Found.{Found}
 use Rattle.ascending.specs.declared.search.Found.TheVariants.{At, Nothing}
 use Rattle.ascending.specs.Search.{StrictlyAscending, rank_from, rank_in, is_found}

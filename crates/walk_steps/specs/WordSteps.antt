@@ -4,9 +4,9 @@
 --   entry_step fields members count_tags first delimiter start cursor   what `scan_entry` does at the cursor, in an entry that begins at `start`; the
 --                          groups nested in the level have these count tags, and their numbers begin with `first`
 --   turn_at fields members enclosing delimiter declared entries cursor   what `walk_group` does at the cursor, behind so many entries
-use Rattle.std.specs.Prelude.{ℕ, Bool, not, ◌&&◌, List}
+use Rattle.std.specs.Prelude.{ℕ, Bool, not, ◌&&◌, List, if◌then◌else◌}
 use Rattle.std.proofs.Math.Option.{Option, none, some}
-use Rattle.ascii.specs.Notation.{◌<ᵇ◌, ◌≡ᵇ◌, if◌then◌else◌}
+use Rattle.ascii.specs.Notation.{◌<ᵇ◌, ◌≡ᵇ◌}
 use Rattle.counts.specs.declared.count.Count.{Count}
 use Rattle.ascending.specs.declared.search.Found.{Found}
 use Rattle.ascending.specs.declared.search.Found.TheVariants.{At, Nothing}

@@ -5,8 +5,8 @@
 --   begun_by tag depth index declared               enter, and badcount where the field at `index` declares nothing
 --   repeat_by tag depth member fresh                repeat, where the member is not fresh in its entry
 --   left_by tag depth declared unparseable entries  miscount where it is due, and leave
-use Rattle.std.specs.Prelude.{ℕ, Bool, false, not, List, [], ◌∷◌}
-use Rattle.ascii.specs.Notation.{◌≡ᵇ◌, if◌then◌else◌}
+use Rattle.std.specs.Prelude.{ℕ, Bool, false, not, List, [], ◌∷◌, if◌then◌else◌}
+use Rattle.ascii.specs.Notation.{◌≡ᵇ◌}
 use Rattle.counts.specs.declared.count.Count.{Count}
 use Rattle.counts.specs.declared.count.Count.TheVariants.{Number, Nothing}
 use Rattle.events.specs.declared.event.Kind.{Kind}

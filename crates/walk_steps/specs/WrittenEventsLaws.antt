@@ -1,7 +1,6 @@
 -- Laws of `WrittenEvents.antt`: what code writes in each case, and that it is what the walk gives. Assumes nothing.
-use Rattle.std.specs.Prelude.{◌≡◌, refl, ℕ, ◌+◌, ◌≤◌, Bool, true, false, not, ◌||◌, List, [], ◌∷◌, eqb, length}
+use Rattle.std.specs.Prelude.{◌≡◌, refl, ℕ, ◌+◌, ◌≤◌, Bool, true, false, not, ◌||◌, List, [], ◌∷◌, eqb, length, if◌then◌else◌}
 use Rattle.std.proofs.Common.{arith, eq-eqb, ne_eqb}
-use Rattle.ascii.specs.Notation.{if◌then◌else◌}
 use Rattle.counts.specs.declared.count.Count.{Count}
 use Rattle.counts.specs.declared.count.Count.TheVariants.{Number, Nothing}
 use Rattle.events.specs.declared.event.Kind.TheVariants.{Enter, BadCount, Repeat, Miscount, Leave}

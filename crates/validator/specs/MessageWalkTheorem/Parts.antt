@@ -3,7 +3,7 @@
 --
 --   Parts input level events         the events are such a row
 --   BeginsWalk input level events    the events begin with the walk of a top group
-use Rattle.std.specs.Prelude.{◌≡◌, Bool, ◌&&◌, ◌||◌, eqb}
+use Rattle.std.specs.Prelude.{◌≡◌, Bool, ◌&&◌, ◌||◌, eqb, if◌then◌else◌}
 use Rattle.std.proofs.Math.Path.{refl}
 use Rattle.std.proofs.Common.{sym, ap, ◌∙◌, true≢false, arith, ltb-true, eqb-true}
 use Prim.Native.Nat.{ℕ, zero, suc, ◌<◌}
@@ -11,7 +11,7 @@ use Rattle.std.proofs.Math.Bool.{true, false, not}
 use Rattle.std.proofs.Math.Option.{Option, none, some}
 use mathlib.Core.List.{List, [], ◌∷◌, ◌++◌, append_assoc, append-nil}
 use Rattle.std.proofs.Math.Dec.{ltb}
-use Rattle.ascii.specs.Notation.{◌≡ᵇ◌, if◌then◌else◌}
+use Rattle.ascii.specs.Notation.{◌≡ᵇ◌}
 use Rattle.ascii.specs.NotationLaws.{and_left}
 use Rattle.events.specs.declared.event.Event.{Event}
 use Rattle.ascii.specs.Membership.{◌∈ᵇ◌}

@@ -1,0 +1,21 @@
+// The verdicts on the values of a message, on lent words.
+ghost use Rattle.std.specs.Prelude.{◌≡◌};
+ghost use Rattle.verdicts.specs.Verdicts.{judged_of, verdicts_in};
+ghost use Rattle.outcomes.specs.Answers.{verdicts_outcome};
+
+use outcomes::outcome::Outcome;
+
+// `words`: how many verdicts were written, one a field.
+#[unsafe(no_mangle)]
+pub extern "C" fn gate_verdicts(
+    dictionary: &[u32],
+    fields: &[u32],
+    message: &[u8],
+    strict: bool,
+    verdicts: &mut [u64],
+) -> Outcome
+    ensures outcome { result ≡ verdicts_outcome (judged_of dictionary.now fields.now message.now verdicts.old) }
+    ensures memory { verdicts.new ≡ verdicts_in dictionary.now fields.now message.now strict verdicts.old }
+{
+    gate::check_values::gate_verdicts(dictionary, fields, message, strict, verdicts)
+}
