@@ -1,3 +1,4 @@
 // Files, read whole into lent space.
 #![tactic(auto)]
+
 pub mod file;

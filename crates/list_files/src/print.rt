@@ -2,12 +2,19 @@
 ghost use Rattle.listing.specs.ListText.{Held};
 
 use files::file::{FileRead, read_file};
-use libc::STDOUT_FILENO;
 use listing::list_text::{Listed, line_count, list_line};
 use message_list::list::list;
+use std::io;
+use std::rt::Files;
 
 // Prints the lines of the list.
-fn print_lines(listed: Listed, message: &[u8], events: &[u64], verdicts: &[u64])
+fn print_lines<R: Print>(
+    rt: &R,
+    listed: Listed,
+    message: &[u8],
+    events: &[u64],
+    verdicts: &[u64],
+) -> io::Result<()>
     requires { Held listed message.now events.now verdicts.now }
 {
     let mut out = [0u8; 65570];
@@ -15,13 +22,14 @@ fn print_lines(listed: Listed, message: &[u8], events: &[u64], verdicts: &[u64])
     let mut index: usize = 0;
     while index < count {
         let size = list_line(listed, message, events, verdicts, index, &mut out);
-        io::write_all(STDOUT_FILENO, &out[0..size]);
+        rt.write_all(&out[0..size])?;
         index += 1;
     }
+    Ok(())
 }
 
 // Prints the list of two texts.
-fn print_texts(dictionary_text: &[u8], message: &[u8]) {
+fn print_texts<R: Print>(rt: &R, dictionary_text: &[u8], message: &[u8]) -> io::Result<()> {
     let mut words = [0u32; 131068];
     let mut layout = [0u32; 59399];
     let mut fields = [0u32; 65536];
@@ -36,21 +44,27 @@ fn print_texts(dictionary_text: &[u8], message: &[u8]) {
         &mut events,
         &mut verdicts,
     );
-    print_lines(listed, message, &events, &verdicts);
+    print_lines(rt, listed, message, &events, &verdicts)
 }
 
 // Prints the list of two files. Where one of them cannot be read, nothing is printed but the reason, on standard error.
-pub fn print_list(dictionary_name: &[u8], message_name: &[u8]) {
+pub fn print_list<R: Files + Print + Eprint>(
+    rt: &R,
+    dictionary_name: &[u8],
+    message_name: &[u8],
+) -> io::Result<()> {
     let mut dictionary_text = [0u8; 65537];
-    let FileRead::Bytes(dictionary_size) = read_file(dictionary_name, &mut dictionary_text) else {
-        return;
+    let FileRead::Bytes(dictionary_size) = read_file(rt, dictionary_name, &mut dictionary_text)
+    else {
+        return Ok(());
     };
     let mut message = [0u8; 65537];
-    let FileRead::Bytes(message_size) = read_file(message_name, &mut message) else {
-        return;
+    let FileRead::Bytes(message_size) = read_file(rt, message_name, &mut message) else {
+        return Ok(());
     };
     print_texts(
+        rt,
         &dictionary_text[0..dictionary_size],
         &message[0..message_size],
-    );
+    )
 }

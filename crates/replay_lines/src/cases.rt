@@ -1,6 +1,5 @@
 // How a case went, and how the cases of a list went.
-use libc::STDOUT_FILENO;
-use std::num::wrapping_add_u64;
+use std::io;
 
 // How one case went; a line that only gives what cases run on is none.
 #[derive(Clone, Copy)]
@@ -29,7 +28,7 @@ impl Tally {
     }
 
     pub fn add(self, replayed: Replayed) -> Self {
-        let cases = wrapping_add_u64(self.cases, 1);
+        let cases = self.cases.wrapping_add(1);
         match replayed {
             Replayed::NoCase => self,
             Replayed::Same => Self {
@@ -39,13 +38,13 @@ impl Tally {
             },
             Replayed::Differs => Self {
                 cases: cases,
-                differ: wrapping_add_u64(self.differ, 1),
+                differ: self.differ.wrapping_add(1),
                 unread: self.unread,
             },
             Replayed::Unread => Self {
                 cases: cases,
                 differ: self.differ,
-                unread: wrapping_add_u64(self.unread, 1),
+                unread: self.unread.wrapping_add(1),
             },
         }
     }
@@ -60,17 +59,17 @@ pub fn same_if(same: bool) -> Replayed {
 }
 
 // Prints a line that differs or is of no known form.
-pub fn print_unless_same(line: &[u8], replayed: Replayed) {
+pub fn print_unless_same<R: Print>(rt: &R, line: &[u8], replayed: Replayed) -> io::Result<()> {
     match replayed {
-        Replayed::NoCase => {}
-        Replayed::Same => {}
-        Replayed::Differs => print_line(b"differs: ", line),
-        Replayed::Unread => print_line(b"of no known form: ", line),
+        Replayed::NoCase => Ok(()),
+        Replayed::Same => Ok(()),
+        Replayed::Differs => print_line(rt, b"differs: ", line),
+        Replayed::Unread => print_line(rt, b"of no known form: ", line),
     }
 }
 
-fn print_line(what: &[u8], line: &[u8]) {
-    io::write_all(STDOUT_FILENO, what);
-    io::write_all(STDOUT_FILENO, line);
-    io::write_all(STDOUT_FILENO, b"\n");
+fn print_line<R: Print>(rt: &R, what: &[u8], line: &[u8]) -> io::Result<()> {
+    rt.write_all(what)?;
+    rt.write_all(line)?;
+    rt.write_all(b"\n")
 }

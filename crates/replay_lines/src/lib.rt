@@ -1,6 +1,7 @@
 // What the recorded lists share: their lines, the values and numbers on them, the words that cases
 // run on, and how the cases went.
 #![tactic(auto)]
+
 pub mod block;
 pub mod cases;
 pub mod given;

@@ -3,6 +3,8 @@
 ghost use Rattle.std.specs.Prelude.{◌≤◌, length};
 
 use ascii::split::find;
+use files::file::read_full;
+use std::io::Read;
 
 // Where a line stands in the buffer, without its line feed, and where the bytes that were read end;
 // it is not there after the last one.
@@ -14,25 +16,25 @@ pub struct Line {
     pub there: bool,
 }
 
-pub fn first_line(fd: i32, buffer: &mut [u8]) -> Line
+pub fn first_line<F: Read>(file: &mut F, buffer: &mut [u8]) -> Line
     ensures { (result.first ≤ result.past) × (result.past ≤ result.filled) × (result.filled ≤ length buffer.old) }
 {
-    refill(fd, buffer, 0, 0)
+    refill(file, buffer, 0, 0)
 }
 
-pub fn next_line(fd: i32, buffer: &mut [u8], line: Line) -> Line
+pub fn next_line<F: Read>(file: &mut F, buffer: &mut [u8], line: Line) -> Line
     requires { (line.first ≤ line.past) × (line.past ≤ line.filled) × (line.filled ≤ length buffer.old) }
     ensures { (result.first ≤ result.past) × (result.past ≤ result.filled) × (result.filled ≤ length buffer.old) }
 {
     let last = line.past;
     let filled = line.filled;
     if filled <= last {
-        return refill(fd, buffer, filled, filled);
+        return refill(file, buffer, filled, filled);
     }
     let first = last + 1;
     let past = find(&buffer[0..filled], first, b'\n');
     if past == filled {
-        return refill(fd, buffer, first, filled);
+        return refill(file, buffer, first, filled);
     }
     Line {
         first,
@@ -43,13 +45,13 @@ pub fn next_line(fd: i32, buffer: &mut [u8], line: Line) -> Line
 }
 
 // Moves the bytes from `first` on to the front, reads more after them, and gives the line at the front.
-fn refill(fd: i32, buffer: &mut [u8], first: usize, filled: usize) -> Line
+fn refill<F: Read>(file: &mut F, buffer: &mut [u8], first: usize, filled: usize) -> Line
     requires { (first ≤ filled) × (filled ≤ length buffer.old) }
     ensures { (result.first ≤ result.past) × (result.past ≤ result.filled) × (result.filled ≤ length buffer.old) }
 {
     move_to_front(buffer, first, filled);
     let kept = filled - first;
-    let got = io::read_full(fd, &mut buffer[kept..]);
+    let got = read_full(file, &mut buffer[kept..]);
     let read = kept + got;
     let past = find(&buffer[0..read], 0, b'\n');
     Line {

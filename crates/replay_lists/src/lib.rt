@@ -1,4 +1,5 @@
 // The recorded lists, replayed line by line.
 #![tactic(auto)]
+
 pub mod files;
 pub mod lists;

@@ -1,6 +1,7 @@
 // Cases of `parse_count`: the value in hexadecimal, then the number that the Rust gave, or `none`.
 use ascii::split::find;
 use counts::count::{Count, parse_count};
+use itoa::Buffer;
 use replay_lines::cases::{Replayed, same_if};
 use replay_lines::hex::decode;
 
@@ -22,7 +23,6 @@ fn same_count(answer: Count, recorded: &[u8]) -> Replayed {
     let Count::Number(number) = answer else {
         return same_if(recorded.len() == 4 && recorded[0] == b'n');
     };
-    let mut digits = [0u8; 20];
-    let size = io::decimal(number, &mut digits);
-    same_if(check::same(&digits[0..size], recorded))
+    let mut digits = Buffer::new();
+    same_if(digits.format(number).as_bytes() == recorded)
 }

@@ -1,5 +1,6 @@
 // Recorded values, counts and texts: the cases of the calls that write no words.
 #![tactic(auto)]
+
 pub mod count_cases;
 pub mod recorded_text;
 pub mod text_cases;

@@ -1,5 +1,6 @@
 // Recorded walks and verdicts: the cases of the calls that write words of 64 bits.
 #![tactic(auto)]
+
 pub mod calls;
 pub mod in_space;
 pub mod message_cases;

@@ -1,5 +1,6 @@
 // Recorded dictionaries, layouts and expansions: the cases of the calls that write words of 32 bits.
 #![tactic(auto)]
+
 pub mod calls;
 pub mod dictionary_cases;
 pub mod dictionary_line;

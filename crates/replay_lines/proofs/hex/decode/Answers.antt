@@ -1,6 +1,5 @@
 -- `replay_lines::hex::decode` is safe and ends. The invariant: `index` is at most the number of bytes, of which the text has the digits and
 -- the buffer, which keeps its length, the room.
-use Rattle.std.proofs.Common.{◌≡◌, ◌-◌, ◌*◌, ◌≤◌, length, ◌∙◌, arith, length-set, rules}
 use Rattle.replay_lines.proofs.hex.decode.Goals as goal
 
 -- return NO_FORM;

@@ -1,6 +1,6 @@
 -- `replay_lines::hex::decode` is safe and ends. The invariant: `index` is at most the number of bytes, of which the text has the digits and
 -- the buffer, which keeps its length, the room.
-use Rattle.std.proofs.Common.{◌≡◌, ◌-◌, ◌*◌, ◌≤◌, length, ◌∙◌, arith, length-set, rules}
+use Rattle.std.proofs.Common.{◌≡◌, ◌-◌, ◌*◌, ◌≤◌, length}
 use Rattle.replay_lines.proofs.hex.decode.Given as goal
 
 abbrev pub invariant-loop-index : goal.invariant-loop-index

@@ -1,5 +1,4 @@
 -- `replay_lines::lines::move_to_front` is safe and ends. The invariant: `index` lies from `first` to `past`, and the buffer keeps its length.
-use Rattle.std.proofs.Common.{◌≡◌, ◌-◌, ◌≤◌, length, arith, length-set, rules}
 use Rattle.replay_lines.proofs.lines.move_to_front.Goals as goal
 
 -- fn move_to_front(buffer: &mut [u8], first: usize, past: usize)

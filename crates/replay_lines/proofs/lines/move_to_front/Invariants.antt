@@ -1,5 +1,5 @@
 -- `replay_lines::lines::move_to_front` is safe and ends. The invariant: `index` lies from `first` to `past`, and the buffer keeps its length.
-use Rattle.std.proofs.Common.{◌≡◌, ◌-◌, ◌≤◌, length, arith, length-set, rules}
+use Rattle.std.proofs.Common.{◌≡◌, ◌-◌, ◌≤◌, length}
 use Rattle.replay_lines.proofs.lines.move_to_front.Given as goal
 
 abbrev pub invariant-loop-index : goal.invariant-loop-index

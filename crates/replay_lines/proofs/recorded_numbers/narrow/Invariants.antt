@@ -1,5 +1,5 @@
 -- `replay_lines::recorded_numbers::narrow` is safe and ends. The invariant: `index` is at most the number of numbers, for which the words have room.
-use Rattle.std.proofs.Common.{◌≡◌, ◌-◌, ◌≤◌, length, arith, length-set, rules}
+use Rattle.std.proofs.Common.{◌≡◌, ◌-◌, ◌≤◌, length}
 use Rattle.replay_lines.proofs.recorded_numbers.narrow.Given as goal
 
 abbrev pub invariant-loop-index : goal.invariant-loop-index

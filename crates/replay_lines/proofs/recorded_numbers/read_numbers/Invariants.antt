@@ -1,5 +1,5 @@
 -- `replay_lines::recorded_numbers::read_numbers` is safe and ends. The invariant: the numbers keep their length, and a number is read a turn.
-use Rattle.std.proofs.Common.{◌≡◌, suc, ◌-◌, ◌≤◌, length, arith, length-set, rules}
+use Rattle.std.proofs.Common.{◌≡◌, ◌-◌, ◌≤◌, length}
 use Rattle.replay_lines.proofs.recorded_numbers.read_numbers.Given as goal
 
 abbrev pub invariant-loop-first : goal.invariant-loop-first

@@ -1,9 +1,6 @@
 -- `replay_space::word_space::is_unwritten` is safe and ends.
-use mathlib.Core.Path.{◌≡◌}
 use Prim.Native.Nat.{◌≤◌, ◌-◌}
-use native.Mathlib.Omega.{arith}
-use lib.ListN.{length, length-set}
-use borrow.Author.Rules.{rules}
+use lib.ListN.{length}
 use Rattle.replay_space.proofs.word_space.is_unwritten.Given as goal
 
 abbrev pub invariant-loop-index : goal.invariant-loop-index

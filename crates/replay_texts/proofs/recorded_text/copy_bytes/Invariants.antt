@@ -1,9 +1,7 @@
 -- `replay_texts::recorded_text::copy_bytes` is safe and ends. The invariant: the buffer keeps its length.
 use mathlib.Core.Path.{◌≡◌}
 use Prim.Native.Nat.{◌≤◌, ◌+◌, ◌-◌}
-use native.Mathlib.Omega.{arith}
-use lib.ListN.{length, length-set}
-use borrow.Author.Rules.{rules}
+use lib.ListN.{length}
 use Rattle.replay_texts.proofs.recorded_text.copy_bytes.Given as goal
 
 abbrev pub invariant-loop-index : goal.invariant-loop-index

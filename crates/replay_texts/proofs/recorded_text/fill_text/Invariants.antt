@@ -1,8 +1,6 @@
 -- `replay_texts::recorded_text::fill_text` is safe and ends. The invariant: the buffer keeps its length.
 use mathlib.Core.Path.{◌≡◌}
-use native.Mathlib.Omega.{arith}
 use lib.ListN.{length}
-use borrow.Author.Rules.{rules}
 use Rattle.replay_texts.proofs.recorded_text.fill_text.Given as goal
 
 abbrev pub invariant-loop-turns : goal.invariant-loop-turns

@@ -1,9 +1,7 @@
 -- `replay_texts::recorded_text::repeat` is safe and ends. The invariant: the place goes on from `first`, and the buffer keeps its length.
-use mathlib.Core.Path.{◌≡◌, ◌∙◌}
+use mathlib.Core.Path.{◌≡◌}
 use Prim.Native.Nat.{◌≤◌}
-use native.Mathlib.Omega.{arith}
 use lib.ListN.{length}
-use borrow.Author.Rules.{rules}
 use Rattle.replay_texts.proofs.recorded_text.repeat.Given as goal
 
 abbrev pub invariant-loop-left : goal.invariant-loop-left

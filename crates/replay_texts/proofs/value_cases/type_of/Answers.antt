@@ -3,7 +3,6 @@ use mathlib.Core.Path.{sym, ◌∙◌}
 use native.Mathlib.Omega.{arith}
 use borrow.Author.Tests.{not-false}
 use Rattle.ascii.specs.DigitsLaws.{is_digit-range}
-use borrow.Author.Rules.{rules}
 use Rattle.replay_texts.proofs.value_cases.type_of.Goals as goal
 
 pub overflow_mul-wide : goal.overflow_mul-wide
