@@ -1202,9 +1202,9 @@ module _ (trace : List ℕ) where
 
   total_more : (turns : ℕ)
       → ((place : ℕ) (starts : List Start)
-        → AllBehind place starts
-        → length trace ≤ turns + place
-        → group_total (groups_told trace starts) ≤ length starts + weight_all counts_group trace starts)
+      → AllBehind place starts
+      → length trace ≤ turns + place
+      → group_total (groups_told trace starts) ≤ length starts + weight_all counts_group trace starts)
       → (place : ℕ) (starts : List Start)
       → AllBehind place starts
       → length trace ≤ suc turns + place

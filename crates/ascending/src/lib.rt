@@ -1,4 +1,5 @@
 // Ascending words: whether they are, the search in them, and each of them once.
 #![tactic(auto)]
+
 pub mod dedup;
 pub mod search;

@@ -758,7 +758,7 @@ module _ (rest : List Line) where
     before_it = λ number low. absurd (omega arith);
     behind_it = λ number.
         elim number as (λ at. 0 ≤ at → at < length (BeginHeader ∷ rest) → is_definition (get_or (BeginHeader ∷ rest) at Unknown) ≡ false) [
-          zero ↦ λ from inside. refl
+          | zero ↦ λ from inside. refl
           | suc number ↦ λ from inside. none number (omega arith)
         ];
   }
@@ -767,12 +767,12 @@ module _ (rest : List Line) where
   parted-next line header defines parted = record {
     before_it = λ number.
         elim number as (λ at. at < suc header → is_definition (get_or (line ∷ rest) at Unknown) ≡ true) [
-          zero ↦ λ low. defines
+          | zero ↦ λ low. defines
           | suc number ↦ λ low. parted.before_it number (omega arith)
         ];
     behind_it = λ number.
         elim number as (λ at. suc header ≤ at → at < length (line ∷ rest) → is_definition (get_or (line ∷ rest) at Unknown) ≡ false) [
-          zero ↦ λ from inside. absurd (omega arith)
+          | zero ↦ λ from inside. absurd (omega arith)
           | suc number ↦ λ from inside. parted.behind_it number (omega arith) (omega arith)
         ];
   }

@@ -5,6 +5,7 @@ ghost use Rattle.formats.specs.FieldValue.{is_of_format, is_valid_value, is_in_r
 use crate::boolean::is_boolean;
 use ascii::digits::is_digits_of_len;
 use ascii::letters::is_alpha_of_len;
+use characters::characters::count_chars;
 use dates::date::{is_month_year, is_time_of_day, is_utc_timestamp};
 use field_types::field_type::{FieldType, Format};
 use multi_values::multi_value::is_multi_value_list;
@@ -12,7 +13,6 @@ use numbers::number::{is_day_of_month, is_decimal, is_integer};
 use strict_dates::strict_date::{
     is_strict_date, is_strict_month_year, is_strict_time_of_day, is_strict_utc_timestamp,
 };
-use characters::characters::count_chars;
 
 // Returns true if `value` has this form.
 pub fn is_of_format(format: Format, value: &[u8]) -> bool

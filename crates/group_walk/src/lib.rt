@@ -1,3 +1,4 @@
 // The walk of a group, its nested groups and its entries.
 #![tactic(auto)]
+
 pub mod group_walk;

@@ -1,3 +1,4 @@
 // Whether lent words are a layout.
 #![tactic(auto)]
+
 pub mod layout_check;

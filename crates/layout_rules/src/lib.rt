@@ -1,3 +1,4 @@
 // The seven rules of a layout text: the first group that breaks one, and which.
 #![tactic(auto)]
+
 pub mod layout_rules;

@@ -1,4 +1,5 @@
 // What the gate's calls answer, as numbers for C and Rust.
 #![tactic(auto)]
+
 pub mod answers;
 pub mod outcome;

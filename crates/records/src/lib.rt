@@ -1,4 +1,5 @@
 // A line of a dictionary text as a record of ten words, and how long its text is.
 #![tactic(auto)]
+
 pub mod line_texts;
 pub mod records;

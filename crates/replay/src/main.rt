@@ -2,8 +2,8 @@
 // many differ.
 #![tactic(auto)]
 
-use replay_lists::files::replay_file;
 use replay_lists::lists::List;
+use replay_lists::recorded_files::replay_file;
 use std::io;
 
 fn main(rt: HostRuntime) -> io::Result<()> {

@@ -1,5 +1,5 @@
 // The recorded lists, replayed line by line.
 #![tactic(auto)]
 
-pub mod files;
 pub mod lists;
+pub mod recorded_files;

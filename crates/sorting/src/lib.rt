@@ -1,5 +1,6 @@
 // Sorting words in place.
 #![tactic(auto)]
+
 mod heap_sort;
 mod insertion_sort;
 mod quick_sort;

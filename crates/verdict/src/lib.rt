@@ -1,3 +1,4 @@
 // The verdict on one field.
 #![tactic(auto)]
+
 pub mod verdict;

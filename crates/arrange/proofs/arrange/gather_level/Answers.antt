@@ -46,9 +46,9 @@ overflow_add-result c = omega (arith, level-within c.args.trace.now c.args.membe
 
 pub returns : goal.returns
 returns c = record {
-      gathered = level-gathered c.args.trace.now c.args.members.now c.args.required.now c.args.rows.now c.args.state c.requires.1 c.requires.2 c.wide-first.result c.wide-first.ensures c.args.tags.now c.requires.0 c.read_level-own.result _ _ _ c.read_level-own.ensures _ _ _ _ _ _ _ _ _ c.order_members-member_end.ensures c.order_required-required_end.ensures c.order_groups-kept.ensures.outcome c.order_groups-kept.ensures.memory
+  gathered = level-gathered c.args.trace.now c.args.members.now c.args.required.now c.args.rows.now c.args.state c.requires.1 c.requires.2 c.wide-first.result c.wide-first.ensures c.args.tags.now c.requires.0 c.read_level-own.result _ _ _ c.read_level-own.ensures _ _ _ _ _ _ _ _ _ c.order_members-member_end.ensures c.order_required-required_end.ensures c.order_groups-kept.ensures.outcome c.order_groups-kept.ensures.memory
       (omega (arith, c.requires.2))
       c.close_row.ensures
       refl;
-      further = refl;
-    }
+  further = refl;
+}

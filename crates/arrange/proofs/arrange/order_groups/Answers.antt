@@ -17,9 +17,9 @@ open_rows-requires c = tags-room _ _ (drop (c.args.groups - 0) c.args.tags.now) 
 
 pub returns-then-kept-eq0 : goal.returns-then-kept-eq0
 returns-then-kept-eq0 c = record {
-      outcome = tags-many _ _ (drop (c.args.groups - 0) c.args.tags.now) _ _ (own_at c.args.trace.now c.args.first).starts (all-tags c.args.tags.now c.args.groups (count_tags (own_at c.args.trace.now c.args.first).starts) c.requires.2) refl c.in_order-kept.ensures.outcome c.in_order-kept.ensures.memory;
-      memory = groups_none _ _ (drop (c.args.groups - 0) c.args.tags.now) _ _ (own_at c.args.trace.now c.args.first).starts (all-tags c.args.tags.now c.args.groups (count_tags (own_at c.args.trace.now c.args.first).starts) c.requires.2) refl c.in_order-kept.ensures.outcome c.in_order-kept.ensures.memory _ _ _ c.if-kept-eq0.true c.open_rows.ensures;
-    }
+  outcome = tags-many _ _ (drop (c.args.groups - 0) c.args.tags.now) _ _ (own_at c.args.trace.now c.args.first).starts (all-tags c.args.tags.now c.args.groups (count_tags (own_at c.args.trace.now c.args.first).starts) c.requires.2) refl c.in_order-kept.ensures.outcome c.in_order-kept.ensures.memory;
+  memory = groups_none _ _ (drop (c.args.groups - 0) c.args.tags.now) _ _ (own_at c.args.trace.now c.args.first).starts (all-tags c.args.tags.now c.args.groups (count_tags (own_at c.args.trace.now c.args.first).starts) c.requires.2) refl c.in_order-kept.ensures.outcome c.in_order-kept.ensures.memory _ _ _ c.if-kept-eq0.true c.open_rows.ensures;
+}
 
 pub slice_bounds-place_groups-end : goal.slice_bounds-place_groups-end
 slice_bounds-place_groups-end c = tags-inside _ _ (drop (c.args.groups - 0) c.args.tags.now) _ _ (own_at c.args.trace.now c.args.first).starts (all-tags c.args.tags.now c.args.groups (count_tags (own_at c.args.trace.now c.args.first).starts) c.requires.2) refl c.in_order-kept.ensures.outcome c.in_order-kept.ensures.memory
@@ -29,6 +29,6 @@ place_groups-requires c = (tags-room _ _ (drop (c.args.groups - 0) c.args.tags.n
 
 pub returns : goal.returns
 returns c = record {
-      outcome = tags-many _ _ (drop (c.args.groups - 0) c.args.tags.now) _ _ (own_at c.args.trace.now c.args.first).starts (all-tags c.args.tags.now c.args.groups (count_tags (own_at c.args.trace.now c.args.first).starts) c.requires.2) refl c.in_order-kept.ensures.outcome c.in_order-kept.ensures.memory;
-      memory = groups-placed _ _ (drop (c.args.groups - 0) c.args.tags.now) _ _ (own_at c.args.trace.now c.args.first).starts (all-tags c.args.tags.now c.args.groups (count_tags (own_at c.args.trace.now c.args.first).starts) c.requires.2) refl c.in_order-kept.ensures.outcome c.in_order-kept.ensures.memory _ _ _ _ c.open_rows.ensures c.place_groups.ensures;
-    }
+  outcome = tags-many _ _ (drop (c.args.groups - 0) c.args.tags.now) _ _ (own_at c.args.trace.now c.args.first).starts (all-tags c.args.tags.now c.args.groups (count_tags (own_at c.args.trace.now c.args.first).starts) c.requires.2) refl c.in_order-kept.ensures.outcome c.in_order-kept.ensures.memory;
+  memory = groups-placed _ _ (drop (c.args.groups - 0) c.args.tags.now) _ _ (own_at c.args.trace.now c.args.first).starts (all-tags c.args.tags.now c.args.groups (count_tags (own_at c.args.trace.now c.args.first).starts) c.requires.2) refl c.in_order-kept.ensures.outcome c.in_order-kept.ensures.memory _ _ _ _ c.open_rows.ensures c.place_groups.ensures;
+}

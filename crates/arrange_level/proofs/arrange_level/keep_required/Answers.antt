@@ -6,12 +6,12 @@ use Rattle.arrange_level.proofs.arrange_level.keep_required.Goals as goal
 -- return required.len();
 pub returns-then-first-eq0 : goal.returns-then-first-eq0
 returns-then-first-eq0 c = record {
-      outcome = (kept_top _ _ _ c.if-first-eq0.true).0;
-      memory = (kept_top _ _ _ c.if-first-eq0.true).1;
-    }
+  outcome = (kept_top _ _ _ c.if-first-eq0.true).0;
+  memory = (kept_top _ _ _ c.if-first-eq0.true).1;
+}
 
 pub returns : goal.returns
 returns c = record {
-      outcome = (kept_entry _ _ _ _ _ c.if-first-eq0.false c.retain.ensures.outcome c.retain.ensures.memory).0;
-      memory = (kept_entry _ _ _ _ _ c.if-first-eq0.false c.retain.ensures.outcome c.retain.ensures.memory).1;
-    }
+  outcome = (kept_entry _ _ _ _ _ c.if-first-eq0.false c.retain.ensures.outcome c.retain.ensures.memory).0;
+  memory = (kept_entry _ _ _ _ _ c.if-first-eq0.false c.retain.ensures.outcome c.retain.ensures.memory).1;
+}

@@ -8,9 +8,9 @@ use Rattle.ascending.proofs.dedup.dedup.Goals as goal
 -- return 0;
 pub returns-then-words-eq0 : goal.returns-then-words-eq0
 returns-then-words-eq0 c = record {
-      outcome = (dedup_empty _ c.if-words-eq0.true).0;
-      memory = (dedup_empty _ c.if-words-eq0.true).1;
-    }
+  outcome = (dedup_empty _ c.if-words-eq0.true).0;
+  memory = (dedup_empty _ c.if-words-eq0.true).1;
+}
 
 -- while index < words.len() {
 pub loop-index-init : goal.loop-index-init
@@ -28,6 +28,6 @@ shape_of-words c = c.loop-index.invariant.size
 
 pub returns : goal.returns
 returns c = record {
-      outcome = (dedup_ends _ _ _ _ c.loop-index.invariant c.loop-index-test.false).0;
-      memory = (dedup_ends _ _ _ _ c.loop-index.invariant c.loop-index-test.false).1;
-    }
+  outcome = (dedup_ends _ _ _ _ c.loop-index.invariant c.loop-index-test.false).0;
+  memory = (dedup_ends _ _ _ _ c.loop-index.invariant c.loop-index-test.false).1;
+}

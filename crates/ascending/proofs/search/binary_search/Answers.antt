@@ -7,9 +7,9 @@ use Rattle.ascending.proofs.search.binary_search.Goals as goal
 -- return Found::Nothing;
 pub returns-then-words-eq0 : goal.returns-then-words-eq0
 returns-then-words-eq0 c = record {
-      outcome = search_empty _ _ c.if-words-eq0.true;
-      there = tt;
-    }
+  outcome = search_empty _ _ c.if-words-eq0.true;
+  there = tt;
+}
 
 -- while 1 < size {
 pub loop-size-init : goal.loop-size-init
@@ -28,13 +28,13 @@ loop-size-preserved c = search_goes_down _ _ _ _ _ c.loop-size.invariant _ (omeg
 -- return Found::At(base);
 pub returns-then-last-tag : goal.returns-then-last-tag
 returns-then-last-tag c = record {
-      outcome = search_finds _ _ _ _ _ c.loop-size.invariant c.loop-size-test.false c.if-last-tag.true;
-      there = search_holds _ _ _ _ _ c.loop-size.invariant c.loop-size-test.false c.if-last-tag.true;
-    }
+  outcome = search_finds _ _ _ _ _ c.loop-size.invariant c.loop-size-test.false c.if-last-tag.true;
+  there = search_holds _ _ _ _ _ c.loop-size.invariant c.loop-size-test.false c.if-last-tag.true;
+}
 
 -- pub fn binary_search(words: &[u32], tag: u32) -> Found
 pub returns : goal.returns
 returns c = record {
-      outcome = search_misses _ _ _ _ _ c.loop-size.invariant c.loop-size-test.false c.if-last-tag.false;
-      there = tt;
-    }
+  outcome = search_misses _ _ _ _ _ c.loop-size.invariant c.loop-size-test.false c.if-last-tag.false;
+  there = tt;
+}

@@ -12,9 +12,9 @@ loop-index-init c = find_begins _ _ _
 -- return index;
 pub returns-then-value-index : goal.returns-then-value-index
 returns-then-value-index c = record {
-      place = find_stops _ _ _ _ c.loop-index.invariant c.loop-index-test.true c.if-value-index.true;
-      bounds = search rules;
-    }
+  place = find_stops _ _ _ _ c.loop-index.invariant c.loop-index-test.true c.if-value-index.true;
+  bounds = search rules;
+}
 
 pub loop-index-preserved : goal.loop-index-preserved
 loop-index-preserved c = find_goes_on _ _ _ _ c.loop-index.invariant c.loop-index-test.true c.if-value-index.false
@@ -22,6 +22,6 @@ loop-index-preserved c = find_goes_on _ _ _ _ c.loop-index.invariant c.loop-inde
 -- pub fn find(value: &[u8], from: usize, separator: u8) -> usize
 pub returns : goal.returns
 returns c = record {
-      place = find_ends _ _ _ _ c.loop-index.invariant c.loop-index-test.false;
-      bounds = search rules;
-    }
+  place = find_ends _ _ _ _ c.loop-index.invariant c.loop-index-test.false;
+  bounds = search rules;
+}

@@ -130,17 +130,17 @@ pub add_component-slice_bounds-add_body-end : goal.add_component-slice_bounds-ad
 add_component-slice_bounds-add_body-end t c = let some = spent-deep _ _ _ _ (rw c.in-Done.is at c.spend.ensures.change) in omega (arith, some, c.requires.deep, c.open_component-open.ensures.count, c.open_component-open.auto.names)
 
 pub add_component-add_body-filled-requires : goal.add_component-add_body-filled-requires
-add_component-add_body-filled-requires t c =     let some = spent-deep _ _ _ _ (rw c.in-Done.is at c.spend.ensures.change) in (
-      omega (arith, c.decreases, (spent-falls _ _ _ _ (rw c.in-Done.is at c.spend.ensures.change) (done-grown _ _ (rw c.in-Done.is at c.spend.ensures.grows)).fits).0, (spent-falls _ _ _ _ (rw c.in-Done.is at c.spend.ensures.change) (done-grown _ _ (rw c.in-Done.is at c.spend.ensures.grows)).fits).1),
-      (
-        record {
-          passed = c.requires.passed;
-          deep = omega (arith, some, c.requires.deep, ap length (names-lent _ c.args.path.now c.args.name c.open_component-open.result c.open_component-open.ensures.names));
-          fits = (done-grown _ _ (rw c.in-Done.is at c.spend.ensures.grows)).fits;
-        },
-        (component-found c.args.words.now (λ place. (c.shared_slice_known-1.given place).fits) c.requires.passed c.args.name _ (sym c.component_of.ensures.found ∙ c.in-At.is)).0.there,
-      ),
-    )
+add_component-add_body-filled-requires t c = let some = spent-deep _ _ _ _ (rw c.in-Done.is at c.spend.ensures.change) in (
+  omega (arith, c.decreases, (spent-falls _ _ _ _ (rw c.in-Done.is at c.spend.ensures.change) (done-grown _ _ (rw c.in-Done.is at c.spend.ensures.grows)).fits).0, (spent-falls _ _ _ _ (rw c.in-Done.is at c.spend.ensures.change) (done-grown _ _ (rw c.in-Done.is at c.spend.ensures.grows)).fits).1),
+  (
+    record {
+      passed = c.requires.passed;
+      deep = omega (arith, some, c.requires.deep, ap length (names-lent _ c.args.path.now c.args.name c.open_component-open.result c.open_component-open.ensures.names));
+      fits = (done-grown _ _ (rw c.in-Done.is at c.spend.ensures.grows)).fits;
+    },
+    (component-found c.args.words.now (λ place. (c.shared_slice_known-1.given place).fits) c.requires.passed c.args.name _ (sym c.component_of.ensures.found ∙ c.in-At.is)).0.there,
+  ),
+)
 
 -- fn add_component(
 pub add_component-returns-in-Stopped : goal.add_component-returns-in-Stopped
@@ -169,17 +169,17 @@ add_group-overflow_sub-below t c = let some = spent-deep _ _ _ _ (rw c.in-Done.i
 
 -- match add_body(words, group.first, below, path, true, trace, entry) {
 pub add_group-add_body-requires : goal.add_group-add_body-requires
-add_group-add_body-requires t c =     let some = spent-deep _ _ _ _ (rw c.in-Done.is at c.spend.ensures.change) in (
-      omega (arith, c.decreases, (spent-falls _ _ _ _ (rw c.in-Done.is at c.spend.ensures.change) (done-grown _ _ (rw c.in-Done.is at c.spend.ensures.grows)).fits).0, (spent-falls _ _ _ _ (rw c.in-Done.is at c.spend.ensures.change) (done-grown _ _ (rw c.in-Done.is at c.spend.ensures.grows)).fits).1, (done-grown _ _ (rw c.in-Done-enter_group.is at c.enter_group.ensures.grows)).spent),
-      (
-        record {
-          passed = c.requires.0.passed;
-          deep = omega (arith, c.requires.0.deep);
-          fits = (done-grown _ _ (rw c.in-Done-enter_group.is at c.enter_group.ensures.grows)).fits;
-        },
-        c.requires.1,
-      ),
-    )
+add_group-add_body-requires t c = let some = spent-deep _ _ _ _ (rw c.in-Done.is at c.spend.ensures.change) in (
+  omega (arith, c.decreases, (spent-falls _ _ _ _ (rw c.in-Done.is at c.spend.ensures.change) (done-grown _ _ (rw c.in-Done.is at c.spend.ensures.grows)).fits).0, (spent-falls _ _ _ _ (rw c.in-Done.is at c.spend.ensures.change) (done-grown _ _ (rw c.in-Done.is at c.spend.ensures.grows)).fits).1, (done-grown _ _ (rw c.in-Done-enter_group.is at c.enter_group.ensures.grows)).spent),
+  (
+    record {
+      passed = c.requires.0.passed;
+      deep = omega (arith, c.requires.0.deep);
+      fits = (done-grown _ _ (rw c.in-Done-enter_group.is at c.enter_group.ensures.grows)).fits;
+    },
+    c.requires.1,
+  ),
+)
 
 -- match leave_group(trace, filled, group.delimiter) {
 pub add_group-leave_group-requires : goal.add_group-leave_group-requires
@@ -211,7 +211,7 @@ pub add_group-shape_of-trace-in-Done-leave_group : goal.add_group-shape_of-trace
 add_group-shape_of-trace-in-Done-leave_group t c = c.leave_group.auto.trace ∙ c.add_body.auto.trace ∙ c.enter_group.auto.trace
 
 pub add_group-returns-in-Done-leave_group : goal.add_group-returns-in-Done-leave_group
-add_group-returns-in-Done-leave_group t c =     let left = rw c.in-Done-leave_group.is at c.leave_group.ensures.change in
+add_group-returns-in-Done-leave_group t c = let left = rw c.in-Done-leave_group.is at c.leave_group.ensures.change in
     record {
       adds = group-added (dictionary_in c.args.words.now) c.args.path.now c.args.collect c.args.group.count c.args.group.delimiter c.args.group.required (body_at (word_lines c.args.words.now) c.args.group.first) c.args.depth_left (c.args.depth_left - 1) (let some = spent-deep _ _ _ _ (rw c.in-Done.is at c.spend.ensures.change) in omega (arith, some)) c.args.builder c.args.trace.now _ (rw c.in-Done.is at c.spend.ensures.change) _ _ _ _ _ _ (rw (c.both-required.ensures, c.in-Done-enter_group.is) at c.enter_group.ensures.change) (rw c.in-UpTo.is at c.add_body.ensures).adds left;
       grows = grown_grows _ _ (group-grown _ _ _ _ _ _ (rw c.in-Done.is at c.spend.ensures.change) (done-grown _ _ (rw c.in-Done-enter_group.is at c.enter_group.ensures.grows)) (done-grown _ _ (rw c.in-UpTo.is at c.add_body.ensures).grows) (done-grown _ _ (rw c.in-Done.is at c.spend.ensures.grows)).fits _ _ _ _ left);

@@ -35,6 +35,6 @@ shape_of-names c = c.loop-count.invariant.size ∙ length-set c.args.names.now 0
 
 pub returns : goal.returns
 returns c = record {
-      count = omega (arith, c.loop-count.invariant.within, c.loop-count-test.false);
-      names = names-end _ _ _ _ _ c.loop-count.invariant c.loop-count-test.false;
-    }
+  count = omega (arith, c.loop-count.invariant.within, c.loop-count-test.false);
+  names = names-end _ _ _ _ _ c.loop-count.invariant c.loop-count-test.false;
+}

@@ -35,6 +35,6 @@ returns-in-241-to-243 c = c.expects-in-241-to-243.ensures ∙ sym (expected_afte
 pub returns-in_default : goal.returns-in_default
 returns-in_default c =
     elim c.in_default.branch [
-      in_default-via-then-lead-lt194 w ↦ c.expects-in_default.ensures ∙ sym (expected_after-below _ (omega arith))
+      | in_default-via-then-lead-lt194 w ↦ c.expects-in_default.ensures ∙ sym (expected_after-below _ (omega arith))
       | in_default-via-else-lead-lt194+else-lead-lt224+else-lead-lt237+else-lead-lt240+else-lead-lt244 w ↦ c.expects-in_default.ensures ∙ sym (expected_after-above _ (omega arith))
     ]

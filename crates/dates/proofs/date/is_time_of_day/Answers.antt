@@ -23,5 +23,7 @@ returns-then-not-has_picture c = record { outcome = sym (is_time_of_day-other c.
 
 -- pub fn is_time_of_day(value: &[u8]) -> bool
 pub returns : goal.returns
-returns c = record { outcome = c.is_fraction.ensures ∙ ap is_fraction (part_to_end c.args.value.now 8)
-    ∙ sym (is_time_of_day-clock c.args.value.now (sym c.has_picture.ensures.outcome ∙ not-false _ c.if-not-has_picture.false-raw)) }
+returns c = record {
+  outcome = c.is_fraction.ensures ∙ ap is_fraction (part_to_end c.args.value.now 8)
+      ∙ sym (is_time_of_day-clock c.args.value.now (sym c.has_picture.ensures.outcome ∙ not-false _ c.if-not-has_picture.false-raw));
+}

@@ -23,5 +23,7 @@ returns-then-not-has_picture c = record { outcome = sym (is_utc_timestamp-other 
 
 -- pub fn is_utc_timestamp(value: &[u8]) -> bool
 pub returns : goal.returns
-returns c = record { outcome = c.is_time_of_day.ensures.outcome ∙ ap is_time_of_day (part_to_end c.args.value.now 9)
-    ∙ sym (is_utc_timestamp-date c.args.value.now (sym c.has_picture.ensures.outcome ∙ not-false _ c.if-not-has_picture.false-raw)) }
+returns c = record {
+  outcome = c.is_time_of_day.ensures.outcome ∙ ap is_time_of_day (part_to_end c.args.value.now 9)
+      ∙ sym (is_utc_timestamp-date c.args.value.now (sym c.has_picture.ensures.outcome ∙ not-false _ c.if-not-has_picture.false-raw));
+}

@@ -41,7 +41,7 @@ slice_bounds-result-end c = omega (arith, (is_dictionary-parts c.args.words.now 
 -- pub fn defined_tags(words: &[u32]) -> &[u32]
 pub returns : goal.returns
 returns c = record {
-      tags = (defined_tags-part _ c.requires (λ place. omega (arith, c.shared_slice_known-1.given place)) _ refl).0;
-      ascending = (defined_tags-part _ c.requires (λ place. omega (arith, c.shared_slice_known-1.given place)) _ refl).1.0;
-      few = (defined_tags-part _ c.requires (λ place. omega (arith, c.shared_slice_known-1.given place)) _ refl).1.1;
-    }
+  tags = (defined_tags-part _ c.requires (λ place. omega (arith, c.shared_slice_known-1.given place)) _ refl).0;
+  ascending = (defined_tags-part _ c.requires (λ place. omega (arith, c.shared_slice_known-1.given place)) _ refl).1.0;
+  few = (defined_tags-part _ c.requires (λ place. omega (arith, c.shared_slice_known-1.given place)) _ refl).1.1;
+}

@@ -46,6 +46,6 @@ record_in-requires c = (omega (arith, (is_dictionary-parts c.args.words.now c.re
 pub returns : goal.returns
 unfolding component_of
 returns c = record {
-      found = c.record_in.ensures.found;
-      inside = c.record_in.ensures.inside;
-    }
+  found = c.record_in.ensures.found;
+  inside = c.record_in.ensures.inside;
+}

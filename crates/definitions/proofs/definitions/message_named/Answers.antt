@@ -57,6 +57,6 @@ record_in-requires c = (omega (arith, (is_dictionary-parts c.args.words.now c.re
 -- fn message_named(words: &[u32], letters: u32) -> Found
 pub returns : goal.returns
 returns c = record {
-      found = c.record_in.ensures.found;
-      inside = c.record_in.ensures.inside;
-    }
+  found = c.record_in.ensures.found;
+  inside = c.record_in.ensures.inside;
+}

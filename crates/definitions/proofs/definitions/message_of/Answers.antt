@@ -8,13 +8,13 @@ use Rattle.definitions.proofs.definitions.message_of.Goals as goal
 pub returns-in-Letters : goal.returns-in-Letters
 unfolding message_of
 returns-in-Letters c = record {
-      found = rw (sym c.parse_message_type.ensures ∙ c.in-Letters.is) c.message_named.ensures.found;
-      inside = c.message_named.ensures.inside;
-    }
+  found = rw (sym c.parse_message_type.ensures ∙ c.in-Letters.is) c.message_named.ensures.found;
+  inside = c.message_named.ensures.inside;
+}
 
 pub returns-in-NoLetters : goal.returns-in-NoLetters
 unfolding message_of
 returns-in-NoLetters c = record {
-      found = rw (sym c.parse_message_type.ensures ∙ c.in-NoLetters.is);
-      inside = tt;
-    }
+  found = rw (sym c.parse_message_type.ensures ∙ c.in-NoLetters.is);
+  inside = tt;
+}

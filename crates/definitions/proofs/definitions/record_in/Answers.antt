@@ -31,6 +31,6 @@ returns-in-At c = let rank_here : c.in-At.rank < c.args.count = rank_inside c.ar
 
 pub returns-in-Nothing : goal.returns-in-Nothing
 returns-in-Nothing c = record {
-      found = record_in-missing c.args.kind c.args.at c.args.count c.args.name c.args.words.now c.requires.0 c.requires.1 _ c.binary_search.ensures.outcome c.in-Nothing.is;
-      inside = tt;
-    }
+  found = record_in-missing c.args.kind c.args.at c.args.count c.args.name c.args.words.now c.requires.0 c.requires.1 _ c.binary_search.ensures.outcome c.in-Nothing.is;
+  inside = tt;
+}

@@ -65,9 +65,9 @@ returns-then-not-read c = record { outcome = sym (dictionary-disordered c.args.w
 -- if !is_index(words, 1, tags_at, tags, read.tags) {
 pub is_index-requires : goal.is_index-requires
 is_index-requires c = record {
-      in_bounds = (omega arith, (omega arith, omega arith));
-      counted = (c.read_lines-read.ensures.counts (not-false _ c.if-not-read.false)).of_tags;
-    }
+  in_bounds = (omega arith, (omega arith, omega arith));
+  counted = (c.read_lines-read.ensures.counts (not-false _ c.if-not-read.false)).of_tags;
+}
 
 -- return false;
 pub returns-then-not-is_index : goal.returns-then-not-is_index
@@ -76,9 +76,9 @@ returns-then-not-is_index c = record { outcome = sym (dictionary-tags c.args.wor
 -- if !is_index(words, 5, components_at, components, read.components) {
 pub is_index-requires-2 : goal.is_index-requires-2
 is_index-requires-2 c = record {
-      in_bounds = (omega arith, (omega arith, omega arith));
-      counted = (c.read_lines-read.ensures.counts (not-false _ c.if-not-read.false)).of_components;
-    }
+  in_bounds = (omega arith, (omega arith, omega arith));
+  counted = (c.read_lines-read.ensures.counts (not-false _ c.if-not-read.false)).of_components;
+}
 
 -- return false;
 pub returns-then-not-is_index-2 : goal.returns-then-not-is_index-2
@@ -87,9 +87,9 @@ returns-then-not-is_index-2 c = record { outcome = sym (dictionary-components c.
 -- is_index(words, 6, messages_at, messages, read.messages)
 pub is_index-requires-3 : goal.is_index-requires-3
 is_index-requires-3 c = record {
-      in_bounds = (omega arith, (omega arith, omega arith));
-      counted = (c.read_lines-read.ensures.counts (not-false _ c.if-not-read.false)).of_messages;
-    }
+  in_bounds = (omega arith, (omega arith, omega arith));
+  counted = (c.read_lines-read.ensures.counts (not-false _ c.if-not-read.false)).of_messages;
+}
 
 -- pub fn is_dictionary(words: &[u32]) -> bool
 pub returns : goal.returns

@@ -25,10 +25,10 @@ next_standing-next-requires c = c.loop-done.invariant.0.few_open
 
 pub returns-then-not-next : goal.returns-then-not-next
 returns-then-not-next c = record {
-      accepted = c.not_accepted.ensures ∙ sym (takes-faulty _ _ _ _ _ _ c.loop-done.invariant.0 c.loop-done-test.true _ c.line_at-line.ensures _ (c.next_standing-next.ensures.next _) (not-true _ c.if-not-next.true));
-      bytes = λ accepted. absurd (false≢true (sym c.not_accepted.ensures ∙ accepted));
-      counts = λ accepted. absurd (false≢true (sym c.not_accepted.ensures ∙ accepted));
-    }
+  accepted = c.not_accepted.ensures ∙ sym (takes-faulty _ _ _ _ _ _ c.loop-done.invariant.0 c.loop-done-test.true _ c.line_at-line.ensures _ (c.next_standing-next.ensures.next _) (not-true _ c.if-not-next.true));
+  bytes = λ accepted. absurd (false≢true (sym c.not_accepted.ensures ∙ accepted));
+  counts = λ accepted. absurd (false≢true (sym c.not_accepted.ensures ∙ accepted));
+}
 
 pub run_behind-run-requires : goal.run_behind-run-requires
 run_behind-run-requires c = (omega arith, omega (arith, c.loop-done.invariant.0.place, c.requires))
@@ -82,7 +82,7 @@ loop-done-preserved c = (takes-goes_on _ _ _ _ _ _ c.loop-done.invariant.0 c.loo
 -- fn take_lines(words: &[u32], lines: usize) -> LinesRead
 pub returns : goal.returns
 returns c = record {
-      accepted = c.may_end.ensures ∙ sym (takes-ends _ _ _ _ _ _ c.loop-done.invariant.0 c.loop-done-test.false);
-      bytes = λ accepted. takes-short _ _ _ _ _ _ c.loop-done.invariant.0 c.loop-done-test.false;
-      counts = λ accepted. counted-ends _ _ _ _ _ c.loop-done.invariant.1 _ c.loop-done.invariant.0.within c.loop-done-test.false;
-    }
+  accepted = c.may_end.ensures ∙ sym (takes-ends _ _ _ _ _ _ c.loop-done.invariant.0 c.loop-done-test.false);
+  bytes = λ accepted. takes-short _ _ _ _ _ _ c.loop-done.invariant.0 c.loop-done-test.false;
+  counts = λ accepted. counted-ends _ _ _ _ _ c.loop-done.invariant.1 _ c.loop-done.invariant.0.within c.loop-done-test.false;
+}

@@ -60,9 +60,9 @@ loop-lines-preserved c = field_goes_on _ _ _ _ _ _ _ _ _ _ c.loop-lines.invarian
 
 pub returns-then-flags-pair4-ne0 : goal.returns-then-flags-pair4-ne0
 returns-then-flags-pair4-ne0 c = record {
-      run = rw c.no_clean_run.ensures (run_none false 0 (drop c.args.first c.args.words.now));
-      few = rw c.no_clean_run.ensures ((omega arith, (omega arith, omega arith)));
-    }
+  run = rw c.no_clean_run.ensures (run_none false 0 (drop c.args.first c.args.words.now));
+  few = rw c.no_clean_run.ensures ((omega arith, (omega arith, omega arith)));
+}
 
 -- bytes: lines * (9 + digits),
 pub overflow_add-result : goal.overflow_add-result
@@ -74,6 +74,6 @@ overflow_mul-result c = omega (arith, product_few c.loop-lines.lines (9 + c.digi
 -- fn fields_run(count: usize, words: &[u32], first: usize) -> Run
 pub returns : goal.returns
 returns c = record {
-      run = fields-end _ _ _ _ _ _ _ _ _ _ c.loop-lines.invariant _ c.if-flags-pair4-ne0.false c.digits_within-digits.ensures.digits;
-      few = (c.loop-lines.invariant.within, (omega (arith, product_few c.loop-lines.lines (9 + c.digits_within-digits.result) 19 (omega (arith, c.digits_within-digits.ensures.few)), c.loop-lines.invariant.within, c.requires), omega arith));
-    }
+  run = fields-end _ _ _ _ _ _ _ _ _ _ c.loop-lines.invariant _ c.if-flags-pair4-ne0.false c.digits_within-digits.ensures.digits;
+  few = (c.loop-lines.invariant.within, (omega (arith, product_few c.loop-lines.lines (9 + c.digits_within-digits.result) 19 (omega (arith, c.digits_within-digits.ensures.few)), c.loop-lines.invariant.within, c.requires), omega arith));
+}

@@ -20,12 +20,12 @@ bounds-events-at-then-next-events-4 c = simp length-set (omega arith)
 
 pub returns-then-next-events : goal.returns-then-next-events
 returns-then-next-events c = record {
-      outcome = refl;
-      memory = put_in_stores c.args.events.now c.args.at c.args.event _ _ _ _ _ (omega arith) c.words_of-words.ensures.0 c.wide.ensures c.wide-then-next-events.ensures c.words_of-words.ensures.1 c.words_of-words.ensures.2;
-    }
+  outcome = refl;
+  memory = put_in_stores c.args.events.now c.args.at c.args.event _ _ _ _ _ (omega arith) c.words_of-words.ensures.0 c.wide.ensures c.wide-then-next-events.ensures c.words_of-words.ensures.1 c.words_of-words.ensures.2;
+}
 
 pub returns-else-next-events : goal.returns-else-next-events
 returns-else-next-events c = record {
-      outcome = refl;
-      memory = sym (put_in_no_room c.args.events.now c.args.at c.args.event (omega arith));
-    }
+  outcome = refl;
+  memory = sym (put_in_no_room c.args.events.now c.args.at c.args.event (omega arith));
+}

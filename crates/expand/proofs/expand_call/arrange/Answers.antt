@@ -32,9 +32,9 @@ overflow_add-needed-3 c = omega (arith, c.gather-all.ensures.few_levels, c.gathe
 
 pub returns-then-layout-needed : goal.returns-then-layout-needed
 returns-then-layout-needed c = record {
-      outcome = (layout-short c.args.trace.now _ _ _ c.args.nodes c.gather-all.result c.gather-all.ensures (omega (arith, c.requires.1, c.gather-all.auto.members)) (omega (arith, c.requires.2, c.gather-all.auto.required)) c.requires.3 c.args.layout.now c.if-layout-needed.true).0;
-      memory = (layout-short c.args.trace.now _ _ _ c.args.nodes c.gather-all.result c.gather-all.ensures (omega (arith, c.requires.1, c.gather-all.auto.members)) (omega (arith, c.requires.2, c.gather-all.auto.required)) c.requires.3 c.args.layout.now c.if-layout-needed.true).1;
-    }
+  outcome = (layout-short c.args.trace.now _ _ _ c.args.nodes c.gather-all.result c.gather-all.ensures (omega (arith, c.requires.1, c.gather-all.auto.members)) (omega (arith, c.requires.2, c.gather-all.auto.required)) c.requires.3 c.args.layout.now c.if-layout-needed.true).0;
+  memory = (layout-short c.args.trace.now _ _ _ c.args.nodes c.gather-all.result c.gather-all.ensures (omega (arith, c.requires.1, c.gather-all.auto.members)) (omega (arith, c.requires.2, c.gather-all.auto.required)) c.requires.3 c.args.layout.now c.if-layout-needed.true).1;
+}
 
 pub slice_bounds-put_layout-end : goal.slice_bounds-put_layout-end
 slice_bounds-put_layout-end c = omega (arith, c.gather-all.ensures.few_levels, c.gather-all.ensures.some_levels, c.gather-all.ensures.members_inside, c.gather-all.ensures.required_inside, c.gather-all.ensures.rows_inside, c.gather-all.auto.members, c.gather-all.auto.required, c.requires.1, c.requires.2, c.requires.3)
@@ -51,6 +51,6 @@ put_layout-requires c = layout-asks c.args.trace.now _ _ _ c.args.nodes c.gather
 
 pub returns : goal.returns
 returns c = record {
-      outcome = (layout-written c.args.trace.now _ _ _ c.args.nodes c.gather-all.result c.gather-all.ensures (omega (arith, c.requires.1, c.gather-all.auto.members)) (omega (arith, c.requires.2, c.gather-all.auto.required)) c.requires.3 c.args.layout.now (omega (arith, c.if-layout-needed.false)) _ c.put_layout.ensures).0;
-      memory = (layout-written c.args.trace.now _ _ _ c.args.nodes c.gather-all.result c.gather-all.ensures (omega (arith, c.requires.1, c.gather-all.auto.members)) (omega (arith, c.requires.2, c.gather-all.auto.required)) c.requires.3 c.args.layout.now (omega (arith, c.if-layout-needed.false)) _ c.put_layout.ensures).1;
-    }
+  outcome = (layout-written c.args.trace.now _ _ _ c.args.nodes c.gather-all.result c.gather-all.ensures (omega (arith, c.requires.1, c.gather-all.auto.members)) (omega (arith, c.requires.2, c.gather-all.auto.required)) c.requires.3 c.args.layout.now (omega (arith, c.if-layout-needed.false)) _ c.put_layout.ensures).0;
+  memory = (layout-written c.args.trace.now _ _ _ c.args.nodes c.gather-all.result c.gather-all.ensures (omega (arith, c.requires.1, c.gather-all.auto.members)) (omega (arith, c.requires.2, c.gather-all.auto.required)) c.requires.3 c.args.layout.now (omega (arith, c.if-layout-needed.false)) _ c.put_layout.ensures).1;
+}

@@ -11,6 +11,6 @@ arrange-requires c = (long_room _ _ _ _ _ c.requires.0 c.requires.1 refl refl re
 
 pub returns : goal.returns
 returns c = record {
-      outcome = c.arrange.ensures.outcome;
-      memory = c.arrange.ensures.memory;
-    }
+  outcome = c.arrange.ensures.outcome;
+  memory = c.arrange.ensures.memory;
+}

@@ -11,6 +11,6 @@ arrange-requires c = (short-room 512 (omega arith) c.args.trace.now c.requires _
 
 pub returns : goal.returns
 returns c = record {
-      outcome = c.arrange.ensures.outcome;
-      memory = c.arrange.ensures.memory;
-    }
+  outcome = c.arrange.ensures.outcome;
+  memory = c.arrange.ensures.memory;
+}

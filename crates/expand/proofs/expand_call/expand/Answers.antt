@@ -8,9 +8,9 @@ use Rattle.expand.proofs.expand_call.expand.Goals as goal
 -- return Expanded::Refused(Refusal::UnknownForm(0));
 pub returns-then-not-is_dictionary : goal.returns-then-not-is_dictionary
 returns-then-not-is_dictionary c = record {
-      outcome = (expand_no_dictionary c.args.dictionary.now c.args.message_type.now c.args.layout.now (sym c.is_dictionary.ensures.outcome ∙ not-true _ c.if-not-is_dictionary.true-raw)).0;
-      memory = (expand_no_dictionary c.args.dictionary.now c.args.message_type.now c.args.layout.now (sym c.is_dictionary.ensures.outcome ∙ not-true _ c.if-not-is_dictionary.true-raw)).1;
-    }
+  outcome = (expand_no_dictionary c.args.dictionary.now c.args.message_type.now c.args.layout.now (sym c.is_dictionary.ensures.outcome ∙ not-true _ c.if-not-is_dictionary.true-raw)).0;
+  memory = (expand_no_dictionary c.args.dictionary.now c.args.message_type.now c.args.layout.now (sym c.is_dictionary.ensures.outcome ∙ not-true _ c.if-not-is_dictionary.true-raw)).1;
+}
 
 -- expand_short(dictionary, message_type, layout)
 pub expand_short-requires : goal.expand_short-requires

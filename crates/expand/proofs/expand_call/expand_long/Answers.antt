@@ -18,18 +18,18 @@ arrange_long-requires c = (told-short c.args.dictionary.now c.args.message_type.
 -- fn expand_long(dictionary: &[u32], message_type: &[u8], layout: &mut [u32]) -> Expanded
 pub returns-in-Error : goal.returns-in-Error
 returns-in-Error c = record {
-      outcome = (expand_refused c.args.dictionary.now c.args.message_type.now c.args.layout.now c.requires _ _ c.expand.ensures _ (c.in-Stopped.is ∙ ap Stopped c.in-Error.is)).0;
-      memory = (expand_refused c.args.dictionary.now c.args.message_type.now c.args.layout.now c.requires _ _ c.expand.ensures _ (c.in-Stopped.is ∙ ap Stopped c.in-Error.is)).1;
-    }
+  outcome = (expand_refused c.args.dictionary.now c.args.message_type.now c.args.layout.now c.requires _ _ c.expand.ensures _ (c.in-Stopped.is ∙ ap Stopped c.in-Error.is)).0;
+  memory = (expand_refused c.args.dictionary.now c.args.message_type.now c.args.layout.now c.requires _ _ c.expand.ensures _ (c.in-Stopped.is ∙ ap Stopped c.in-Error.is)).1;
+}
 
 pub returns-in-NoRoom : goal.returns-in-NoRoom
 returns-in-NoRoom c = record {
-      outcome = absurd (expand_room c.args.dictionary.now c.args.message_type.now c.args.layout.now c.requires _ _ c.expand.ensures (c.in-Stopped.is ∙ ap Stopped c.in-NoRoom.is) (omega (arith, c.expand.auto.trace)));
-      memory = absurd (expand_room c.args.dictionary.now c.args.message_type.now c.args.layout.now c.requires _ _ c.expand.ensures (c.in-Stopped.is ∙ ap Stopped c.in-NoRoom.is) (omega (arith, c.expand.auto.trace)));
-    }
+  outcome = absurd (expand_room c.args.dictionary.now c.args.message_type.now c.args.layout.now c.requires _ _ c.expand.ensures (c.in-Stopped.is ∙ ap Stopped c.in-NoRoom.is) (omega (arith, c.expand.auto.trace)));
+  memory = absurd (expand_room c.args.dictionary.now c.args.message_type.now c.args.layout.now c.requires _ _ c.expand.ensures (c.in-Stopped.is ∙ ap Stopped c.in-NoRoom.is) (omega (arith, c.expand.auto.trace)));
+}
 
 pub returns-in-Done : goal.returns-in-Done
 returns-in-Done c = record {
-      outcome = (expand_arranged c.args.dictionary.now c.args.message_type.now c.args.layout.now c.requires _ _ c.expand.ensures _ c.in-Done.is _ _ c.arrange_long.ensures.outcome c.arrange_long.ensures.memory).0;
-      memory = (expand_arranged c.args.dictionary.now c.args.message_type.now c.args.layout.now c.requires _ _ c.expand.ensures _ c.in-Done.is _ _ c.arrange_long.ensures.outcome c.arrange_long.ensures.memory).1;
-    }
+  outcome = (expand_arranged c.args.dictionary.now c.args.message_type.now c.args.layout.now c.requires _ _ c.expand.ensures _ c.in-Done.is _ _ c.arrange_long.ensures.outcome c.arrange_long.ensures.memory).0;
+  memory = (expand_arranged c.args.dictionary.now c.args.message_type.now c.args.layout.now c.requires _ _ c.expand.ensures _ c.in-Done.is _ _ c.arrange_long.ensures.outcome c.arrange_long.ensures.memory).1;
+}

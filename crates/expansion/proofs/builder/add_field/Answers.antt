@@ -9,18 +9,18 @@ add_required-requires c = (done-grown _ _ (rw c.in-Done.is at c.add_member-membe
 
 pub returns-in-Done : goal.returns-in-Done
 returns-in-Done c = record {
-      change = rw c.if-required.true (field_required _ _ _ _ _ _ _ (rw c.in-Done.is at c.add_member-member.ensures.change) c.add_required.ensures.change);
-      grows = (grows_then _ _ _ (done-grown _ _ (rw c.in-Done.is at c.add_member-member.ensures.grows)) c.add_required.ensures.grows);
-    }
+  change = rw c.if-required.true (field_required _ _ _ _ _ _ _ (rw c.in-Done.is at c.add_member-member.ensures.change) c.add_required.ensures.change);
+  grows = (grows_then _ _ _ (done-grown _ _ (rw c.in-Done.is at c.add_member-member.ensures.grows)) c.add_required.ensures.grows);
+}
 
 pub returns-in-Stopped : goal.returns-in-Stopped
 returns-in-Stopped c = record {
-      change = rw c.if-required.true (field_over _ _ _ _ _ (rw c.in-Stopped.is at c.add_member-member.ensures.change));
-      grows = (stopped_grows _ _);
-    }
+  change = rw c.if-required.true (field_over _ _ _ _ _ (rw c.in-Stopped.is at c.add_member-member.ensures.change));
+  grows = (stopped_grows _ _);
+}
 
 pub returns : goal.returns
 returns c = record {
-      change = rw c.if-required.false (field_optional _ _ _ _ _ c.add_member-member.ensures.change);
-      grows = (c.add_member-member.ensures.grows);
-    }
+  change = rw c.if-required.false (field_optional _ _ _ _ _ c.add_member-member.ensures.change);
+  grows = (c.add_member-member.ensures.grows);
+}

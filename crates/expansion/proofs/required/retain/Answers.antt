@@ -28,6 +28,6 @@ shape_of-required c = c.loop-index.invariant.size
 
 pub returns : goal.returns
 returns c = record {
-      outcome = (retain_ends _ _ _ _ _ c.loop-index.invariant c.loop-index-test.false).0;
-      memory = (retain_ends _ _ _ _ _ c.loop-index.invariant c.loop-index-test.false).1;
-    }
+  outcome = (retain_ends _ _ _ _ _ c.loop-index.invariant c.loop-index-test.false).0;
+  memory = (retain_ends _ _ _ _ _ c.loop-index.invariant c.loop-index-test.false).1;
+}

@@ -6,6 +6,6 @@ use Rattle.gate.proofs.check_values.gate_verdicts.Goals as goal
 
 pub returns : goal.returns
 returns c = record {
-      outcome = c.verdicts_outcome.ensures ∙ ap verdicts_outcome c.check_values-judged.ensures.outcome;
-      memory = c.check_values-judged.ensures.memory;
-    }
+  outcome = c.verdicts_outcome.ensures ∙ ap verdicts_outcome c.check_values-judged.ensures.outcome;
+  memory = c.check_values-judged.ensures.memory;
+}

@@ -6,6 +6,6 @@ use Rattle.gate.proofs.expand_type.gate_expand.Goals as goal
 
 pub returns : goal.returns
 returns c = record {
-      outcome = c.expand_outcome.ensures ∙ ap expand_outcome c.expand-expanded.ensures.outcome;
-      memory = c.expand-expanded.ensures.memory;
-    }
+  outcome = c.expand_outcome.ensures ∙ ap expand_outcome c.expand-expanded.ensures.outcome;
+  memory = c.expand-expanded.ensures.memory;
+}

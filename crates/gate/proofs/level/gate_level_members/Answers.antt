@@ -25,12 +25,12 @@ bounds-layout-place c = omega (arith, (reached_inside gate_limits c.args.layout.
 -- #[no_mangle]
 pub returns-in-Reached : goal.returns-in-Reached
 returns-in-Reached c = record {
-      outcome = (hands_out_members _ _ _ _ _ _ (sym c.level_of.ensures.outcome ∙ c.in-Reached.is) c.stretch_at-members.ensures c.wide-first.ensures c.answered.ensures.outcome).0;
-      part = (hands_out_members _ _ _ _ _ _ (sym c.level_of.ensures.outcome ∙ c.in-Reached.is) c.stretch_at-members.ensures c.wide-first.ensures c.answered.ensures.outcome).1;
-    }
+  outcome = (hands_out_members _ _ _ _ _ _ (sym c.level_of.ensures.outcome ∙ c.in-Reached.is) c.stretch_at-members.ensures c.wide-first.ensures c.answered.ensures.outcome).0;
+  part = (hands_out_members _ _ _ _ _ _ (sym c.level_of.ensures.outcome ∙ c.in-Reached.is) c.stretch_at-members.ensures c.wide-first.ensures c.answered.ensures.outcome).1;
+}
 
 pub returns-in-Refused : goal.returns-in-Refused
 returns-in-Refused c = record {
-      outcome = (hands_out_none _ _ _ _ (sym c.level_of.ensures.outcome ∙ c.in-Refused.is) c.refused.ensures.outcome).0;
-      part = (hands_out_none _ _ _ _ (sym c.level_of.ensures.outcome ∙ c.in-Refused.is) c.refused.ensures.outcome).1;
-    }
+  outcome = (hands_out_none _ _ _ _ (sym c.level_of.ensures.outcome ∙ c.in-Refused.is) c.refused.ensures.outcome).0;
+  part = (hands_out_none _ _ _ _ (sym c.level_of.ensures.outcome ∙ c.in-Refused.is) c.refused.ensures.outcome).1;
+}

@@ -6,6 +6,6 @@ use Rattle.gate.proofs.read_dictionary_text.gate_read_dictionary.Goals as goal
 
 pub returns : goal.returns
 returns c = record {
-      outcome = c.dictionary_outcome.ensures ∙ ap dictionary_outcome c.read_dictionary-read.ensures.outcome;
-      memory = c.read_dictionary-read.ensures.memory;
-    }
+  outcome = c.dictionary_outcome.ensures ∙ ap dictionary_outcome c.read_dictionary-read.ensures.outcome;
+  memory = c.read_dictionary-read.ensures.memory;
+}

@@ -6,6 +6,6 @@ use Rattle.gate.proofs.read_layout_text.gate_read_layout.Goals as goal
 
 pub returns : goal.returns
 returns c = record {
-      outcome = c.layout_outcome.ensures ∙ ap layout_outcome c.read_layout-read.ensures.outcome;
-      memory = c.read_layout-read.ensures.memory;
-    }
+  outcome = c.layout_outcome.ensures ∙ ap layout_outcome c.read_layout-read.ensures.outcome;
+  memory = c.read_layout-read.ensures.memory;
+}

@@ -6,6 +6,6 @@ use Rattle.gate.proofs.walk_group.gate_walk_group.Goals as goal
 
 pub returns : goal.returns
 returns c = record {
-      outcome = c.walk_outcome.ensures ∙ ap walk_outcome c.walk_group-walked.ensures.outcome;
-      memory = c.walk_group-walked.ensures.memory;
-    }
+  outcome = c.walk_outcome.ensures ∙ ap walk_outcome c.walk_group-walked.ensures.outcome;
+  memory = c.walk_group-walked.ensures.memory;
+}

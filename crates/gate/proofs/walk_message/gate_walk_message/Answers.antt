@@ -6,6 +6,6 @@ use Rattle.gate.proofs.walk_message.gate_walk_message.Goals as goal
 
 pub returns : goal.returns
 returns c = record {
-      outcome = c.message_outcome.ensures ∙ ap message_outcome c.walk_message-walked.ensures.outcome;
-      memory = c.walk_message-walked.ensures.memory;
-    }
+  outcome = c.message_outcome.ensures ∙ ap message_outcome c.walk_message-walked.ensures.outcome;
+  memory = c.walk_message-walked.ensures.memory;
+}

@@ -44,9 +44,9 @@ scan_entry-overflow_add-group-3 t c = omega (arith, c.requires.lent.valid, c.req
 
 pub scan_entry-first_group_of-first-requires : goal.scan_entry-first_group_of-first-requires
 scan_entry-first_group_of-first-requires t c = record {
-      passed = c.requires.lent.passed;
-      level_bound = omega (arith, c.requires.lent.valid);
-    }
+  passed = c.requires.lent.passed;
+  level_bound = omega (arith, c.requires.lent.valid);
+}
 
 -- loop {
 pub scan_entry-loop-rank-init : goal.scan_entry-loop-rank-init
@@ -55,10 +55,10 @@ scan_entry-loop-rank-init t c = entry-starts c.args.words.now c.args.fields.now 
 -- match step_at(fields, members, tags, first, delimiter, start, cursor) {
 pub scan_entry-step_at-requires : goal.scan_entry-step_at-requires
 scan_entry-step_at-requires t c = record {
-      strictly_ascending = (level-searches c.args.words.now c.requires.lent.passed c.requires.lent.few_groups_lem c.args.group c.requires.lent.valid _ _ _ c.members_at-members.ensures c.count_tags_at-tags.ensures c.first_group_of-first.ensures).0;
-      strictly_ascending_2 = (level-searches c.args.words.now c.requires.lent.passed c.requires.lent.few_groups_lem c.args.group c.requires.lent.valid _ _ _ c.members_at-members.ensures c.count_tags_at-tags.ensures c.first_group_of-first.ensures).1.0;
-      tags_bound = (level-searches c.args.words.now c.requires.lent.passed c.requires.lent.few_groups_lem c.args.group c.requires.lent.valid _ _ _ c.members_at-members.ensures c.count_tags_at-tags.ensures c.first_group_of-first.ensures).1.1;
-    }
+  strictly_ascending = (level-searches c.args.words.now c.requires.lent.passed c.requires.lent.few_groups_lem c.args.group c.requires.lent.valid _ _ _ c.members_at-members.ensures c.count_tags_at-tags.ensures c.first_group_of-first.ensures).0;
+  strictly_ascending_2 = (level-searches c.args.words.now c.requires.lent.passed c.requires.lent.few_groups_lem c.args.group c.requires.lent.valid _ _ _ c.members_at-members.ensures c.count_tags_at-tags.ensures c.first_group_of-first.ensures).1.0;
+  tags_bound = (level-searches c.args.words.now c.requires.lent.passed c.requires.lent.few_groups_lem c.args.group c.requires.lent.valid _ _ _ c.members_at-members.ensures c.count_tags_at-tags.ensures c.first_group_of-first.ensures).1.1;
+}
 
 -- let inserted = seen.insert_rank(rank);
 pub scan_entry-insert_rank-inserted-requires : goal.scan_entry-insert_rank-inserted-requires
@@ -93,7 +93,7 @@ scan_entry-overflow_add-below t c = omega (arith, c.requires.shallow)
 
 -- let nested = walk_group(
 pub scan_entry-walk_group-nested-requires : goal.scan_entry-walk_group-nested-requires
-scan_entry-walk_group-nested-requires t c =     let inside = field_inside c.args.words.now c.args.fields.now c.args.message.now c.requires.lent.passed c.args.group c.requires.lent.valid c.args.start c.args.depth c.args.events.now c.args.at 4 _ _ c.loop-rank.cursor _ _ c.loop-rank.invariant _ _ (entry-nested c.args.words.now c.args.fields.now c.args.message.now c.args.group c.args.start c.loop-rank.cursor _ (level-step c.args.words.now c.args.group _ _ _ _ c.members_at-members.ensures c.delimiter_at-delimiter.ensures c.count_tags_at-tags.ensures c.first_group_of-first.ensures c.args.fields.now c.args.start c.loop-rank.cursor _ c.step_at.ensures) _ _ _ c.in-Nested.is).0 in
+scan_entry-walk_group-nested-requires t c = let inside = field_inside c.args.words.now c.args.fields.now c.args.message.now c.requires.lent.passed c.args.group c.requires.lent.valid c.args.start c.args.depth c.args.events.now c.args.at 4 _ _ c.loop-rank.cursor _ _ c.loop-rank.invariant _ _ (entry-nested c.args.words.now c.args.fields.now c.args.message.now c.args.group c.args.start c.loop-rank.cursor _ (level-step c.args.words.now c.args.group _ _ _ _ c.members_at-members.ensures c.delimiter_at-delimiter.ensures c.count_tags_at-tags.ensures c.first_group_of-first.ensures c.args.fields.now c.args.start c.loop-rank.cursor _ c.step_at.ensures) _ _ _ c.in-Nested.is).0 in
     let repeats = repeat_room c.args.words.now c.args.fields.now c.args.message.now c.requires.lent.passed c.args.group c.requires.lent.valid c.args.start c.args.depth c.args.events.now c.args.at 4 _ _ c.loop-rank.cursor _ _ c.loop-rank.invariant _ _ (entry-nested c.args.words.now c.args.fields.now c.args.message.now c.args.group c.args.start c.loop-rank.cursor _ (level-step c.args.words.now c.args.group _ _ _ _ c.members_at-members.ensures c.delimiter_at-delimiter.ensures c.count_tags_at-tags.ensures c.first_group_of-first.ensures c.args.fields.now c.args.start c.loop-rank.cursor _ c.step_at.ensures) _ _ _ c.in-Nested.is).0 _ _ c.insert_rank-inserted-in-Nested.ensures.0 c.insert_rank-inserted-in-Nested.ensures.1 _ c.count_tag_at-tag.ensures _ _ c.put_repeat-to-in-Nested.ensures in (
       omega (arith, c.decreases, inside, c.loop-rank.invariant.ahead, c.requires.shallow),
       record {
@@ -111,7 +111,7 @@ scan_entry-walk_group-nested-requires t c =     let inside = field_inside c.args
 
 -- loop {
 pub scan_entry-loop-rank-smaller : goal.scan_entry-loop-rank-smaller
-scan_entry-loop-rank-smaller t c =     let inside = field_inside c.args.words.now c.args.fields.now c.args.message.now c.requires.lent.passed c.args.group c.requires.lent.valid c.args.start c.args.depth c.args.events.now c.args.at 4 _ _ c.loop-rank.cursor _ _ c.loop-rank.invariant _ _ (entry-nested c.args.words.now c.args.fields.now c.args.message.now c.args.group c.args.start c.loop-rank.cursor _ (level-step c.args.words.now c.args.group _ _ _ _ c.members_at-members.ensures c.delimiter_at-delimiter.ensures c.count_tags_at-tags.ensures c.first_group_of-first.ensures c.args.fields.now c.args.start c.loop-rank.cursor _ c.step_at.ensures) _ _ _ c.in-Nested.is).0 in
+scan_entry-loop-rank-smaller t c = let inside = field_inside c.args.words.now c.args.fields.now c.args.message.now c.requires.lent.passed c.args.group c.requires.lent.valid c.args.start c.args.depth c.args.events.now c.args.at 4 _ _ c.loop-rank.cursor _ _ c.loop-rank.invariant _ _ (entry-nested c.args.words.now c.args.fields.now c.args.message.now c.args.group c.args.start c.loop-rank.cursor _ (level-step c.args.words.now c.args.group _ _ _ _ c.members_at-members.ensures c.delimiter_at-delimiter.ensures c.count_tags_at-tags.ensures c.first_group_of-first.ensures c.args.fields.now c.args.start c.loop-rank.cursor _ c.step_at.ensures) _ _ _ c.in-Nested.is).0 in
     omega (arith, inside, nested-moves c.args.words.now c.args.fields.now c.args.message.now c.requires.lent.passed c.args.group c.requires.lent.valid c.args.start c.args.depth c.args.events.now c.args.at 4 _ _ c.loop-rank.cursor _ _ c.loop-rank.invariant _ _ (entry-nested c.args.words.now c.args.fields.now c.args.message.now c.args.group c.args.start c.loop-rank.cursor _ (level-step c.args.words.now c.args.group _ _ _ _ c.members_at-members.ensures c.delimiter_at-delimiter.ensures c.count_tags_at-tags.ensures c.first_group_of-first.ensures c.args.fields.now c.args.start c.loop-rank.cursor _ c.step_at.ensures) _ _ _ c.in-Nested.is).0 _ _ c.insert_rank-inserted-in-Nested.ensures.0 c.insert_rank-inserted-in-Nested.ensures.1 _ c.count_tag_at-tag.ensures _ _ c.put_repeat-to-in-Nested.ensures _ c.spoilt_by-unparseable-in-Nested.ensures _ (entry-nested c.args.words.now c.args.fields.now c.args.message.now c.args.group c.args.start c.loop-rank.cursor _ (level-step c.args.words.now c.args.group _ _ _ _ c.members_at-members.ensures c.delimiter_at-delimiter.ensures c.count_tags_at-tags.ensures c.first_group_of-first.ensures c.args.fields.now c.args.start c.loop-rank.cursor _ c.step_at.ensures) _ _ _ c.in-Nested.is).1 _ _ _ _ c.members_at-members.ensures c.walk_group-nested.ensures)
 
 pub scan_entry-loop-rank-preserved : goal.scan_entry-loop-rank-preserved
@@ -156,9 +156,9 @@ scan_wide-overflow_add-group-3 t c = omega (arith, c.requires.lent.valid, c.requ
 
 pub scan_wide-first_group_of-first-requires : goal.scan_wide-first_group_of-first-requires
 scan_wide-first_group_of-first-requires t c = record {
-      passed = c.requires.lent.passed;
-      level_bound = omega (arith, c.requires.lent.valid);
-    }
+  passed = c.requires.lent.passed;
+  level_bound = omega (arith, c.requires.lent.valid);
+}
 
 -- loop {
 pub scan_wide-loop-rank-init : goal.scan_wide-loop-rank-init
@@ -167,10 +167,10 @@ scan_wide-loop-rank-init t c = entry-starts c.args.words.now c.args.fields.now c
 -- match step_at(fields, members, tags, first, delimiter, start, cursor) {
 pub scan_wide-step_at-requires : goal.scan_wide-step_at-requires
 scan_wide-step_at-requires t c = record {
-      strictly_ascending = (level-searches c.args.words.now c.requires.lent.passed c.requires.lent.few_groups_lem c.args.group c.requires.lent.valid _ _ _ c.members_at-members.ensures c.count_tags_at-tags.ensures c.first_group_of-first.ensures).0;
-      strictly_ascending_2 = (level-searches c.args.words.now c.requires.lent.passed c.requires.lent.few_groups_lem c.args.group c.requires.lent.valid _ _ _ c.members_at-members.ensures c.count_tags_at-tags.ensures c.first_group_of-first.ensures).1.0;
-      tags_bound = (level-searches c.args.words.now c.requires.lent.passed c.requires.lent.few_groups_lem c.args.group c.requires.lent.valid _ _ _ c.members_at-members.ensures c.count_tags_at-tags.ensures c.first_group_of-first.ensures).1.1;
-    }
+  strictly_ascending = (level-searches c.args.words.now c.requires.lent.passed c.requires.lent.few_groups_lem c.args.group c.requires.lent.valid _ _ _ c.members_at-members.ensures c.count_tags_at-tags.ensures c.first_group_of-first.ensures).0;
+  strictly_ascending_2 = (level-searches c.args.words.now c.requires.lent.passed c.requires.lent.few_groups_lem c.args.group c.requires.lent.valid _ _ _ c.members_at-members.ensures c.count_tags_at-tags.ensures c.first_group_of-first.ensures).1.0;
+  tags_bound = (level-searches c.args.words.now c.requires.lent.passed c.requires.lent.few_groups_lem c.args.group c.requires.lent.valid _ _ _ c.members_at-members.ensures c.count_tags_at-tags.ensures c.first_group_of-first.ensures).1.1;
+}
 
 -- let inserted = seen.insert_rank(rank);
 pub scan_wide-insert_rank-inserted-requires : goal.scan_wide-insert_rank-inserted-requires
@@ -205,7 +205,7 @@ scan_wide-overflow_add-below t c = omega (arith, c.requires.shallow)
 
 -- let nested = walk_group(
 pub scan_wide-walk_group-nested-requires : goal.scan_wide-walk_group-nested-requires
-scan_wide-walk_group-nested-requires t c =     let inside = field_inside c.args.words.now c.args.fields.now c.args.message.now c.requires.lent.passed c.args.group c.requires.lent.valid c.args.start c.args.depth c.args.events.now c.args.at 128 _ _ c.loop-rank.cursor _ _ c.loop-rank.invariant _ _ (entry-nested c.args.words.now c.args.fields.now c.args.message.now c.args.group c.args.start c.loop-rank.cursor _ (level-step c.args.words.now c.args.group _ _ _ _ c.members_at-members.ensures c.delimiter_at-delimiter.ensures c.count_tags_at-tags.ensures c.first_group_of-first.ensures c.args.fields.now c.args.start c.loop-rank.cursor _ c.step_at.ensures) _ _ _ c.in-Nested.is).0 in
+scan_wide-walk_group-nested-requires t c = let inside = field_inside c.args.words.now c.args.fields.now c.args.message.now c.requires.lent.passed c.args.group c.requires.lent.valid c.args.start c.args.depth c.args.events.now c.args.at 128 _ _ c.loop-rank.cursor _ _ c.loop-rank.invariant _ _ (entry-nested c.args.words.now c.args.fields.now c.args.message.now c.args.group c.args.start c.loop-rank.cursor _ (level-step c.args.words.now c.args.group _ _ _ _ c.members_at-members.ensures c.delimiter_at-delimiter.ensures c.count_tags_at-tags.ensures c.first_group_of-first.ensures c.args.fields.now c.args.start c.loop-rank.cursor _ c.step_at.ensures) _ _ _ c.in-Nested.is).0 in
     let repeats = repeat_room c.args.words.now c.args.fields.now c.args.message.now c.requires.lent.passed c.args.group c.requires.lent.valid c.args.start c.args.depth c.args.events.now c.args.at 128 _ _ c.loop-rank.cursor _ _ c.loop-rank.invariant _ _ (entry-nested c.args.words.now c.args.fields.now c.args.message.now c.args.group c.args.start c.loop-rank.cursor _ (level-step c.args.words.now c.args.group _ _ _ _ c.members_at-members.ensures c.delimiter_at-delimiter.ensures c.count_tags_at-tags.ensures c.first_group_of-first.ensures c.args.fields.now c.args.start c.loop-rank.cursor _ c.step_at.ensures) _ _ _ c.in-Nested.is).0 _ _ c.insert_rank-inserted-in-Nested.ensures.0 c.insert_rank-inserted-in-Nested.ensures.1 _ c.count_tag_at-tag.ensures _ _ c.put_repeat-to-in-Nested.ensures in (
       omega (arith, c.decreases, inside, c.loop-rank.invariant.ahead, c.requires.shallow),
       record {
@@ -223,7 +223,7 @@ scan_wide-walk_group-nested-requires t c =     let inside = field_inside c.args.
 
 -- loop {
 pub scan_wide-loop-rank-smaller : goal.scan_wide-loop-rank-smaller
-scan_wide-loop-rank-smaller t c =     let inside = field_inside c.args.words.now c.args.fields.now c.args.message.now c.requires.lent.passed c.args.group c.requires.lent.valid c.args.start c.args.depth c.args.events.now c.args.at 128 _ _ c.loop-rank.cursor _ _ c.loop-rank.invariant _ _ (entry-nested c.args.words.now c.args.fields.now c.args.message.now c.args.group c.args.start c.loop-rank.cursor _ (level-step c.args.words.now c.args.group _ _ _ _ c.members_at-members.ensures c.delimiter_at-delimiter.ensures c.count_tags_at-tags.ensures c.first_group_of-first.ensures c.args.fields.now c.args.start c.loop-rank.cursor _ c.step_at.ensures) _ _ _ c.in-Nested.is).0 in
+scan_wide-loop-rank-smaller t c = let inside = field_inside c.args.words.now c.args.fields.now c.args.message.now c.requires.lent.passed c.args.group c.requires.lent.valid c.args.start c.args.depth c.args.events.now c.args.at 128 _ _ c.loop-rank.cursor _ _ c.loop-rank.invariant _ _ (entry-nested c.args.words.now c.args.fields.now c.args.message.now c.args.group c.args.start c.loop-rank.cursor _ (level-step c.args.words.now c.args.group _ _ _ _ c.members_at-members.ensures c.delimiter_at-delimiter.ensures c.count_tags_at-tags.ensures c.first_group_of-first.ensures c.args.fields.now c.args.start c.loop-rank.cursor _ c.step_at.ensures) _ _ _ c.in-Nested.is).0 in
     omega (arith, inside, nested-moves c.args.words.now c.args.fields.now c.args.message.now c.requires.lent.passed c.args.group c.requires.lent.valid c.args.start c.args.depth c.args.events.now c.args.at 128 _ _ c.loop-rank.cursor _ _ c.loop-rank.invariant _ _ (entry-nested c.args.words.now c.args.fields.now c.args.message.now c.args.group c.args.start c.loop-rank.cursor _ (level-step c.args.words.now c.args.group _ _ _ _ c.members_at-members.ensures c.delimiter_at-delimiter.ensures c.count_tags_at-tags.ensures c.first_group_of-first.ensures c.args.fields.now c.args.start c.loop-rank.cursor _ c.step_at.ensures) _ _ _ c.in-Nested.is).0 _ _ c.insert_rank-inserted-in-Nested.ensures.0 c.insert_rank-inserted-in-Nested.ensures.1 _ c.count_tag_at-tag.ensures _ _ c.put_repeat-to-in-Nested.ensures _ c.spoilt_by-unparseable-in-Nested.ensures _ (entry-nested c.args.words.now c.args.fields.now c.args.message.now c.args.group c.args.start c.loop-rank.cursor _ (level-step c.args.words.now c.args.group _ _ _ _ c.members_at-members.ensures c.delimiter_at-delimiter.ensures c.count_tags_at-tags.ensures c.first_group_of-first.ensures c.args.fields.now c.args.start c.loop-rank.cursor _ c.step_at.ensures) _ _ _ c.in-Nested.is).1 _ _ _ _ c.members_at-members.ensures c.walk_group-nested.ensures)
 
 pub scan_wide-loop-rank-preserved : goal.scan_wide-loop-rank-preserved
@@ -266,9 +266,9 @@ walk_group-returns-then-depth-gt32 t c = walk_too_deep c.args.words.now c.args.f
 -- let declared = count_at(fields, message, index);
 pub walk_group-count_at-declared-requires : goal.walk_group-count_at-declared-requires
 walk_group-count_at-declared-requires t c = record {
-      accepted_table = c.requires.lent.table;
-      index_bound = (omega (arith, c.row_count.ensures, c.if-row_count-index.false));
-    }
+  accepted_table = c.requires.lent.table;
+  index_bound = (omega (arith, c.row_count.ensures, c.if-row_count-index.false));
+}
 
 -- let members = members_at(words, 1 + group);
 pub walk_group-overflow_add-group : goal.walk_group-overflow_add-group
@@ -296,9 +296,9 @@ walk_group-loop-member-init t c = group-starts c.args.words.now c.args.fields.no
 -- match opening_at(
 pub walk_group-opening_at-requires : goal.walk_group-opening_at-requires
 walk_group-opening_at-requires t c = record {
-      strictly_ascending = level-ascends c.args.words.now c.requires.lent.passed c.args.group c.requires.lent.valid _ c.members_at-members.ensures;
-      strictly_ascending_2 = c.requires.around;
-    }
+  strictly_ascending = level-ascends c.args.words.now c.requires.lent.passed c.args.group c.requires.lent.valid _ c.members_at-members.ensures;
+  strictly_ascending_2 = c.requires.around;
+}
 
 -- to = put_event(events, to, tag, depth, Kind::Delim(member));
 pub walk_group-put_event-to-requires : goal.walk_group-put_event-to-requires
@@ -306,11 +306,11 @@ walk_group-put_event-to-requires t c = omega (arith, c.loop-member.invariant.roo
 
 -- let entry = scan_entry(fields, message, words, group, cursor, depth, events, to);
 pub walk_group-scan_entry-entry-requires : goal.walk_group-scan_entry-entry-requires
-walk_group-scan_entry-entry-requires t c =     let opened : EntryOpened c.args.words.now c.args.fields.now c.args.message.now c.args.enclosing.now c.args.group c.args.index c.args.depth c.put_start-to.new.events c.put_start-to.result c.count_tag_at-tag.result c.loop-member.cursor c.loop-member.entries c.match-opening_at.events c.match-opening_at.to c.match-opening_at.unparseable =
-      elim c.match-opening_at.branch [
-        walk_group-in-Entry w ↦ let begins = turn-entry c.args.words.now c.args.fields.now c.args.message.now c.args.enclosing.now c.args.group c.count_at-declared.result c.loop-member.entries c.loop-member.cursor _ (level-turn c.args.words.now c.args.group _ _ c.members_at-members.ensures c.delimiter_at-delimiter.ensures c.args.fields.now c.args.enclosing.now c.count_at-declared.result c.loop-member.entries c.loop-member.cursor _ c.opening_at.ensures) w.in-Entry.is in entry-opens c.args.words.now c.args.fields.now c.args.message.now c.args.enclosing.now c.requires.lent.passed c.args.group c.requires.lent.valid c.args.index c.args.depth _ _ (omega (arith, c.row_count.ensures, c.if-row_count-index.false)) c.if-depth-gt32.false c.count_at-declared.result c.count_at-declared.ensures _ c.count_tag_at-tag.ensures _ _ c.loop-member.cursor c.loop-member.entries c.loop-member.unparseable c.loop-member.invariant begins.0 begins.1 _ w.events-is _ w.to-is _ w.unparseable-is
-        | walk_group-in-Lead w ↦ let leads = turn-lead c.args.words.now c.args.fields.now c.args.message.now c.args.enclosing.now c.args.group c.count_at-declared.result c.loop-member.entries c.loop-member.cursor _ (level-turn c.args.words.now c.args.group _ _ c.members_at-members.ensures c.delimiter_at-delimiter.ensures c.args.fields.now c.args.enclosing.now c.count_at-declared.result c.loop-member.entries c.loop-member.cursor _ c.opening_at.ensures) _ w.in-Lead.is in lead-opens c.args.words.now c.args.fields.now c.args.message.now c.args.enclosing.now c.requires.lent.passed c.args.group c.requires.lent.valid c.args.index c.args.depth _ _ (omega (arith, c.row_count.ensures, c.if-row_count-index.false)) c.if-depth-gt32.false c.count_at-declared.result c.count_at-declared.ensures _ c.count_tag_at-tag.ensures _ _ c.loop-member.cursor c.loop-member.entries c.loop-member.unparseable c.loop-member.invariant leads.0 leads.1 _ leads.2 _ _ w.put_event-to.ensures _ w.events-is _ w.to-is _ w.unparseable-is
-      ] in (
+walk_group-scan_entry-entry-requires t c = let opened : EntryOpened c.args.words.now c.args.fields.now c.args.message.now c.args.enclosing.now c.args.group c.args.index c.args.depth c.put_start-to.new.events c.put_start-to.result c.count_tag_at-tag.result c.loop-member.cursor c.loop-member.entries c.match-opening_at.events c.match-opening_at.to c.match-opening_at.unparseable =
+    elim c.match-opening_at.branch [
+      | walk_group-in-Entry w ↦ let begins = turn-entry c.args.words.now c.args.fields.now c.args.message.now c.args.enclosing.now c.args.group c.count_at-declared.result c.loop-member.entries c.loop-member.cursor _ (level-turn c.args.words.now c.args.group _ _ c.members_at-members.ensures c.delimiter_at-delimiter.ensures c.args.fields.now c.args.enclosing.now c.count_at-declared.result c.loop-member.entries c.loop-member.cursor _ c.opening_at.ensures) w.in-Entry.is in entry-opens c.args.words.now c.args.fields.now c.args.message.now c.args.enclosing.now c.requires.lent.passed c.args.group c.requires.lent.valid c.args.index c.args.depth _ _ (omega (arith, c.row_count.ensures, c.if-row_count-index.false)) c.if-depth-gt32.false c.count_at-declared.result c.count_at-declared.ensures _ c.count_tag_at-tag.ensures _ _ c.loop-member.cursor c.loop-member.entries c.loop-member.unparseable c.loop-member.invariant begins.0 begins.1 _ w.events-is _ w.to-is _ w.unparseable-is
+      | walk_group-in-Lead w ↦ let leads = turn-lead c.args.words.now c.args.fields.now c.args.message.now c.args.enclosing.now c.args.group c.count_at-declared.result c.loop-member.entries c.loop-member.cursor _ (level-turn c.args.words.now c.args.group _ _ c.members_at-members.ensures c.delimiter_at-delimiter.ensures c.args.fields.now c.args.enclosing.now c.count_at-declared.result c.loop-member.entries c.loop-member.cursor _ c.opening_at.ensures) _ w.in-Lead.is in lead-opens c.args.words.now c.args.fields.now c.args.message.now c.args.enclosing.now c.requires.lent.passed c.args.group c.requires.lent.valid c.args.index c.args.depth _ _ (omega (arith, c.row_count.ensures, c.if-row_count-index.false)) c.if-depth-gt32.false c.count_at-declared.result c.count_at-declared.ensures _ c.count_tag_at-tag.ensures _ _ c.loop-member.cursor c.loop-member.entries c.loop-member.unparseable c.loop-member.invariant leads.0 leads.1 _ leads.2 _ _ w.put_event-to.ensures _ w.events-is _ w.to-is _ w.unparseable-is
+    ] in (
       omega (arith, c.decreases, opened.inside, c.loop-member.invariant.ahead),
       record {
         lent = c.requires.lent;
@@ -325,10 +325,10 @@ walk_group-scan_entry-entry-requires t c =     let opened : EntryOpened c.args.w
 -- to = put_event(events, entry.at, tag, depth, close);
 pub walk_group-put_event-to-requires-then-members-le256 : goal.walk_group-put_event-to-requires-then-members-le256
 walk_group-put_event-to-requires-then-members-le256 t c = let opened : EntryOpened c.args.words.now c.args.fields.now c.args.message.now c.args.enclosing.now c.args.group c.args.index c.args.depth c.put_start-to.new.events c.put_start-to.result c.count_tag_at-tag.result c.loop-member.cursor c.loop-member.entries c.match-opening_at.events c.match-opening_at.to c.match-opening_at.unparseable =
-      elim c.match-opening_at.branch [
-        walk_group-in-Entry w ↦ let begins = turn-entry c.args.words.now c.args.fields.now c.args.message.now c.args.enclosing.now c.args.group c.count_at-declared.result c.loop-member.entries c.loop-member.cursor _ (level-turn c.args.words.now c.args.group _ _ c.members_at-members.ensures c.delimiter_at-delimiter.ensures c.args.fields.now c.args.enclosing.now c.count_at-declared.result c.loop-member.entries c.loop-member.cursor _ c.opening_at.ensures) w.in-Entry.is in entry-opens c.args.words.now c.args.fields.now c.args.message.now c.args.enclosing.now c.requires.lent.passed c.args.group c.requires.lent.valid c.args.index c.args.depth _ _ (omega (arith, c.row_count.ensures, c.if-row_count-index.false)) c.if-depth-gt32.false c.count_at-declared.result c.count_at-declared.ensures _ c.count_tag_at-tag.ensures _ _ c.loop-member.cursor c.loop-member.entries c.loop-member.unparseable c.loop-member.invariant begins.0 begins.1 _ w.events-is _ w.to-is _ w.unparseable-is
-        | walk_group-in-Lead w ↦ let leads = turn-lead c.args.words.now c.args.fields.now c.args.message.now c.args.enclosing.now c.args.group c.count_at-declared.result c.loop-member.entries c.loop-member.cursor _ (level-turn c.args.words.now c.args.group _ _ c.members_at-members.ensures c.delimiter_at-delimiter.ensures c.args.fields.now c.args.enclosing.now c.count_at-declared.result c.loop-member.entries c.loop-member.cursor _ c.opening_at.ensures) _ w.in-Lead.is in lead-opens c.args.words.now c.args.fields.now c.args.message.now c.args.enclosing.now c.requires.lent.passed c.args.group c.requires.lent.valid c.args.index c.args.depth _ _ (omega (arith, c.row_count.ensures, c.if-row_count-index.false)) c.if-depth-gt32.false c.count_at-declared.result c.count_at-declared.ensures _ c.count_tag_at-tag.ensures _ _ c.loop-member.cursor c.loop-member.entries c.loop-member.unparseable c.loop-member.invariant leads.0 leads.1 _ leads.2 _ _ w.put_event-to.ensures _ w.events-is _ w.to-is _ w.unparseable-is
-      ] in omega (arith, c.scan_entry-entry.ensures.few, c.scan_entry-entry.ensures.within, opened.room, c.requires.lent.table.few)
+    elim c.match-opening_at.branch [
+      | walk_group-in-Entry w ↦ let begins = turn-entry c.args.words.now c.args.fields.now c.args.message.now c.args.enclosing.now c.args.group c.count_at-declared.result c.loop-member.entries c.loop-member.cursor _ (level-turn c.args.words.now c.args.group _ _ c.members_at-members.ensures c.delimiter_at-delimiter.ensures c.args.fields.now c.args.enclosing.now c.count_at-declared.result c.loop-member.entries c.loop-member.cursor _ c.opening_at.ensures) w.in-Entry.is in entry-opens c.args.words.now c.args.fields.now c.args.message.now c.args.enclosing.now c.requires.lent.passed c.args.group c.requires.lent.valid c.args.index c.args.depth _ _ (omega (arith, c.row_count.ensures, c.if-row_count-index.false)) c.if-depth-gt32.false c.count_at-declared.result c.count_at-declared.ensures _ c.count_tag_at-tag.ensures _ _ c.loop-member.cursor c.loop-member.entries c.loop-member.unparseable c.loop-member.invariant begins.0 begins.1 _ w.events-is _ w.to-is _ w.unparseable-is
+      | walk_group-in-Lead w ↦ let leads = turn-lead c.args.words.now c.args.fields.now c.args.message.now c.args.enclosing.now c.args.group c.count_at-declared.result c.loop-member.entries c.loop-member.cursor _ (level-turn c.args.words.now c.args.group _ _ c.members_at-members.ensures c.delimiter_at-delimiter.ensures c.args.fields.now c.args.enclosing.now c.count_at-declared.result c.loop-member.entries c.loop-member.cursor _ c.opening_at.ensures) _ w.in-Lead.is in lead-opens c.args.words.now c.args.fields.now c.args.message.now c.args.enclosing.now c.requires.lent.passed c.args.group c.requires.lent.valid c.args.index c.args.depth _ _ (omega (arith, c.row_count.ensures, c.if-row_count-index.false)) c.if-depth-gt32.false c.count_at-declared.result c.count_at-declared.ensures _ c.count_tag_at-tag.ensures _ _ c.loop-member.cursor c.loop-member.entries c.loop-member.unparseable c.loop-member.invariant leads.0 leads.1 _ leads.2 _ _ w.put_event-to.ensures _ w.events-is _ w.to-is _ w.unparseable-is
+    ] in omega (arith, c.scan_entry-entry.ensures.few, c.scan_entry-entry.ensures.within, opened.room, c.requires.lent.table.few)
 
 -- entries += 1;
 pub walk_group-overflow_add-entries : goal.walk_group-overflow_add-entries
@@ -340,18 +340,18 @@ walk_group-loop-member-smaller-then-members-le256 t c = omega (arith, c.scan_ent
 
 pub walk_group-loop-member-preserved-then-members-le256 : goal.walk_group-loop-member-preserved-then-members-le256
 walk_group-loop-member-preserved-then-members-le256 t c = let opened : EntryOpened c.args.words.now c.args.fields.now c.args.message.now c.args.enclosing.now c.args.group c.args.index c.args.depth c.put_start-to.new.events c.put_start-to.result c.count_tag_at-tag.result c.loop-member.cursor c.loop-member.entries c.match-opening_at.events c.match-opening_at.to c.match-opening_at.unparseable =
-      elim c.match-opening_at.branch [
-        walk_group-in-Entry w ↦ let begins = turn-entry c.args.words.now c.args.fields.now c.args.message.now c.args.enclosing.now c.args.group c.count_at-declared.result c.loop-member.entries c.loop-member.cursor _ (level-turn c.args.words.now c.args.group _ _ c.members_at-members.ensures c.delimiter_at-delimiter.ensures c.args.fields.now c.args.enclosing.now c.count_at-declared.result c.loop-member.entries c.loop-member.cursor _ c.opening_at.ensures) w.in-Entry.is in entry-opens c.args.words.now c.args.fields.now c.args.message.now c.args.enclosing.now c.requires.lent.passed c.args.group c.requires.lent.valid c.args.index c.args.depth _ _ (omega (arith, c.row_count.ensures, c.if-row_count-index.false)) c.if-depth-gt32.false c.count_at-declared.result c.count_at-declared.ensures _ c.count_tag_at-tag.ensures _ _ c.loop-member.cursor c.loop-member.entries c.loop-member.unparseable c.loop-member.invariant begins.0 begins.1 _ w.events-is _ w.to-is _ w.unparseable-is
-        | walk_group-in-Lead w ↦ let leads = turn-lead c.args.words.now c.args.fields.now c.args.message.now c.args.enclosing.now c.args.group c.count_at-declared.result c.loop-member.entries c.loop-member.cursor _ (level-turn c.args.words.now c.args.group _ _ c.members_at-members.ensures c.delimiter_at-delimiter.ensures c.args.fields.now c.args.enclosing.now c.count_at-declared.result c.loop-member.entries c.loop-member.cursor _ c.opening_at.ensures) _ w.in-Lead.is in lead-opens c.args.words.now c.args.fields.now c.args.message.now c.args.enclosing.now c.requires.lent.passed c.args.group c.requires.lent.valid c.args.index c.args.depth _ _ (omega (arith, c.row_count.ensures, c.if-row_count-index.false)) c.if-depth-gt32.false c.count_at-declared.result c.count_at-declared.ensures _ c.count_tag_at-tag.ensures _ _ c.loop-member.cursor c.loop-member.entries c.loop-member.unparseable c.loop-member.invariant leads.0 leads.1 _ leads.2 _ _ w.put_event-to.ensures _ w.events-is _ w.to-is _ w.unparseable-is
-      ] in opened.adds _ _ _ _ _ c.scan_entry-entry.ensures _ _ c.put_event-to-then-members-le256.ensures _ c.either-unparseable.ensures
+    elim c.match-opening_at.branch [
+      | walk_group-in-Entry w ↦ let begins = turn-entry c.args.words.now c.args.fields.now c.args.message.now c.args.enclosing.now c.args.group c.count_at-declared.result c.loop-member.entries c.loop-member.cursor _ (level-turn c.args.words.now c.args.group _ _ c.members_at-members.ensures c.delimiter_at-delimiter.ensures c.args.fields.now c.args.enclosing.now c.count_at-declared.result c.loop-member.entries c.loop-member.cursor _ c.opening_at.ensures) w.in-Entry.is in entry-opens c.args.words.now c.args.fields.now c.args.message.now c.args.enclosing.now c.requires.lent.passed c.args.group c.requires.lent.valid c.args.index c.args.depth _ _ (omega (arith, c.row_count.ensures, c.if-row_count-index.false)) c.if-depth-gt32.false c.count_at-declared.result c.count_at-declared.ensures _ c.count_tag_at-tag.ensures _ _ c.loop-member.cursor c.loop-member.entries c.loop-member.unparseable c.loop-member.invariant begins.0 begins.1 _ w.events-is _ w.to-is _ w.unparseable-is
+      | walk_group-in-Lead w ↦ let leads = turn-lead c.args.words.now c.args.fields.now c.args.message.now c.args.enclosing.now c.args.group c.count_at-declared.result c.loop-member.entries c.loop-member.cursor _ (level-turn c.args.words.now c.args.group _ _ c.members_at-members.ensures c.delimiter_at-delimiter.ensures c.args.fields.now c.args.enclosing.now c.count_at-declared.result c.loop-member.entries c.loop-member.cursor _ c.opening_at.ensures) _ w.in-Lead.is in lead-opens c.args.words.now c.args.fields.now c.args.message.now c.args.enclosing.now c.requires.lent.passed c.args.group c.requires.lent.valid c.args.index c.args.depth _ _ (omega (arith, c.row_count.ensures, c.if-row_count-index.false)) c.if-depth-gt32.false c.count_at-declared.result c.count_at-declared.ensures _ c.count_tag_at-tag.ensures _ _ c.loop-member.cursor c.loop-member.entries c.loop-member.unparseable c.loop-member.invariant leads.0 leads.1 _ leads.2 _ _ w.put_event-to.ensures _ w.events-is _ w.to-is _ w.unparseable-is
+    ] in opened.adds _ _ _ _ _ c.scan_entry-entry.ensures _ _ c.put_event-to-then-members-le256.ensures _ c.either-unparseable.ensures
 
 -- let entry = scan_wide(fields, message, words, group, cursor, depth, events, to);
 pub walk_group-scan_wide-entry-requires : goal.walk_group-scan_wide-entry-requires
-walk_group-scan_wide-entry-requires t c =     let opened : EntryOpened c.args.words.now c.args.fields.now c.args.message.now c.args.enclosing.now c.args.group c.args.index c.args.depth c.put_start-to.new.events c.put_start-to.result c.count_tag_at-tag.result c.loop-member.cursor c.loop-member.entries c.match-opening_at.events c.match-opening_at.to c.match-opening_at.unparseable =
-      elim c.match-opening_at.branch [
-        walk_group-in-Entry w ↦ let begins = turn-entry c.args.words.now c.args.fields.now c.args.message.now c.args.enclosing.now c.args.group c.count_at-declared.result c.loop-member.entries c.loop-member.cursor _ (level-turn c.args.words.now c.args.group _ _ c.members_at-members.ensures c.delimiter_at-delimiter.ensures c.args.fields.now c.args.enclosing.now c.count_at-declared.result c.loop-member.entries c.loop-member.cursor _ c.opening_at.ensures) w.in-Entry.is in entry-opens c.args.words.now c.args.fields.now c.args.message.now c.args.enclosing.now c.requires.lent.passed c.args.group c.requires.lent.valid c.args.index c.args.depth _ _ (omega (arith, c.row_count.ensures, c.if-row_count-index.false)) c.if-depth-gt32.false c.count_at-declared.result c.count_at-declared.ensures _ c.count_tag_at-tag.ensures _ _ c.loop-member.cursor c.loop-member.entries c.loop-member.unparseable c.loop-member.invariant begins.0 begins.1 _ w.events-is _ w.to-is _ w.unparseable-is
-        | walk_group-in-Lead w ↦ let leads = turn-lead c.args.words.now c.args.fields.now c.args.message.now c.args.enclosing.now c.args.group c.count_at-declared.result c.loop-member.entries c.loop-member.cursor _ (level-turn c.args.words.now c.args.group _ _ c.members_at-members.ensures c.delimiter_at-delimiter.ensures c.args.fields.now c.args.enclosing.now c.count_at-declared.result c.loop-member.entries c.loop-member.cursor _ c.opening_at.ensures) _ w.in-Lead.is in lead-opens c.args.words.now c.args.fields.now c.args.message.now c.args.enclosing.now c.requires.lent.passed c.args.group c.requires.lent.valid c.args.index c.args.depth _ _ (omega (arith, c.row_count.ensures, c.if-row_count-index.false)) c.if-depth-gt32.false c.count_at-declared.result c.count_at-declared.ensures _ c.count_tag_at-tag.ensures _ _ c.loop-member.cursor c.loop-member.entries c.loop-member.unparseable c.loop-member.invariant leads.0 leads.1 _ leads.2 _ _ w.put_event-to.ensures _ w.events-is _ w.to-is _ w.unparseable-is
-      ] in (
+walk_group-scan_wide-entry-requires t c = let opened : EntryOpened c.args.words.now c.args.fields.now c.args.message.now c.args.enclosing.now c.args.group c.args.index c.args.depth c.put_start-to.new.events c.put_start-to.result c.count_tag_at-tag.result c.loop-member.cursor c.loop-member.entries c.match-opening_at.events c.match-opening_at.to c.match-opening_at.unparseable =
+    elim c.match-opening_at.branch [
+      | walk_group-in-Entry w ↦ let begins = turn-entry c.args.words.now c.args.fields.now c.args.message.now c.args.enclosing.now c.args.group c.count_at-declared.result c.loop-member.entries c.loop-member.cursor _ (level-turn c.args.words.now c.args.group _ _ c.members_at-members.ensures c.delimiter_at-delimiter.ensures c.args.fields.now c.args.enclosing.now c.count_at-declared.result c.loop-member.entries c.loop-member.cursor _ c.opening_at.ensures) w.in-Entry.is in entry-opens c.args.words.now c.args.fields.now c.args.message.now c.args.enclosing.now c.requires.lent.passed c.args.group c.requires.lent.valid c.args.index c.args.depth _ _ (omega (arith, c.row_count.ensures, c.if-row_count-index.false)) c.if-depth-gt32.false c.count_at-declared.result c.count_at-declared.ensures _ c.count_tag_at-tag.ensures _ _ c.loop-member.cursor c.loop-member.entries c.loop-member.unparseable c.loop-member.invariant begins.0 begins.1 _ w.events-is _ w.to-is _ w.unparseable-is
+      | walk_group-in-Lead w ↦ let leads = turn-lead c.args.words.now c.args.fields.now c.args.message.now c.args.enclosing.now c.args.group c.count_at-declared.result c.loop-member.entries c.loop-member.cursor _ (level-turn c.args.words.now c.args.group _ _ c.members_at-members.ensures c.delimiter_at-delimiter.ensures c.args.fields.now c.args.enclosing.now c.count_at-declared.result c.loop-member.entries c.loop-member.cursor _ c.opening_at.ensures) _ w.in-Lead.is in lead-opens c.args.words.now c.args.fields.now c.args.message.now c.args.enclosing.now c.requires.lent.passed c.args.group c.requires.lent.valid c.args.index c.args.depth _ _ (omega (arith, c.row_count.ensures, c.if-row_count-index.false)) c.if-depth-gt32.false c.count_at-declared.result c.count_at-declared.ensures _ c.count_tag_at-tag.ensures _ _ c.loop-member.cursor c.loop-member.entries c.loop-member.unparseable c.loop-member.invariant leads.0 leads.1 _ leads.2 _ _ w.put_event-to.ensures _ w.events-is _ w.to-is _ w.unparseable-is
+    ] in (
       omega (arith, c.decreases, opened.inside, c.loop-member.invariant.ahead),
       record {
         lent = c.requires.lent;
@@ -366,10 +366,10 @@ walk_group-scan_wide-entry-requires t c =     let opened : EntryOpened c.args.wo
 -- to = put_event(events, entry.at, tag, depth, close);
 pub walk_group-put_event-to-requires-else-members-le256 : goal.walk_group-put_event-to-requires-else-members-le256
 walk_group-put_event-to-requires-else-members-le256 t c = let opened : EntryOpened c.args.words.now c.args.fields.now c.args.message.now c.args.enclosing.now c.args.group c.args.index c.args.depth c.put_start-to.new.events c.put_start-to.result c.count_tag_at-tag.result c.loop-member.cursor c.loop-member.entries c.match-opening_at.events c.match-opening_at.to c.match-opening_at.unparseable =
-      elim c.match-opening_at.branch [
-        walk_group-in-Entry w ↦ let begins = turn-entry c.args.words.now c.args.fields.now c.args.message.now c.args.enclosing.now c.args.group c.count_at-declared.result c.loop-member.entries c.loop-member.cursor _ (level-turn c.args.words.now c.args.group _ _ c.members_at-members.ensures c.delimiter_at-delimiter.ensures c.args.fields.now c.args.enclosing.now c.count_at-declared.result c.loop-member.entries c.loop-member.cursor _ c.opening_at.ensures) w.in-Entry.is in entry-opens c.args.words.now c.args.fields.now c.args.message.now c.args.enclosing.now c.requires.lent.passed c.args.group c.requires.lent.valid c.args.index c.args.depth _ _ (omega (arith, c.row_count.ensures, c.if-row_count-index.false)) c.if-depth-gt32.false c.count_at-declared.result c.count_at-declared.ensures _ c.count_tag_at-tag.ensures _ _ c.loop-member.cursor c.loop-member.entries c.loop-member.unparseable c.loop-member.invariant begins.0 begins.1 _ w.events-is _ w.to-is _ w.unparseable-is
-        | walk_group-in-Lead w ↦ let leads = turn-lead c.args.words.now c.args.fields.now c.args.message.now c.args.enclosing.now c.args.group c.count_at-declared.result c.loop-member.entries c.loop-member.cursor _ (level-turn c.args.words.now c.args.group _ _ c.members_at-members.ensures c.delimiter_at-delimiter.ensures c.args.fields.now c.args.enclosing.now c.count_at-declared.result c.loop-member.entries c.loop-member.cursor _ c.opening_at.ensures) _ w.in-Lead.is in lead-opens c.args.words.now c.args.fields.now c.args.message.now c.args.enclosing.now c.requires.lent.passed c.args.group c.requires.lent.valid c.args.index c.args.depth _ _ (omega (arith, c.row_count.ensures, c.if-row_count-index.false)) c.if-depth-gt32.false c.count_at-declared.result c.count_at-declared.ensures _ c.count_tag_at-tag.ensures _ _ c.loop-member.cursor c.loop-member.entries c.loop-member.unparseable c.loop-member.invariant leads.0 leads.1 _ leads.2 _ _ w.put_event-to.ensures _ w.events-is _ w.to-is _ w.unparseable-is
-      ] in omega (arith, c.scan_wide-entry.ensures.few, c.scan_wide-entry.ensures.within, opened.room, c.requires.lent.table.few)
+    elim c.match-opening_at.branch [
+      | walk_group-in-Entry w ↦ let begins = turn-entry c.args.words.now c.args.fields.now c.args.message.now c.args.enclosing.now c.args.group c.count_at-declared.result c.loop-member.entries c.loop-member.cursor _ (level-turn c.args.words.now c.args.group _ _ c.members_at-members.ensures c.delimiter_at-delimiter.ensures c.args.fields.now c.args.enclosing.now c.count_at-declared.result c.loop-member.entries c.loop-member.cursor _ c.opening_at.ensures) w.in-Entry.is in entry-opens c.args.words.now c.args.fields.now c.args.message.now c.args.enclosing.now c.requires.lent.passed c.args.group c.requires.lent.valid c.args.index c.args.depth _ _ (omega (arith, c.row_count.ensures, c.if-row_count-index.false)) c.if-depth-gt32.false c.count_at-declared.result c.count_at-declared.ensures _ c.count_tag_at-tag.ensures _ _ c.loop-member.cursor c.loop-member.entries c.loop-member.unparseable c.loop-member.invariant begins.0 begins.1 _ w.events-is _ w.to-is _ w.unparseable-is
+      | walk_group-in-Lead w ↦ let leads = turn-lead c.args.words.now c.args.fields.now c.args.message.now c.args.enclosing.now c.args.group c.count_at-declared.result c.loop-member.entries c.loop-member.cursor _ (level-turn c.args.words.now c.args.group _ _ c.members_at-members.ensures c.delimiter_at-delimiter.ensures c.args.fields.now c.args.enclosing.now c.count_at-declared.result c.loop-member.entries c.loop-member.cursor _ c.opening_at.ensures) _ w.in-Lead.is in lead-opens c.args.words.now c.args.fields.now c.args.message.now c.args.enclosing.now c.requires.lent.passed c.args.group c.requires.lent.valid c.args.index c.args.depth _ _ (omega (arith, c.row_count.ensures, c.if-row_count-index.false)) c.if-depth-gt32.false c.count_at-declared.result c.count_at-declared.ensures _ c.count_tag_at-tag.ensures _ _ c.loop-member.cursor c.loop-member.entries c.loop-member.unparseable c.loop-member.invariant leads.0 leads.1 _ leads.2 _ _ w.put_event-to.ensures _ w.events-is _ w.to-is _ w.unparseable-is
+    ] in omega (arith, c.scan_wide-entry.ensures.few, c.scan_wide-entry.ensures.within, opened.room, c.requires.lent.table.few)
 
 -- entries += 1;
 pub walk_group-overflow_add-entries-else-members-le256 : goal.walk_group-overflow_add-entries-else-members-le256
@@ -381,10 +381,10 @@ walk_group-loop-member-smaller t c = omega (arith, c.scan_wide-entry.ensures.mov
 
 pub walk_group-loop-member-preserved : goal.walk_group-loop-member-preserved
 walk_group-loop-member-preserved t c = let opened : EntryOpened c.args.words.now c.args.fields.now c.args.message.now c.args.enclosing.now c.args.group c.args.index c.args.depth c.put_start-to.new.events c.put_start-to.result c.count_tag_at-tag.result c.loop-member.cursor c.loop-member.entries c.match-opening_at.events c.match-opening_at.to c.match-opening_at.unparseable =
-      elim c.match-opening_at.branch [
-        walk_group-in-Entry w ↦ let begins = turn-entry c.args.words.now c.args.fields.now c.args.message.now c.args.enclosing.now c.args.group c.count_at-declared.result c.loop-member.entries c.loop-member.cursor _ (level-turn c.args.words.now c.args.group _ _ c.members_at-members.ensures c.delimiter_at-delimiter.ensures c.args.fields.now c.args.enclosing.now c.count_at-declared.result c.loop-member.entries c.loop-member.cursor _ c.opening_at.ensures) w.in-Entry.is in entry-opens c.args.words.now c.args.fields.now c.args.message.now c.args.enclosing.now c.requires.lent.passed c.args.group c.requires.lent.valid c.args.index c.args.depth _ _ (omega (arith, c.row_count.ensures, c.if-row_count-index.false)) c.if-depth-gt32.false c.count_at-declared.result c.count_at-declared.ensures _ c.count_tag_at-tag.ensures _ _ c.loop-member.cursor c.loop-member.entries c.loop-member.unparseable c.loop-member.invariant begins.0 begins.1 _ w.events-is _ w.to-is _ w.unparseable-is
-        | walk_group-in-Lead w ↦ let leads = turn-lead c.args.words.now c.args.fields.now c.args.message.now c.args.enclosing.now c.args.group c.count_at-declared.result c.loop-member.entries c.loop-member.cursor _ (level-turn c.args.words.now c.args.group _ _ c.members_at-members.ensures c.delimiter_at-delimiter.ensures c.args.fields.now c.args.enclosing.now c.count_at-declared.result c.loop-member.entries c.loop-member.cursor _ c.opening_at.ensures) _ w.in-Lead.is in lead-opens c.args.words.now c.args.fields.now c.args.message.now c.args.enclosing.now c.requires.lent.passed c.args.group c.requires.lent.valid c.args.index c.args.depth _ _ (omega (arith, c.row_count.ensures, c.if-row_count-index.false)) c.if-depth-gt32.false c.count_at-declared.result c.count_at-declared.ensures _ c.count_tag_at-tag.ensures _ _ c.loop-member.cursor c.loop-member.entries c.loop-member.unparseable c.loop-member.invariant leads.0 leads.1 _ leads.2 _ _ w.put_event-to.ensures _ w.events-is _ w.to-is _ w.unparseable-is
-      ] in opened.adds _ _ _ _ _ c.scan_wide-entry.ensures _ _ c.put_event-to-else-members-le256.ensures _ c.either-unparseable-else-members-le256.ensures
+    elim c.match-opening_at.branch [
+      | walk_group-in-Entry w ↦ let begins = turn-entry c.args.words.now c.args.fields.now c.args.message.now c.args.enclosing.now c.args.group c.count_at-declared.result c.loop-member.entries c.loop-member.cursor _ (level-turn c.args.words.now c.args.group _ _ c.members_at-members.ensures c.delimiter_at-delimiter.ensures c.args.fields.now c.args.enclosing.now c.count_at-declared.result c.loop-member.entries c.loop-member.cursor _ c.opening_at.ensures) w.in-Entry.is in entry-opens c.args.words.now c.args.fields.now c.args.message.now c.args.enclosing.now c.requires.lent.passed c.args.group c.requires.lent.valid c.args.index c.args.depth _ _ (omega (arith, c.row_count.ensures, c.if-row_count-index.false)) c.if-depth-gt32.false c.count_at-declared.result c.count_at-declared.ensures _ c.count_tag_at-tag.ensures _ _ c.loop-member.cursor c.loop-member.entries c.loop-member.unparseable c.loop-member.invariant begins.0 begins.1 _ w.events-is _ w.to-is _ w.unparseable-is
+      | walk_group-in-Lead w ↦ let leads = turn-lead c.args.words.now c.args.fields.now c.args.message.now c.args.enclosing.now c.args.group c.count_at-declared.result c.loop-member.entries c.loop-member.cursor _ (level-turn c.args.words.now c.args.group _ _ c.members_at-members.ensures c.delimiter_at-delimiter.ensures c.args.fields.now c.args.enclosing.now c.count_at-declared.result c.loop-member.entries c.loop-member.cursor _ c.opening_at.ensures) _ w.in-Lead.is in lead-opens c.args.words.now c.args.fields.now c.args.message.now c.args.enclosing.now c.requires.lent.passed c.args.group c.requires.lent.valid c.args.index c.args.depth _ _ (omega (arith, c.row_count.ensures, c.if-row_count-index.false)) c.if-depth-gt32.false c.count_at-declared.result c.count_at-declared.ensures _ c.count_tag_at-tag.ensures _ _ c.loop-member.cursor c.loop-member.entries c.loop-member.unparseable c.loop-member.invariant leads.0 leads.1 _ leads.2 _ _ w.put_event-to.ensures _ w.events-is _ w.to-is _ w.unparseable-is
+    ] in opened.adds _ _ _ _ _ c.scan_wide-entry.ensures _ _ c.put_event-to-else-members-le256.ensures _ c.either-unparseable-else-members-le256.ensures
 
 -- let past = put_end(events, to, tag, depth, declared, unparseable, entries);
 pub walk_group-put_end-past-requires : goal.walk_group-put_end-past-requires

@@ -37,7 +37,7 @@ loop-first-preserved c = absurd (counts-no_other _ _ _ _ _ c.loop-first.invarian
 -- pub fn count_parts(text: &[u8]) -> Parts
 pub returns : goal.returns
 returns c = record {
-      members = (counts_end _ _ _ _ _ c.loop-first.invariant c.loop-first-test.false).0;
-      required = (counts_end _ _ _ _ _ c.loop-first.invariant c.loop-first-test.false).1;
-      groups = ((counts_end _ _ _ _ _ c.loop-first.invariant c.loop-first-test.false).2, (counts_end _ _ _ _ _ c.loop-first.invariant c.loop-first-test.false).3);
-    }
+  members = (counts_end _ _ _ _ _ c.loop-first.invariant c.loop-first-test.false).0;
+  required = (counts_end _ _ _ _ _ c.loop-first.invariant c.loop-first-test.false).1;
+  groups = ((counts_end _ _ _ _ _ c.loop-first.invariant c.loop-first-test.false).2, (counts_end _ _ _ _ _ c.loop-first.invariant c.loop-first-test.false).3);
+}

@@ -33,10 +33,10 @@ shape_of-tags-in-NoTag c = c.loop-next.invariant.storing.same
 
 pub returns-in-NoTag : goal.returns-in-NoTag
 returns-in-NoTag c = record {
-      tags = (taken-stops _ _ _ _ _ _ _ _ c.loop-next.invariant c.line_at-found.result.line c.line_at-found.result.next c.line_at-found.ensures.line c.line_at-found.ensures.bounds.1 _ c.tag_of-line_tag.ensures c.in-NoTag.is).0;
-      count = (taken-stops _ _ _ _ _ _ _ _ c.loop-next.invariant c.line_at-found.result.line c.line_at-found.result.next c.line_at-found.ensures.line c.line_at-found.ensures.bounds.1 _ c.tag_of-line_tag.ensures c.in-NoTag.is).1;
-      next = ((taken-stops _ _ _ _ _ _ _ _ c.loop-next.invariant c.line_at-found.result.line c.line_at-found.result.next c.line_at-found.ensures.line c.line_at-found.ensures.bounds.1 _ c.tag_of-line_tag.ensures c.in-NoTag.is).2, (taken-stops _ _ _ _ _ _ _ _ c.loop-next.invariant c.line_at-found.result.line c.line_at-found.result.next c.line_at-found.ensures.line c.line_at-found.ensures.bounds.1 _ c.tag_of-line_tag.ensures c.in-NoTag.is).3);
-    }
+  tags = (taken-stops _ _ _ _ _ _ _ _ c.loop-next.invariant c.line_at-found.result.line c.line_at-found.result.next c.line_at-found.ensures.line c.line_at-found.ensures.bounds.1 _ c.tag_of-line_tag.ensures c.in-NoTag.is).0;
+  count = (taken-stops _ _ _ _ _ _ _ _ c.loop-next.invariant c.line_at-found.result.line c.line_at-found.result.next c.line_at-found.ensures.line c.line_at-found.ensures.bounds.1 _ c.tag_of-line_tag.ensures c.in-NoTag.is).1;
+  next = ((taken-stops _ _ _ _ _ _ _ _ c.loop-next.invariant c.line_at-found.result.line c.line_at-found.result.next c.line_at-found.ensures.line c.line_at-found.ensures.bounds.1 _ c.tag_of-line_tag.ensures c.in-NoTag.is).2, (taken-stops _ _ _ _ _ _ _ _ c.loop-next.invariant c.line_at-found.result.line c.line_at-found.result.next c.line_at-found.ensures.line c.line_at-found.ensures.bounds.1 _ c.tag_of-line_tag.ensures c.in-NoTag.is).3);
+}
 
 -- count: count + index,
 pub overflow_add-result-2 : goal.overflow_add-result-2
@@ -48,7 +48,7 @@ shape_of-tags c = c.loop-next.invariant.storing.same
 
 pub returns : goal.returns
 returns c = record {
-      tags = (taken-end _ _ _ _ _ _ _ _ c.loop-next.invariant c.loop-next-test.false).0;
-      count = (taken-end _ _ _ _ _ _ _ _ c.loop-next.invariant c.loop-next-test.false).1;
-      next = ((taken-end _ _ _ _ _ _ _ _ c.loop-next.invariant c.loop-next-test.false).2, (taken-end _ _ _ _ _ _ _ _ c.loop-next.invariant c.loop-next-test.false).3);
-    }
+  tags = (taken-end _ _ _ _ _ _ _ _ c.loop-next.invariant c.loop-next-test.false).0;
+  count = (taken-end _ _ _ _ _ _ _ _ c.loop-next.invariant c.loop-next-test.false).1;
+  next = ((taken-end _ _ _ _ _ _ _ _ c.loop-next.invariant c.loop-next-test.false).2, (taken-end _ _ _ _ _ _ _ _ c.loop-next.invariant c.loop-next-test.false).3);
+}

@@ -11,12 +11,12 @@ overflow_cast-result c = omega (arith, c.shared_slice_known-1.given c.args.index
 -- fn byte_at(bytes: &[u8], index: usize) -> u32
 pub returns-then-index-bytes : goal.returns-then-index-bytes
 returns-then-index-bytes c = record {
-      byte = refl;
-      small = omega (arith, c.shared_slice_known-1.given c.args.index);
-    }
+  byte = refl;
+  small = omega (arith, c.shared_slice_known-1.given c.args.index);
+}
 
 pub returns-else-index-bytes : goal.returns-else-index-bytes
 returns-else-index-bytes c = record {
-      byte = sym (get_or-eq_default c.args.bytes.now 0 c.if-index-bytes.false);
-      small = omega arith;
-    }
+  byte = sym (get_or-eq_default c.args.bytes.now 0 c.if-index-bytes.false);
+  small = omega arith;
+}

@@ -5,6 +5,6 @@ use Rattle.message_level.proofs.seen_tags.insert.Goals as goal
 
 pub returns : goal.returns
 returns c = record {
-      outcome = rw c.mask_of-mask.ensures (fresh_is c.args.seen.now c.args.rank);
-      memory = rw c.mask_of-mask.ensures (inserted-is c.args.seen.now c.args.rank);
-    }
+  outcome = rw c.mask_of-mask.ensures (fresh_is c.args.seen.now c.args.rank);
+  memory = rw c.mask_of-mask.ensures (inserted-is c.args.seen.now c.args.rank);
+}

@@ -10,22 +10,22 @@ slice_bounds-list_message-end c = omega (arith, read_fits _ _ _ (sym c.read_dict
 
 pub returns-in-Written : goal.returns-in-Written
 returns-in-Written c = record {
-      outcome = (list_written c.args.dictionary_text.now c.args.message.now c.args.words.now c.args.layout.now c.args.fields.now c.args.events.now c.args.verdicts.now _ c.read_dictionary.ensures.outcome _ c.read_dictionary.ensures.memory _ c.in-Written.is _ _ _ _ _ c.list_message.ensures.outcome c.list_message.ensures.layout c.list_message.ensures.fields c.list_message.ensures.events c.list_message.ensures.verdicts).0;
-      words = (list_written c.args.dictionary_text.now c.args.message.now c.args.words.now c.args.layout.now c.args.fields.now c.args.events.now c.args.verdicts.now _ c.read_dictionary.ensures.outcome _ c.read_dictionary.ensures.memory _ c.in-Written.is _ _ _ _ _ c.list_message.ensures.outcome c.list_message.ensures.layout c.list_message.ensures.fields c.list_message.ensures.events c.list_message.ensures.verdicts).1.0;
-      layout = (list_written c.args.dictionary_text.now c.args.message.now c.args.words.now c.args.layout.now c.args.fields.now c.args.events.now c.args.verdicts.now _ c.read_dictionary.ensures.outcome _ c.read_dictionary.ensures.memory _ c.in-Written.is _ _ _ _ _ c.list_message.ensures.outcome c.list_message.ensures.layout c.list_message.ensures.fields c.list_message.ensures.events c.list_message.ensures.verdicts).1.1.0;
-      fields = (list_written c.args.dictionary_text.now c.args.message.now c.args.words.now c.args.layout.now c.args.fields.now c.args.events.now c.args.verdicts.now _ c.read_dictionary.ensures.outcome _ c.read_dictionary.ensures.memory _ c.in-Written.is _ _ _ _ _ c.list_message.ensures.outcome c.list_message.ensures.layout c.list_message.ensures.fields c.list_message.ensures.events c.list_message.ensures.verdicts).1.1.1.0;
-      events = (list_written c.args.dictionary_text.now c.args.message.now c.args.words.now c.args.layout.now c.args.fields.now c.args.events.now c.args.verdicts.now _ c.read_dictionary.ensures.outcome _ c.read_dictionary.ensures.memory _ c.in-Written.is _ _ _ _ _ c.list_message.ensures.outcome c.list_message.ensures.layout c.list_message.ensures.fields c.list_message.ensures.events c.list_message.ensures.verdicts).1.1.1.1.0;
-      verdicts = (list_written c.args.dictionary_text.now c.args.message.now c.args.words.now c.args.layout.now c.args.fields.now c.args.events.now c.args.verdicts.now _ c.read_dictionary.ensures.outcome _ c.read_dictionary.ensures.memory _ c.in-Written.is _ _ _ _ _ c.list_message.ensures.outcome c.list_message.ensures.layout c.list_message.ensures.fields c.list_message.ensures.events c.list_message.ensures.verdicts).1.1.1.1.1.0;
-      held = (list_written c.args.dictionary_text.now c.args.message.now c.args.words.now c.args.layout.now c.args.fields.now c.args.events.now c.args.verdicts.now _ c.read_dictionary.ensures.outcome _ c.read_dictionary.ensures.memory _ c.in-Written.is _ _ _ _ _ c.list_message.ensures.outcome c.list_message.ensures.layout c.list_message.ensures.fields c.list_message.ensures.events c.list_message.ensures.verdicts).1.1.1.1.1.1;
-    }
+  outcome = (list_written c.args.dictionary_text.now c.args.message.now c.args.words.now c.args.layout.now c.args.fields.now c.args.events.now c.args.verdicts.now _ c.read_dictionary.ensures.outcome _ c.read_dictionary.ensures.memory _ c.in-Written.is _ _ _ _ _ c.list_message.ensures.outcome c.list_message.ensures.layout c.list_message.ensures.fields c.list_message.ensures.events c.list_message.ensures.verdicts).0;
+  words = (list_written c.args.dictionary_text.now c.args.message.now c.args.words.now c.args.layout.now c.args.fields.now c.args.events.now c.args.verdicts.now _ c.read_dictionary.ensures.outcome _ c.read_dictionary.ensures.memory _ c.in-Written.is _ _ _ _ _ c.list_message.ensures.outcome c.list_message.ensures.layout c.list_message.ensures.fields c.list_message.ensures.events c.list_message.ensures.verdicts).1.0;
+  layout = (list_written c.args.dictionary_text.now c.args.message.now c.args.words.now c.args.layout.now c.args.fields.now c.args.events.now c.args.verdicts.now _ c.read_dictionary.ensures.outcome _ c.read_dictionary.ensures.memory _ c.in-Written.is _ _ _ _ _ c.list_message.ensures.outcome c.list_message.ensures.layout c.list_message.ensures.fields c.list_message.ensures.events c.list_message.ensures.verdicts).1.1.0;
+  fields = (list_written c.args.dictionary_text.now c.args.message.now c.args.words.now c.args.layout.now c.args.fields.now c.args.events.now c.args.verdicts.now _ c.read_dictionary.ensures.outcome _ c.read_dictionary.ensures.memory _ c.in-Written.is _ _ _ _ _ c.list_message.ensures.outcome c.list_message.ensures.layout c.list_message.ensures.fields c.list_message.ensures.events c.list_message.ensures.verdicts).1.1.1.0;
+  events = (list_written c.args.dictionary_text.now c.args.message.now c.args.words.now c.args.layout.now c.args.fields.now c.args.events.now c.args.verdicts.now _ c.read_dictionary.ensures.outcome _ c.read_dictionary.ensures.memory _ c.in-Written.is _ _ _ _ _ c.list_message.ensures.outcome c.list_message.ensures.layout c.list_message.ensures.fields c.list_message.ensures.events c.list_message.ensures.verdicts).1.1.1.1.0;
+  verdicts = (list_written c.args.dictionary_text.now c.args.message.now c.args.words.now c.args.layout.now c.args.fields.now c.args.events.now c.args.verdicts.now _ c.read_dictionary.ensures.outcome _ c.read_dictionary.ensures.memory _ c.in-Written.is _ _ _ _ _ c.list_message.ensures.outcome c.list_message.ensures.layout c.list_message.ensures.fields c.list_message.ensures.events c.list_message.ensures.verdicts).1.1.1.1.1.0;
+  held = (list_written c.args.dictionary_text.now c.args.message.now c.args.words.now c.args.layout.now c.args.fields.now c.args.events.now c.args.verdicts.now _ c.read_dictionary.ensures.outcome _ c.read_dictionary.ensures.memory _ c.in-Written.is _ _ _ _ _ c.list_message.ensures.outcome c.list_message.ensures.layout c.list_message.ensures.fields c.list_message.ensures.events c.list_message.ensures.verdicts).1.1.1.1.1.1;
+}
 
 pub returns-in-Refused : goal.returns-in-Refused
 returns-in-Refused c = record {
-      outcome = (list_not_written c.args.dictionary_text.now c.args.message.now c.args.words.now c.args.layout.now c.args.fields.now c.args.events.now c.args.verdicts.now _ c.read_dictionary.ensures.outcome _ c.read_dictionary.ensures.memory _ c.in-Refused.is).0;
-      words = (list_not_written c.args.dictionary_text.now c.args.message.now c.args.words.now c.args.layout.now c.args.fields.now c.args.events.now c.args.verdicts.now _ c.read_dictionary.ensures.outcome _ c.read_dictionary.ensures.memory _ c.in-Refused.is).1.0;
-      layout = (list_not_written c.args.dictionary_text.now c.args.message.now c.args.words.now c.args.layout.now c.args.fields.now c.args.events.now c.args.verdicts.now _ c.read_dictionary.ensures.outcome _ c.read_dictionary.ensures.memory _ c.in-Refused.is).1.1.0;
-      fields = (list_not_written c.args.dictionary_text.now c.args.message.now c.args.words.now c.args.layout.now c.args.fields.now c.args.events.now c.args.verdicts.now _ c.read_dictionary.ensures.outcome _ c.read_dictionary.ensures.memory _ c.in-Refused.is).1.1.1.0;
-      events = (list_not_written c.args.dictionary_text.now c.args.message.now c.args.words.now c.args.layout.now c.args.fields.now c.args.events.now c.args.verdicts.now _ c.read_dictionary.ensures.outcome _ c.read_dictionary.ensures.memory _ c.in-Refused.is).1.1.1.1.0;
-      verdicts = (list_not_written c.args.dictionary_text.now c.args.message.now c.args.words.now c.args.layout.now c.args.fields.now c.args.events.now c.args.verdicts.now _ c.read_dictionary.ensures.outcome _ c.read_dictionary.ensures.memory _ c.in-Refused.is).1.1.1.1.1.0;
-      held = (list_not_written c.args.dictionary_text.now c.args.message.now c.args.words.now c.args.layout.now c.args.fields.now c.args.events.now c.args.verdicts.now _ c.read_dictionary.ensures.outcome _ c.read_dictionary.ensures.memory _ c.in-Refused.is).1.1.1.1.1.1;
-    }
+  outcome = (list_not_written c.args.dictionary_text.now c.args.message.now c.args.words.now c.args.layout.now c.args.fields.now c.args.events.now c.args.verdicts.now _ c.read_dictionary.ensures.outcome _ c.read_dictionary.ensures.memory _ c.in-Refused.is).0;
+  words = (list_not_written c.args.dictionary_text.now c.args.message.now c.args.words.now c.args.layout.now c.args.fields.now c.args.events.now c.args.verdicts.now _ c.read_dictionary.ensures.outcome _ c.read_dictionary.ensures.memory _ c.in-Refused.is).1.0;
+  layout = (list_not_written c.args.dictionary_text.now c.args.message.now c.args.words.now c.args.layout.now c.args.fields.now c.args.events.now c.args.verdicts.now _ c.read_dictionary.ensures.outcome _ c.read_dictionary.ensures.memory _ c.in-Refused.is).1.1.0;
+  fields = (list_not_written c.args.dictionary_text.now c.args.message.now c.args.words.now c.args.layout.now c.args.fields.now c.args.events.now c.args.verdicts.now _ c.read_dictionary.ensures.outcome _ c.read_dictionary.ensures.memory _ c.in-Refused.is).1.1.1.0;
+  events = (list_not_written c.args.dictionary_text.now c.args.message.now c.args.words.now c.args.layout.now c.args.fields.now c.args.events.now c.args.verdicts.now _ c.read_dictionary.ensures.outcome _ c.read_dictionary.ensures.memory _ c.in-Refused.is).1.1.1.1.0;
+  verdicts = (list_not_written c.args.dictionary_text.now c.args.message.now c.args.words.now c.args.layout.now c.args.fields.now c.args.events.now c.args.verdicts.now _ c.read_dictionary.ensures.outcome _ c.read_dictionary.ensures.memory _ c.in-Refused.is).1.1.1.1.1.0;
+  held = (list_not_written c.args.dictionary_text.now c.args.message.now c.args.words.now c.args.layout.now c.args.fields.now c.args.events.now c.args.verdicts.now _ c.read_dictionary.ensures.outcome _ c.read_dictionary.ensures.memory _ c.in-Refused.is).1.1.1.1.1.1;
+}

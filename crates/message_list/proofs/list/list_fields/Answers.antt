@@ -21,16 +21,16 @@ slice_bounds-list_events-end c = omega (arith, expanded-fits c.args.dictionary.n
 
 pub returns-in-Done : goal.returns-in-Done
 returns-in-Done c = record {
-      outcome = (list_expanded c.args.dictionary.now c.args.fields.now c.args.message.now c.args.layout.now c.args.events.now c.args.verdicts.now _ c.message_type-part.ensures.outcome _ c.expand.ensures.outcome _ c.expand.ensures.memory _ _ c.in-Done.is _ _ _ c.list_events.ensures.outcome c.list_events.ensures.events c.list_events.ensures.verdicts).0;
-      layout = (list_expanded c.args.dictionary.now c.args.fields.now c.args.message.now c.args.layout.now c.args.events.now c.args.verdicts.now _ c.message_type-part.ensures.outcome _ c.expand.ensures.outcome _ c.expand.ensures.memory _ _ c.in-Done.is _ _ _ c.list_events.ensures.outcome c.list_events.ensures.events c.list_events.ensures.verdicts).1.0;
-      events = (list_expanded c.args.dictionary.now c.args.fields.now c.args.message.now c.args.layout.now c.args.events.now c.args.verdicts.now _ c.message_type-part.ensures.outcome _ c.expand.ensures.outcome _ c.expand.ensures.memory _ _ c.in-Done.is _ _ _ c.list_events.ensures.outcome c.list_events.ensures.events c.list_events.ensures.verdicts).1.1.0;
-      verdicts = (list_expanded c.args.dictionary.now c.args.fields.now c.args.message.now c.args.layout.now c.args.events.now c.args.verdicts.now _ c.message_type-part.ensures.outcome _ c.expand.ensures.outcome _ c.expand.ensures.memory _ _ c.in-Done.is _ _ _ c.list_events.ensures.outcome c.list_events.ensures.events c.list_events.ensures.verdicts).1.1.1;
-    }
+  outcome = (list_expanded c.args.dictionary.now c.args.fields.now c.args.message.now c.args.layout.now c.args.events.now c.args.verdicts.now _ c.message_type-part.ensures.outcome _ c.expand.ensures.outcome _ c.expand.ensures.memory _ _ c.in-Done.is _ _ _ c.list_events.ensures.outcome c.list_events.ensures.events c.list_events.ensures.verdicts).0;
+  layout = (list_expanded c.args.dictionary.now c.args.fields.now c.args.message.now c.args.layout.now c.args.events.now c.args.verdicts.now _ c.message_type-part.ensures.outcome _ c.expand.ensures.outcome _ c.expand.ensures.memory _ _ c.in-Done.is _ _ _ c.list_events.ensures.outcome c.list_events.ensures.events c.list_events.ensures.verdicts).1.0;
+  events = (list_expanded c.args.dictionary.now c.args.fields.now c.args.message.now c.args.layout.now c.args.events.now c.args.verdicts.now _ c.message_type-part.ensures.outcome _ c.expand.ensures.outcome _ c.expand.ensures.memory _ _ c.in-Done.is _ _ _ c.list_events.ensures.outcome c.list_events.ensures.events c.list_events.ensures.verdicts).1.1.0;
+  verdicts = (list_expanded c.args.dictionary.now c.args.fields.now c.args.message.now c.args.layout.now c.args.events.now c.args.verdicts.now _ c.message_type-part.ensures.outcome _ c.expand.ensures.outcome _ c.expand.ensures.memory _ _ c.in-Done.is _ _ _ c.list_events.ensures.outcome c.list_events.ensures.events c.list_events.ensures.verdicts).1.1.1;
+}
 
 pub returns-in-Refused : goal.returns-in-Refused
 returns-in-Refused c = record {
-      outcome = (list_not_expanded c.args.dictionary.now c.args.fields.now c.args.message.now c.args.layout.now c.args.events.now c.args.verdicts.now _ c.message_type-part.ensures.outcome _ c.expand.ensures.outcome _ c.expand.ensures.memory _ c.in-Refused.is).0;
-      layout = (list_not_expanded c.args.dictionary.now c.args.fields.now c.args.message.now c.args.layout.now c.args.events.now c.args.verdicts.now _ c.message_type-part.ensures.outcome _ c.expand.ensures.outcome _ c.expand.ensures.memory _ c.in-Refused.is).1.0;
-      events = (list_not_expanded c.args.dictionary.now c.args.fields.now c.args.message.now c.args.layout.now c.args.events.now c.args.verdicts.now _ c.message_type-part.ensures.outcome _ c.expand.ensures.outcome _ c.expand.ensures.memory _ c.in-Refused.is).1.1.0;
-      verdicts = (list_not_expanded c.args.dictionary.now c.args.fields.now c.args.message.now c.args.layout.now c.args.events.now c.args.verdicts.now _ c.message_type-part.ensures.outcome _ c.expand.ensures.outcome _ c.expand.ensures.memory _ c.in-Refused.is).1.1.1;
-    }
+  outcome = (list_not_expanded c.args.dictionary.now c.args.fields.now c.args.message.now c.args.layout.now c.args.events.now c.args.verdicts.now _ c.message_type-part.ensures.outcome _ c.expand.ensures.outcome _ c.expand.ensures.memory _ c.in-Refused.is).0;
+  layout = (list_not_expanded c.args.dictionary.now c.args.fields.now c.args.message.now c.args.layout.now c.args.events.now c.args.verdicts.now _ c.message_type-part.ensures.outcome _ c.expand.ensures.outcome _ c.expand.ensures.memory _ c.in-Refused.is).1.0;
+  events = (list_not_expanded c.args.dictionary.now c.args.fields.now c.args.message.now c.args.layout.now c.args.events.now c.args.verdicts.now _ c.message_type-part.ensures.outcome _ c.expand.ensures.outcome _ c.expand.ensures.memory _ c.in-Refused.is).1.1.0;
+  verdicts = (list_not_expanded c.args.dictionary.now c.args.fields.now c.args.message.now c.args.layout.now c.args.events.now c.args.verdicts.now _ c.message_type-part.ensures.outcome _ c.expand.ensures.outcome _ c.expand.ensures.memory _ c.in-Refused.is).1.1.1;
+}

@@ -17,18 +17,18 @@ list_fields-requires c = type-fits c.args.dictionary.now c.args.message.now c.ar
 
 pub returns-in-Fields : goal.returns-in-Fields
 returns-in-Fields c = record {
-      outcome = (list_read c.args.dictionary.now c.args.message.now c.args.layout.now c.args.fields.now c.args.events.now c.args.verdicts.now _ c.read_message.ensures.outcome _ c.read_message.ensures.memory _ c.in-Fields.is _ _ _ _ c.list_fields.ensures.outcome c.list_fields.ensures.layout c.list_fields.ensures.events c.list_fields.ensures.verdicts).0;
-      layout = (list_read c.args.dictionary.now c.args.message.now c.args.layout.now c.args.fields.now c.args.events.now c.args.verdicts.now _ c.read_message.ensures.outcome _ c.read_message.ensures.memory _ c.in-Fields.is _ _ _ _ c.list_fields.ensures.outcome c.list_fields.ensures.layout c.list_fields.ensures.events c.list_fields.ensures.verdicts).1.0;
-      fields = (list_read c.args.dictionary.now c.args.message.now c.args.layout.now c.args.fields.now c.args.events.now c.args.verdicts.now _ c.read_message.ensures.outcome _ c.read_message.ensures.memory _ c.in-Fields.is _ _ _ _ c.list_fields.ensures.outcome c.list_fields.ensures.layout c.list_fields.ensures.events c.list_fields.ensures.verdicts).1.1.0;
-      events = (list_read c.args.dictionary.now c.args.message.now c.args.layout.now c.args.fields.now c.args.events.now c.args.verdicts.now _ c.read_message.ensures.outcome _ c.read_message.ensures.memory _ c.in-Fields.is _ _ _ _ c.list_fields.ensures.outcome c.list_fields.ensures.layout c.list_fields.ensures.events c.list_fields.ensures.verdicts).1.1.1.0;
-      verdicts = (list_read c.args.dictionary.now c.args.message.now c.args.layout.now c.args.fields.now c.args.events.now c.args.verdicts.now _ c.read_message.ensures.outcome _ c.read_message.ensures.memory _ c.in-Fields.is _ _ _ _ c.list_fields.ensures.outcome c.list_fields.ensures.layout c.list_fields.ensures.events c.list_fields.ensures.verdicts).1.1.1.1;
-    }
+  outcome = (list_read c.args.dictionary.now c.args.message.now c.args.layout.now c.args.fields.now c.args.events.now c.args.verdicts.now _ c.read_message.ensures.outcome _ c.read_message.ensures.memory _ c.in-Fields.is _ _ _ _ c.list_fields.ensures.outcome c.list_fields.ensures.layout c.list_fields.ensures.events c.list_fields.ensures.verdicts).0;
+  layout = (list_read c.args.dictionary.now c.args.message.now c.args.layout.now c.args.fields.now c.args.events.now c.args.verdicts.now _ c.read_message.ensures.outcome _ c.read_message.ensures.memory _ c.in-Fields.is _ _ _ _ c.list_fields.ensures.outcome c.list_fields.ensures.layout c.list_fields.ensures.events c.list_fields.ensures.verdicts).1.0;
+  fields = (list_read c.args.dictionary.now c.args.message.now c.args.layout.now c.args.fields.now c.args.events.now c.args.verdicts.now _ c.read_message.ensures.outcome _ c.read_message.ensures.memory _ c.in-Fields.is _ _ _ _ c.list_fields.ensures.outcome c.list_fields.ensures.layout c.list_fields.ensures.events c.list_fields.ensures.verdicts).1.1.0;
+  events = (list_read c.args.dictionary.now c.args.message.now c.args.layout.now c.args.fields.now c.args.events.now c.args.verdicts.now _ c.read_message.ensures.outcome _ c.read_message.ensures.memory _ c.in-Fields.is _ _ _ _ c.list_fields.ensures.outcome c.list_fields.ensures.layout c.list_fields.ensures.events c.list_fields.ensures.verdicts).1.1.1.0;
+  verdicts = (list_read c.args.dictionary.now c.args.message.now c.args.layout.now c.args.fields.now c.args.events.now c.args.verdicts.now _ c.read_message.ensures.outcome _ c.read_message.ensures.memory _ c.in-Fields.is _ _ _ _ c.list_fields.ensures.outcome c.list_fields.ensures.layout c.list_fields.ensures.events c.list_fields.ensures.verdicts).1.1.1.1;
+}
 
 pub returns-in-Refused : goal.returns-in-Refused
 returns-in-Refused c = record {
-      outcome = (list_not_read c.args.dictionary.now c.args.message.now c.args.layout.now c.args.fields.now c.args.events.now c.args.verdicts.now _ c.read_message.ensures.outcome _ c.read_message.ensures.memory _ c.in-Refused.is).0;
-      layout = (list_not_read c.args.dictionary.now c.args.message.now c.args.layout.now c.args.fields.now c.args.events.now c.args.verdicts.now _ c.read_message.ensures.outcome _ c.read_message.ensures.memory _ c.in-Refused.is).1.0;
-      fields = (list_not_read c.args.dictionary.now c.args.message.now c.args.layout.now c.args.fields.now c.args.events.now c.args.verdicts.now _ c.read_message.ensures.outcome _ c.read_message.ensures.memory _ c.in-Refused.is).1.1.0;
-      events = (list_not_read c.args.dictionary.now c.args.message.now c.args.layout.now c.args.fields.now c.args.events.now c.args.verdicts.now _ c.read_message.ensures.outcome _ c.read_message.ensures.memory _ c.in-Refused.is).1.1.1.0;
-      verdicts = (list_not_read c.args.dictionary.now c.args.message.now c.args.layout.now c.args.fields.now c.args.events.now c.args.verdicts.now _ c.read_message.ensures.outcome _ c.read_message.ensures.memory _ c.in-Refused.is).1.1.1.1;
-    }
+  outcome = (list_not_read c.args.dictionary.now c.args.message.now c.args.layout.now c.args.fields.now c.args.events.now c.args.verdicts.now _ c.read_message.ensures.outcome _ c.read_message.ensures.memory _ c.in-Refused.is).0;
+  layout = (list_not_read c.args.dictionary.now c.args.message.now c.args.layout.now c.args.fields.now c.args.events.now c.args.verdicts.now _ c.read_message.ensures.outcome _ c.read_message.ensures.memory _ c.in-Refused.is).1.0;
+  fields = (list_not_read c.args.dictionary.now c.args.message.now c.args.layout.now c.args.fields.now c.args.events.now c.args.verdicts.now _ c.read_message.ensures.outcome _ c.read_message.ensures.memory _ c.in-Refused.is).1.1.0;
+  events = (list_not_read c.args.dictionary.now c.args.message.now c.args.layout.now c.args.fields.now c.args.events.now c.args.verdicts.now _ c.read_message.ensures.outcome _ c.read_message.ensures.memory _ c.in-Refused.is).1.1.1.0;
+  verdicts = (list_not_read c.args.dictionary.now c.args.message.now c.args.layout.now c.args.fields.now c.args.events.now c.args.verdicts.now _ c.read_message.ensures.outcome _ c.read_message.ensures.memory _ c.in-Refused.is).1.1.1.1;
+}

@@ -44,9 +44,9 @@ overflow_add-first c = omega (arith, row-value _ _ _ _ _ c.loop-first.invariant 
 
 pub put_row-requires : goal.put_row-requires
 put_row-requires c = record {
-      at_in_bounds = room_of_rows _ _ _ _ _ c.loop-first.invariant _ c.position_of-past.ensures.place c.if-past-text.false _ c.field_line.ensures _ _ c.in-Field.is;
-      first_bound = (omega (arith, row-value _ _ _ _ _ c.loop-first.invariant _ c.position_of-past.ensures.place c.if-past-text.false _ c.field_line.ensures _ _ c.in-Field.is, c.position_of-past.ensures.within, c.requires.text_len_bound), omega (arith, c.position_of-past.ensures.within, c.requires.text_len_bound));
-    }
+  at_in_bounds = room_of_rows _ _ _ _ _ c.loop-first.invariant _ c.position_of-past.ensures.place c.if-past-text.false _ c.field_line.ensures _ _ c.in-Field.is;
+  first_bound = (omega (arith, row-value _ _ _ _ _ c.loop-first.invariant _ c.position_of-past.ensures.place c.if-past-text.false _ c.field_line.ensures _ _ c.in-Field.is, c.position_of-past.ensures.within, c.requires.text_len_bound), omega (arith, c.position_of-past.ensures.within, c.requires.text_len_bound));
+}
 
 -- at += 3;
 pub overflow_add-at : goal.overflow_add-at

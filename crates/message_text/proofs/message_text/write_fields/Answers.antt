@@ -12,19 +12,19 @@ overflow_mul-needed c = omega (arith, table_of_length c.args.text.now c.args.cou
 -- return ReadMessage::Refused(Refusal::SpaceShort(needed as u64));
 pub returns-then-fields-needed : goal.returns-then-fields-needed
 returns-then-fields-needed c = record {
-      outcome = sym (space_short _ c.args.fields.now _ c.requires.text_value c.if-fields-needed.true);
-      memory = sym (space-kept _ c.args.fields.now _ c.requires.text_value c.if-fields-needed.true);
-    }
+  outcome = sym (space_short _ c.args.fields.now _ c.requires.text_value c.if-fields-needed.true);
+  memory = sym (space-kept _ c.args.fields.now _ c.requires.text_value c.if-fields-needed.true);
+}
 
 -- put_fields(text, fields);
 pub put_fields-requires : goal.put_fields-requires
 put_fields-requires c = record {
-      text_len_bound = c.requires.text_len_bound;
-      text_in_bounds = omega (arith, table_of_length c.args.text.now c.args.count c.requires.text_value, c.if-fields-needed.false);
-    }
+  text_len_bound = c.requires.text_len_bound;
+  text_in_bounds = omega (arith, table_of_length c.args.text.now c.args.count c.requires.text_value, c.if-fields-needed.false);
+}
 
 pub returns : goal.returns
 returns c = record {
-      outcome = sym (space-enough _ c.args.fields.now _ c.requires.text_value c.if-fields-needed.false);
-      memory = c.put_fields.ensures ∙ sym (space-written _ c.args.fields.now _ c.requires.text_value c.if-fields-needed.false);
-    }
+  outcome = sym (space-enough _ c.args.fields.now _ c.requires.text_value c.if-fields-needed.false);
+  memory = c.put_fields.ensures ∙ sym (space-written _ c.args.fields.now _ c.requires.text_value c.if-fields-needed.false);
+}

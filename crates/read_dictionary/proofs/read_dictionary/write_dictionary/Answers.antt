@@ -14,9 +14,9 @@ words_needed-needed-requires c = let few = accepted-few _ _ c.requires in (omega
 -- return Read::Refused(Refusal::SpaceShort(needed));
 pub returns-then-words-needed : goal.returns-then-words-needed
 returns-then-words-needed c = record {
-      outcome = (space_short (dictionary_words (text_lines c.args.text.now)) c.args.words.now _ (c.words_needed-needed.ensures ∙ accepted-needs _ _ c.requires) c.if-words-needed.true).0;
-      memory = (space_short (dictionary_words (text_lines c.args.text.now)) c.args.words.now _ (c.words_needed-needed.ensures ∙ accepted-needs _ _ c.requires) c.if-words-needed.true).1;
-    }
+  outcome = (space_short (dictionary_words (text_lines c.args.text.now)) c.args.words.now _ (c.words_needed-needed.ensures ∙ accepted-needs _ _ c.requires) c.if-words-needed.true).0;
+  memory = (space_short (dictionary_words (text_lines c.args.text.now)) c.args.words.now _ (c.words_needed-needed.ensures ∙ accepted-needs _ _ c.requires) c.if-words-needed.true).1;
+}
 
 -- put_dictionary(text, counts, words);
 pub put_dictionary-requires : goal.put_dictionary-requires
@@ -24,6 +24,6 @@ put_dictionary-requires c = (c.requires, omega (arith, c.words_needed-needed.ens
 
 pub returns : goal.returns
 returns c = record {
-      outcome = (space-holds (dictionary_words (text_lines c.args.text.now)) c.args.words.now _ (c.words_needed-needed.ensures ∙ accepted-needs _ _ c.requires) c.if-words-needed.false _ c.put_dictionary.ensures).0;
-      memory = (space-holds (dictionary_words (text_lines c.args.text.now)) c.args.words.now _ (c.words_needed-needed.ensures ∙ accepted-needs _ _ c.requires) c.if-words-needed.false _ c.put_dictionary.ensures).1;
-    }
+  outcome = (space-holds (dictionary_words (text_lines c.args.text.now)) c.args.words.now _ (c.words_needed-needed.ensures ∙ accepted-needs _ _ c.requires) c.if-words-needed.false _ c.put_dictionary.ensures).0;
+  memory = (space-holds (dictionary_words (text_lines c.args.text.now)) c.args.words.now _ (c.words_needed-needed.ensures ∙ accepted-needs _ _ c.requires) c.if-words-needed.false _ c.put_dictionary.ensures).1;
+}

@@ -15,32 +15,32 @@ bounds-messages-at c = omega (arith, c.requires.few_messages, c.requires.message
 
 pub returns-in-Tag : goal.returns-in-Tag
 returns-in-Tag c = record {
-      counts = rw c.in-Tag.is (refl);
-      tags = rw c.in-Tag.is (refl);
-      components = rw c.in-Tag.is (refl);
-      messages = rw c.in-Tag.is (refl);
-    }
+  counts = rw c.in-Tag.is (refl);
+  tags = rw c.in-Tag.is (refl);
+  components = rw c.in-Tag.is (refl);
+  messages = rw c.in-Tag.is (refl);
+}
 
 pub returns-in-ComponentName : goal.returns-in-ComponentName
 returns-in-ComponentName c = record {
-      counts = rw c.in-ComponentName.is (refl);
-      tags = rw c.in-ComponentName.is (refl);
-      components = rw c.in-ComponentName.is (refl);
-      messages = rw c.in-ComponentName.is (refl);
-    }
+  counts = rw c.in-ComponentName.is (refl);
+  tags = rw c.in-ComponentName.is (refl);
+  components = rw c.in-ComponentName.is (refl);
+  messages = rw c.in-ComponentName.is (refl);
+}
 
 pub returns-in-MessageName : goal.returns-in-MessageName
 returns-in-MessageName c = record {
-      counts = rw c.in-MessageName.is (refl);
-      tags = rw c.in-MessageName.is (refl);
-      components = rw c.in-MessageName.is (refl);
-      messages = rw c.in-MessageName.is (refl);
-    }
+  counts = rw c.in-MessageName.is (refl);
+  tags = rw c.in-MessageName.is (refl);
+  components = rw c.in-MessageName.is (refl);
+  messages = rw c.in-MessageName.is (refl);
+}
 
 pub returns-in-Nothing : goal.returns-in-Nothing
 returns-in-Nothing c = record {
-      counts = rw c.in-Nothing.is (refl);
-      tags = rw c.in-Nothing.is (refl);
-      components = rw c.in-Nothing.is (refl);
-      messages = rw c.in-Nothing.is (refl);
-    }
+  counts = rw c.in-Nothing.is (refl);
+  tags = rw c.in-Nothing.is (refl);
+  components = rw c.in-Nothing.is (refl);
+  messages = rw c.in-Nothing.is (refl);
+}

@@ -23,9 +23,9 @@ overflow_add-number c = omega (arith, c.loop-first.invariant.in_order.few, c.loo
 
 pub returns-then-past-text : goal.returns-then-past-text
 returns-then-past-text c = record {
-      outcome = sym (order-breaks _ _ _ _ c.loop-first.invariant.in_order _ c.position_of-past.ensures.place c.loop-first-test.true c.if-past-text.true);
-      names = reading-breaks _ _ _ _ _ _ _ c.loop-first.invariant _ c.position_of-past.ensures.place c.requires.text_len_bound c.if-past-text.true;
-    }
+  outcome = sym (order-breaks _ _ _ _ c.loop-first.invariant.in_order _ c.position_of-past.ensures.place c.loop-first-test.true c.if-past-text.true);
+  names = reading-breaks _ _ _ _ _ _ _ c.loop-first.invariant _ c.position_of-past.ensures.place c.requires.text_len_bound c.if-past-text.true;
+}
 
 -- let line = line_of(&text[first..past]);
 pub slice_bounds-line_of-count : goal.slice_bounds-line_of-count
@@ -43,9 +43,9 @@ take_line-step-requires c = c.loop-first.invariant.in_order.few_open
 
 pub returns-in-Faulty : goal.returns-in-Faulty
 returns-in-Faulty c = record {
-      outcome = sym (order-faulty _ _ _ _ c.loop-first.invariant.in_order _ c.position_of-past.ensures.place c.if-past-text.false _ c.line_of-line.ensures _ c.take_line-step.ensures _ c.in-Faulty.is);
-      names = reading-faulty _ _ _ _ _ _ _ c.loop-first.invariant _ c.position_of-past.ensures.place c.if-past-text.false _ c.line_of-line.ensures _ c.take_line-step.ensures c.requires.text_len_bound _ c.in-Faulty.is;
-    }
+  outcome = sym (order-faulty _ _ _ _ c.loop-first.invariant.in_order _ c.position_of-past.ensures.place c.if-past-text.false _ c.line_of-line.ensures _ c.take_line-step.ensures _ c.in-Faulty.is);
+  names = reading-faulty _ _ _ _ _ _ _ c.loop-first.invariant _ c.position_of-past.ensures.place c.if-past-text.false _ c.line_of-line.ensures _ c.take_line-step.ensures c.requires.text_len_bound _ c.in-Faulty.is;
+}
 
 pub keep_name-counts-requires : goal.keep_name-counts-requires
 keep_name-counts-requires c = names-room _ _ _ _ _ _ _ c.loop-first.invariant c.requires.text_len_bound c.loop-first-test.true
@@ -67,6 +67,6 @@ at_end-requires c = omega (arith, c.loop-first.invariant.in_order.few.few_lines,
 
 pub returns : goal.returns
 returns c = record {
-      outcome = c.at_end.ensures ∙ sym (order-stops _ _ _ _ c.loop-first.invariant.in_order c.loop-first-test.false);
-      names = reading-stops _ _ _ _ _ _ _ c.loop-first.invariant c.requires.text_len_bound c.loop-first-test.false;
-    }
+  outcome = c.at_end.ensures ∙ sym (order-stops _ _ _ _ c.loop-first.invariant.in_order c.loop-first-test.false);
+  names = reading-stops _ _ _ _ _ _ _ c.loop-first.invariant c.requires.text_len_bound c.loop-first-test.false;
+}

@@ -10,12 +10,12 @@ read_ordered-requires c = ordered-text _ _ (sym c.check_layout_text-order.ensure
 
 pub returns-in-Ordered : goal.returns-in-Ordered
 returns-in-Ordered c = record {
-      outcome = (c.read_ordered.ensures.outcome ∙ sym (read-ordered _ (length c.args.words.now) _ (sym c.check_layout_text-order.ensures.outcome ∙ c.in-Ordered.is)));
-      memory = c.read_ordered.ensures.memory ∙ read-words _ _ _ (c.read_ordered.ensures.outcome ∙ sym (read-ordered _ (length c.args.words.now) _ (sym c.check_layout_text-order.ensures.outcome ∙ c.in-Ordered.is)));
-    }
+  outcome = (c.read_ordered.ensures.outcome ∙ sym (read-ordered _ (length c.args.words.now) _ (sym c.check_layout_text-order.ensures.outcome ∙ c.in-Ordered.is)));
+  memory = c.read_ordered.ensures.memory ∙ read-words _ _ _ (c.read_ordered.ensures.outcome ∙ sym (read-ordered _ (length c.args.words.now) _ (sym c.check_layout_text-order.ensures.outcome ∙ c.in-Ordered.is)));
+}
 
 pub returns-in-Unordered : goal.returns-in-Unordered
 returns-in-Unordered c = record {
-      outcome = (sym (read-unordered _ (length c.args.words.now) _ (sym c.check_layout_text-order.ensures.outcome ∙ c.in-Unordered.is)));
-      memory = read-words _ _ _ (sym (read-unordered _ (length c.args.words.now) _ (sym c.check_layout_text-order.ensures.outcome ∙ c.in-Unordered.is)));
-    }
+  outcome = (sym (read-unordered _ (length c.args.words.now) _ (sym c.check_layout_text-order.ensures.outcome ∙ c.in-Unordered.is)));
+  memory = read-words _ _ _ (sym (read-unordered _ (length c.args.words.now) _ (sym c.check_layout_text-order.ensures.outcome ∙ c.in-Unordered.is)));
+}

@@ -8,9 +8,9 @@ use Rattle.read_layout.proofs.read_layout.write_layout.Goals as goal
 -- return ReadLayout::Refused(Refusal::SpaceShort(needed as u64));
 pub returns-then-words-needed : goal.returns-then-words-needed
 returns-then-words-needed c = record {
-      outcome = sym (space_short _ _ c.requires _ refl _ c.if-words-needed.true);
-      memory = refl;
-    }
+  outcome = sym (space_short _ _ c.requires _ refl _ c.if-words-needed.true);
+  memory = refl;
+}
 
 pub gather_layout-gathered-requires : goal.gather_layout-gathered-requires
 gather_layout-gathered-requires c = gather_room _ _ c.requires _ refl _ _ _ _ refl refl refl refl
@@ -21,6 +21,6 @@ put_layout-requires c = put-room _ _ c.requires _ refl _ _ _ _ c.gather_layout-g
 
 pub returns : goal.returns
 returns c = record {
-      outcome = sym (space-fits _ _ c.requires _ refl _ c.if-words-needed.false);
-      memory = words_written _ _ c.requires _ refl _ _ _ _ c.gather_layout-gathered.ensures _ _ c.if-words-needed.false c.put_layout.ensures;
-    }
+  outcome = sym (space-fits _ _ c.requires _ refl _ c.if-words-needed.false);
+  memory = words_written _ _ c.requires _ refl _ _ _ _ c.gather_layout-gathered.ensures _ _ c.if-words-needed.false c.put_layout.ensures;
+}

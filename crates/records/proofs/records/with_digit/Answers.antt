@@ -14,6 +14,6 @@ overflow_add-result c = omega (arith, is_between-range 48 57 c.args.byte c.requi
 -- fn with_digit(high: u32, byte: u32) -> u32
 pub returns : goal.returns
 returns c = record {
-      number = refl;
-      few = omega (arith, is_between-range 48 57 c.args.byte c.requires.1);
-    }
+  number = refl;
+  few = omega (arith, is_between-range 48 57 c.args.byte c.requires.1);
+}

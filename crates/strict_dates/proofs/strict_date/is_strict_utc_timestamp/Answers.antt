@@ -23,5 +23,7 @@ returns-then-not-is_strict_date c = record { outcome = sym (is_strict_utc_timest
 
 -- pub fn is_strict_utc_timestamp(value: &[u8]) -> bool
 pub returns : goal.returns
-returns c = record { outcome = c.is_strict_time_of_day.ensures.outcome ∙ ap is_strict_time_of_day (part_to_end c.args.value.now 9)
-    ∙ sym (is_strict_utc_timestamp-time c.args.value.now (sym c.is_strict_date.ensures.outcome ∙ not-false _ c.if-not-is_strict_date.false-raw)) }
+returns c = record {
+  outcome = c.is_strict_time_of_day.ensures.outcome ∙ ap is_strict_time_of_day (part_to_end c.args.value.now 9)
+      ∙ sym (is_strict_utc_timestamp-time c.args.value.now (sym c.is_strict_date.ensures.outcome ∙ not-false _ c.if-not-is_strict_date.false-raw));
+}

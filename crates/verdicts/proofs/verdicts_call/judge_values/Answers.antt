@@ -13,11 +13,11 @@ loop-index-init c = written-begins _ _ _ _ _
 -- let verdict = verdict_at(dictionary, fields, message, strict, index, number);
 pub verdict_at-verdict-requires : goal.verdict_at-verdict-requires
 verdict_at-verdict-requires c = record {
-      dictionary_value = c.requires.dictionary_value;
-      accepted_table = c.requires.accepted_table;
-      index_bound = omega (arith, c.loop-index-test.true);
-      number_value = written-record _ _ _ _ _ _ _ c.loop-index.invariant c.requires.holds (omega (arith, c.loop-index-test.true));
-    }
+  dictionary_value = c.requires.dictionary_value;
+  accepted_table = c.requires.accepted_table;
+  index_bound = omega (arith, c.loop-index-test.true);
+  number_value = written-record _ _ _ _ _ _ _ c.loop-index.invariant c.requires.holds (omega (arith, c.loop-index-test.true));
+}
 
 pub bounds-verdicts-index-in-loop-index : goal.bounds-verdicts-index-in-loop-index
 bounds-verdicts-index-in-loop-index c = omega (arith, c.loop-index.invariant.same_length, c.requires.fields_in_bounds)

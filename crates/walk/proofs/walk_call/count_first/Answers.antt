@@ -11,9 +11,9 @@ walk_group-counted-requires c = record { lent = c.requires; around = top-ascends
 
 pub returns-then-events-needed : goal.returns-then-events-needed
 returns-then-events-needed c = record {
-      outcome = (space_short c.args.layout.now c.args.fields.now c.args.message.now c.requires.passed c.args.group c.args.position c.requires.valid _ c.members_at-top.ensures c.args.events.now _ _ _ c.walk_group-counted.ensures c.if-events-needed.true).0;
-      memory = (space_short c.args.layout.now c.args.fields.now c.args.message.now c.requires.passed c.args.group c.args.position c.requires.valid _ c.members_at-top.ensures c.args.events.now _ _ _ c.walk_group-counted.ensures c.if-events-needed.true).1;
-    }
+  outcome = (space_short c.args.layout.now c.args.fields.now c.args.message.now c.requires.passed c.args.group c.args.position c.requires.valid _ c.members_at-top.ensures c.args.events.now _ _ _ c.walk_group-counted.ensures c.if-events-needed.true).0;
+  memory = (space_short c.args.layout.now c.args.fields.now c.args.message.now c.requires.passed c.args.group c.args.position c.requires.valid _ c.members_at-top.ensures c.args.events.now _ _ _ c.walk_group-counted.ensures c.if-events-needed.true).1;
+}
 
 -- let end = group_walk::group_walk::walk_group(
 pub walk_group-end-requires : goal.walk_group-end-requires
@@ -21,6 +21,6 @@ walk_group-end-requires c = record { lent = c.requires; around = top-ascends c.a
 
 pub returns : goal.returns
 returns c = record {
-      outcome = (space-holds c.args.layout.now c.args.fields.now c.args.message.now c.requires.passed c.args.group c.args.position c.requires.valid _ c.members_at-top.ensures c.args.events.now _ _ _ c.walk_group-counted.ensures c.if-events-needed.false _ _ _ c.walk_group-end.ensures).0;
-      memory = (space-holds c.args.layout.now c.args.fields.now c.args.message.now c.requires.passed c.args.group c.args.position c.requires.valid _ c.members_at-top.ensures c.args.events.now _ _ _ c.walk_group-counted.ensures c.if-events-needed.false _ _ _ c.walk_group-end.ensures).1;
-    }
+  outcome = (space-holds c.args.layout.now c.args.fields.now c.args.message.now c.requires.passed c.args.group c.args.position c.requires.valid _ c.members_at-top.ensures c.args.events.now _ _ _ c.walk_group-counted.ensures c.if-events-needed.false _ _ _ c.walk_group-end.ensures).0;
+  memory = (space-holds c.args.layout.now c.args.fields.now c.args.message.now c.requires.passed c.args.group c.args.position c.requires.valid _ c.members_at-top.ensures c.args.events.now _ _ _ c.walk_group-counted.ensures c.if-events-needed.false _ _ _ c.walk_group-end.ensures).1;
+}

@@ -11,25 +11,25 @@ use Rattle.walk.proofs.walk_call.walk_group.Goals as goal
 -- return Walked::Refused(Refusal::RuleBroken(0, 0));
 pub returns-then-not-is_layout : goal.returns-then-not-is_layout
 returns-then-not-is_layout c = record {
-      outcome = (refused-layout c.args.layout.now c.args.fields.now c.args.message.now c.args.position c.args.tag c.args.events.now (sym c.is_layout.ensures.outcome ∙ not-true _ c.if-not-is_layout.true-raw)).0;
-      memory = (refused-layout c.args.layout.now c.args.fields.now c.args.message.now c.args.position c.args.tag c.args.events.now (sym c.is_layout.ensures.outcome ∙ not-true _ c.if-not-is_layout.true-raw)).1;
-    }
+  outcome = (refused-layout c.args.layout.now c.args.fields.now c.args.message.now c.args.position c.args.tag c.args.events.now (sym c.is_layout.ensures.outcome ∙ not-true _ c.if-not-is_layout.true-raw)).0;
+  memory = (refused-layout c.args.layout.now c.args.fields.now c.args.message.now c.args.position c.args.tag c.args.events.now (sym c.is_layout.ensures.outcome ∙ not-true _ c.if-not-is_layout.true-raw)).1;
+}
 
 pub walk_top-requires : goal.walk_top-requires
 walk_top-requires c = record {
-      passed = is_layout-passed gate_limits _ (sym c.is_layout.ensures.outcome ∙ not-false _ c.if-not-is_layout.false-raw);
-      accepted_table = (table_check_of-accepted _ _).0 (sym c.check_field_table.ensures.outcome ∙ c.in_default.is);
-    }
+  passed = is_layout-passed gate_limits _ (sym c.is_layout.ensures.outcome ∙ not-false _ c.if-not-is_layout.false-raw);
+  accepted_table = (table_check_of-accepted _ _).0 (sym c.check_field_table.ensures.outcome ∙ c.in_default.is);
+}
 
 pub returns-in_default : goal.returns-in_default
 returns-in_default c = record {
-      outcome = (table-accepted c.args.layout.now c.args.fields.now c.args.message.now c.args.position c.args.tag c.args.events.now (sym c.is_layout.ensures.outcome ∙ not-false _ c.if-not-is_layout.false-raw) _ _ (sym c.check_field_table.ensures.outcome ∙ c.in_default.is) c.walk_top.ensures.outcome c.walk_top.ensures.memory).0;
-      memory = (table-accepted c.args.layout.now c.args.fields.now c.args.message.now c.args.position c.args.tag c.args.events.now (sym c.is_layout.ensures.outcome ∙ not-false _ c.if-not-is_layout.false-raw) _ _ (sym c.check_field_table.ensures.outcome ∙ c.in_default.is) c.walk_top.ensures.outcome c.walk_top.ensures.memory).1;
-    }
+  outcome = (table-accepted c.args.layout.now c.args.fields.now c.args.message.now c.args.position c.args.tag c.args.events.now (sym c.is_layout.ensures.outcome ∙ not-false _ c.if-not-is_layout.false-raw) _ _ (sym c.check_field_table.ensures.outcome ∙ c.in_default.is) c.walk_top.ensures.outcome c.walk_top.ensures.memory).0;
+  memory = (table-accepted c.args.layout.now c.args.fields.now c.args.message.now c.args.position c.args.tag c.args.events.now (sym c.is_layout.ensures.outcome ∙ not-false _ c.if-not-is_layout.false-raw) _ _ (sym c.check_field_table.ensures.outcome ∙ c.in_default.is) c.walk_top.ensures.outcome c.walk_top.ensures.memory).1;
+}
 
 -- pub fn walk_group(
 pub returns : goal.returns
 returns c = record {
-      outcome = (refused-table c.args.layout.now c.args.fields.now c.args.message.now c.args.position c.args.tag c.args.events.now (sym c.is_layout.ensures.outcome ∙ not-false _ c.if-not-is_layout.false-raw) _ (sym c.check_field_table.ensures.outcome ∙ c.in-Refused.is)).0;
-      memory = (refused-table c.args.layout.now c.args.fields.now c.args.message.now c.args.position c.args.tag c.args.events.now (sym c.is_layout.ensures.outcome ∙ not-false _ c.if-not-is_layout.false-raw) _ (sym c.check_field_table.ensures.outcome ∙ c.in-Refused.is)).1;
-    }
+  outcome = (refused-table c.args.layout.now c.args.fields.now c.args.message.now c.args.position c.args.tag c.args.events.now (sym c.is_layout.ensures.outcome ∙ not-false _ c.if-not-is_layout.false-raw) _ (sym c.check_field_table.ensures.outcome ∙ c.in-Refused.is)).0;
+  memory = (refused-table c.args.layout.now c.args.fields.now c.args.message.now c.args.position c.args.tag c.args.events.now (sym c.is_layout.ensures.outcome ∙ not-false _ c.if-not-is_layout.false-raw) _ (sym c.check_field_table.ensures.outcome ∙ c.in-Refused.is)).1;
+}

@@ -1,10 +1,10 @@
--- `replay_lists::files::replay_lines` is safe and ends. The invariant: the line stands in its buffer, and each buffer keeps its length.
+-- `replay_lists::recorded_files::replay_lines` is safe and ends. The invariant: the line stands in its buffer, and each buffer keeps its length.
 use mathlib.Core.Path.{◌≡◌}
 use Prim.Native.Nat.{◌≤◌}
 use native.Mathlib.Omega.{arith}
 use lib.ListN.{length}
 use borrow.Author.Rules.{rules}
-use Rattle.replay_lists.proofs.files.replay_lines.Goals as goal
+use Rattle.replay_lists.proofs.recorded_files.replay_lines.Goals as goal
 
 -- line = next_line(fd, buffer, line);
 pub next_line-line-requires : goal.next_line-line-requires
