@@ -1,7 +1,6 @@
 -- `gatelists::main` is safe: no more bytes were read than there was space for (files, specs/Files.antt).
 use native.Mathlib.Omega.{arith}
 use Rattle.files.specs.Files.{bytes_within}
-use borrow.Author.Rules.{rules}
 use Rattle.gatelists.proofs.main.Goals as goal
 
 pub slice_bounds-print_cases-end : goal.slice_bounds-print_cases-end
