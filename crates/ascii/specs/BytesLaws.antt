@@ -1,7 +1,7 @@
 -- Laws of `Bytes.antt`, in its order, and of the parts of a list that loops and loans of a slice speak of. `drop index value` is what a
 -- loop that reads the value from the left has still to read. Assumes nothing.
-use Rattle.std.specs.Prelude.{◌≡◌, refl, ℕ, suc, ◌+◌, ◌-◌, ◌≤◌, ◌<◌, Bool, true, false, ◌&&◌, cond, List, [], ◌∷◌, length, get_or, take, drop}
-use Rattle.std.proofs.Common.{sym, ap, ◌∙◌, arith, add-one, drop_of_length-le, length-drop, drop-cons, take_all}
+use Rattle.std.specs.Prelude.{◌≡◌, refl, ℕ, suc, ◌+◌, ◌-◌, ◌≤◌, ◌<◌, Bool, true, false, List, [], ◌∷◌, length, get_or, take, drop}
+use Rattle.std.proofs.Common.{◌∙◌, arith, add-one, drop_of_length-le, length-drop, drop-cons, take_all}
 use Rattle.ascii.specs.Bytes.{non_empty, every, how_many}
 
 -- ---- lists

@@ -1,8 +1,8 @@
 -- Laws of `Digits.antt`, in its order. Assumes nothing.
-use Rattle.std.specs.Prelude.{◌≡◌, refl, ℕ, ◌+◌, ◌*◌, ◌-◌, ◌≤◌, ◌<◌, Bool, true, false, ◌&&◌, List, [], ◌∷◌, length, get_or, drop}
+use Rattle.std.specs.Prelude.{◌≡◌, ℕ, ◌+◌, ◌*◌, ◌-◌, ◌≤◌, ◌<◌, true, false, List, [], ◌∷◌, length, get_or, drop}
 use Rattle.std.proofs.Common.{arith, drop_of_length-le, eq-eqb, ne_eqb}
 use Rattle.ascii.specs.NotationLaws.{is_between-range}
-use Rattle.ascii.specs.Bytes.{non_empty, every}
+use Rattle.ascii.specs.Bytes.{every}
 use Rattle.ascii.specs.BytesLaws.{drop-step, non_empty-none, non_empty-some}
 use Rattle.ascii.specs.Digits.{is_digit, is_digits, is_digits_of_len, decimal_from}
 

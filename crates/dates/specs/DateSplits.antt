@@ -8,7 +8,7 @@ use Prim.Native.Char.{code}
 use mathlib.Core.List.{List, [], ◌∷◌, ◌++◌}
 use Rattle.std.proofs.Math.Dec.{eqb-suc-suc}
 use borrow.Author.Tests.{eq-eqb, not-true}
-use Rattle.ascii.specs.Notation.{◌≡ᵇ◌, is_between}
+use Rattle.ascii.specs.Notation.{is_between}
 use Rattle.ascii.specs.NotationLaws.{and_left, and_right, and-false, and_assoc}
 use Rattle.ascii.specs.Bytes.{ascii, every}
 use Rattle.ascii.specs.Digits.{is_digit, is_digits_of_len}

@@ -213,7 +213,7 @@ module _ (bytes : List ℕ) (read : Counts) (accepted : dictionary_text_of bytes
         → length (names_of kind (text_lines bytes)) ≡ count
         → ((name : ℕ) → how_often name (names_of kind (text_lines bytes)) ≤ 1)
         → IndexSpace recorded read.lines kind at count
-    recorded_space kind at count from within Counts-same once = record {
+    recorded_space kind at count from within counts_same once = record {
       few_lines = omega (arith, accepted-few bytes read accepted);
       behind_records = from;
       fits = omega (arith, recorded_length);
@@ -221,7 +221,7 @@ module _ (bytes : List ℕ) (read : Counts) (accepted : dictionary_text_of bytes
           rw (recorded_lines, recorded_records)
           (sym (take_at (records_of (text_lines bytes)) behind (10 * read.lines)
           (records_of-length (text_lines bytes) ∙ ap (λ (each : ℕ). 10 * each) (sym (accepted-counts bytes read accepted).lines_are))));
-      counted = rw recorded_lines Counts-same;
+      counted = rw recorded_lines counts_same;
       once_each = rw recorded_lines once;
     }
 

@@ -1,8 +1,5 @@
 -- `ascending::dedup::dedup` meets its contract. The loop's invariant is `DedupSoFar`; the laws are those of specs/DedupLaws.antt.
-use Prim.Native.Nat.{◌-◌}
-use lib.ListN.{length}
-use Rattle.ascending.specs.DedupLaws.{DedupSoFar, dedup_empty, dedup_begins, dedup_keeps, dedup_drops, dedup_ends}
-use borrow.Author.Rules.{rules}
+use Rattle.ascending.specs.DedupLaws.{dedup_empty, dedup_begins, dedup_keeps, dedup_drops, dedup_ends}
 use Rattle.ascending.proofs.dedup.dedup.Goals as goal
 
 -- return 0;

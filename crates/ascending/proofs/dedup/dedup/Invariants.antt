@@ -1,8 +1,7 @@
 -- `ascending::dedup::dedup` meets its contract. The loop's invariant is `DedupSoFar`; the laws are those of specs/DedupLaws.antt.
 use Prim.Native.Nat.{◌-◌}
 use lib.ListN.{length}
-use Rattle.ascending.specs.DedupLaws.{DedupSoFar, dedup_empty, dedup_begins, dedup_keeps, dedup_drops, dedup_ends}
-use borrow.Author.Rules.{rules}
+use Rattle.ascending.specs.DedupLaws.{DedupSoFar}
 use Rattle.ascending.proofs.dedup.dedup.Given as goal
 
 abbrev pub invariant-loop-index : goal.invariant-loop-index

@@ -1,11 +1,8 @@
 -- `ascending::search::is_strictly_ascending` meets its contract. The loop's invariant is `AscendsSoFar`; the laws are those of
 -- specs/SearchLaws.antt.
 use mathlib.Core.Path.{sym}
-use Prim.Native.Nat.{◌-◌}
 use native.Mathlib.Omega.{arith}
-use lib.ListN.{length}
-use Rattle.ascending.specs.SearchLaws.{AscendsSoFar, ascends-empty, ascends-begins, ascends-goes_on, ascends-stops, ascends-ends}
-use borrow.Author.Rules.{rules}
+use Rattle.ascending.specs.SearchLaws.{ascends-empty, ascends-begins, ascends-goes_on, ascends-stops, ascends-ends}
 use Rattle.ascending.proofs.search.is_strictly_ascending.Goals as goal
 
 -- return true;

@@ -1,11 +1,7 @@
 -- `ascii::digits::all_digits` meets its contract. The loop's invariant is `EverySoFar`; the laws are those of specs/BytesLaws.antt.
 use mathlib.Core.Path.{sym, ◌∙◌}
-use Prim.Native.Nat.{◌-◌}
 use borrow.Author.Tests.{not-true, not-false}
-use lib.ListN.{length}
-use Rattle.ascii.specs.Digits.{is_digit}
-use Rattle.ascii.specs.BytesLaws.{EverySoFar, every-begins, every-goes_on, every-fails, every_holds}
-use borrow.Author.Rules.{rules}
+use Rattle.ascii.specs.BytesLaws.{every-begins, every-goes_on, every-fails, every_holds}
 use Rattle.ascii.proofs.digits.all_digits.Goals as goal
 
 -- while index < value.len() {

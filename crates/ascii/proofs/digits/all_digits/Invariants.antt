@@ -1,11 +1,8 @@
 -- `ascii::digits::all_digits` meets its contract. The loop's invariant is `EverySoFar`; the laws are those of specs/BytesLaws.antt.
-use mathlib.Core.Path.{sym, ◌∙◌}
 use Prim.Native.Nat.{◌-◌}
-use borrow.Author.Tests.{not-true, not-false}
 use lib.ListN.{length}
 use Rattle.ascii.specs.Digits.{is_digit}
-use Rattle.ascii.specs.BytesLaws.{EverySoFar, every-begins, every-goes_on, every-fails, every_holds}
-use borrow.Author.Rules.{rules}
+use Rattle.ascii.specs.BytesLaws.{EverySoFar}
 use Rattle.ascii.proofs.digits.all_digits.Given as goal
 
 abbrev pub invariant-loop-index : goal.invariant-loop-index

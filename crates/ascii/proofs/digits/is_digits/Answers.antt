@@ -1,7 +1,6 @@
 -- `ascii::digits::is_digits` meets its contract, by specs/DigitsLaws.antt.
 use mathlib.Core.Path.{sym, ◌∙◌}
 use Rattle.ascii.specs.DigitsLaws.{is_digits-empty, is_digits-some}
-use borrow.Author.Rules.{rules}
 use Rattle.ascii.proofs.digits.is_digits.Goals as goal
 
 -- return false;

@@ -1,7 +1,6 @@
 -- `ascii::digits::is_digits_of_len` meets its contract, by specs/DigitsLaws.antt.
 use mathlib.Core.Path.{sym, ◌∙◌}
 use Rattle.ascii.specs.DigitsLaws.{is_digits_of_len-other_length, is_digits_of_len-length}
-use borrow.Author.Rules.{rules}
 use Rattle.ascii.proofs.digits.is_digits_of_len.Goals as goal
 
 -- return false;

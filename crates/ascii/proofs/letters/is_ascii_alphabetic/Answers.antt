@@ -1,7 +1,6 @@
 -- `ascii::letters::is_ascii_alphabetic` meets its contract, by specs/LettersLaws.antt.
 use mathlib.Core.Path.{sym, ◌∙◌}
 use Rattle.ascii.specs.LettersLaws.{is_letter-upper, is_letter-not_upper}
-use borrow.Author.Rules.{rules}
 use Rattle.ascii.proofs.letters.is_ascii_alphabetic.Goals as goal
 
 -- pub fn is_ascii_alphabetic(byte: u8) -> bool

@@ -1,7 +1,5 @@
 -- `ascii::split::find` meets its contract. The loop's invariant is `FindSoFar`; every answer cites a law of specs/SplitLaws.antt.
-use Prim.Native.Nat.{◌-◌}
-use lib.ListN.{length}
-use Rattle.ascii.specs.SplitLaws.{FindSoFar, find_begins, find_stops, find_goes_on, find_ends}
+use Rattle.ascii.specs.SplitLaws.{find_begins, find_stops, find_goes_on, find_ends}
 use borrow.Author.Rules.{rules}
 use Rattle.ascii.proofs.split.find.Goals as goal
 

@@ -1,8 +1,7 @@
 -- `ascii::split::find` meets its contract. The loop's invariant is `FindSoFar`; every answer cites a law of specs/SplitLaws.antt.
 use Prim.Native.Nat.{◌-◌}
 use lib.ListN.{length}
-use Rattle.ascii.specs.SplitLaws.{FindSoFar, find_begins, find_stops, find_goes_on, find_ends}
-use borrow.Author.Rules.{rules}
+use Rattle.ascii.specs.SplitLaws.{FindSoFar}
 use Rattle.ascii.proofs.split.find.Given as goal
 
 abbrev pub invariant-loop-index : goal.invariant-loop-index

@@ -5,7 +5,6 @@ use Rattle.ascii.specs.Bytes.{every}
 use Rattle.ascii.specs.BytesLaws.{part_to_end}
 use Rattle.ascii.specs.Digits.{is_digit}
 use Rattle.dates.specs.DateLaws.{is_fraction-none, is_fraction-no_point, is_fraction-no_digit, is_fraction-too_long, is_fraction-digits}
-use borrow.Author.Rules.{rules}
 use Rattle.dates.proofs.date.is_fraction.Goals as goal
 
 -- return true;

@@ -8,7 +8,6 @@ use Rattle.ascii.specs.Bytes.{ascii}
 use Rattle.ascii.specs.Digits.{is_digits_of_len}
 use Rattle.dates.specs.Date.{has_picture}
 use Rattle.dates.specs.DateLaws.{has_picture-length, is_month_year-month, is_month_year-day, is_month_year-other, is_month_year-week}
-use borrow.Author.Rules.{rules}
 use Rattle.dates.proofs.date.is_month_year.Goals as goal
 
 -- return true;

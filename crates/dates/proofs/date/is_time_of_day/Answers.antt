@@ -6,7 +6,6 @@ use borrow.Author.Tests.{not-true, not-false}
 use Rattle.ascii.specs.BytesLaws.{part_to_end}
 use Rattle.dates.specs.Date.{is_fraction}
 use Rattle.dates.specs.DateLaws.{is_time_of_day-other, is_time_of_day-short, is_time_of_day-clock}
-use borrow.Author.Rules.{rules}
 use Rattle.dates.proofs.date.is_time_of_day.Goals as goal
 
 -- return false;

@@ -6,7 +6,6 @@ use borrow.Author.Tests.{not-true, not-false}
 use Rattle.ascii.specs.BytesLaws.{part_to_end}
 use Rattle.dates.specs.Date.{is_time_of_day}
 use Rattle.dates.specs.DateLaws.{is_utc_timestamp-other, is_utc_timestamp-short, is_utc_timestamp-date}
-use borrow.Author.Rules.{rules}
 use Rattle.dates.proofs.date.is_utc_timestamp.Goals as goal
 
 -- return false;

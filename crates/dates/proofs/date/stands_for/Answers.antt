@@ -1,7 +1,6 @@
 -- `dates::date::stands_for` meets its contract, by specs/DateLaws.antt.
 use mathlib.Core.Path.{sym, ◌∙◌}
 use Rattle.dates.specs.DateLaws.{stands_for_below, stands_for_above, stands_for_digit}
-use borrow.Author.Rules.{rules}
 use Rattle.dates.proofs.date.stands_for.Goals as goal
 
 -- return byte == letter;

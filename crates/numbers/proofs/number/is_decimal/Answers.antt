@@ -4,7 +4,6 @@ use mathlib.Core.Bool.{true}
 use Rattle.ascii.specs.BytesLaws.{part_to_end}
 use Rattle.numbers.specs.Number.{is_signed, is_decimal_body}
 use Rattle.numbers.specs.NumberLaws.{is_signed_length, is_decimal-signed, is_decimal-unsigned}
-use borrow.Author.Rules.{rules}
 use Rattle.numbers.proofs.number.is_decimal.Goals as goal
 
 -- return is_decimal_body(&value[1..]);

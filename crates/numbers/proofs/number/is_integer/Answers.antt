@@ -6,7 +6,6 @@ use Rattle.ascii.specs.BytesLaws.{part_to_end}
 use Rattle.ascii.specs.Digits.{is_digits}
 use Rattle.numbers.specs.Number.{is_signed}
 use Rattle.numbers.specs.NumberLaws.{is_signed_length, is_integer-no_sign, is_integer-signed, is_integer-unsigned}
-use borrow.Author.Rules.{rules}
 use Rattle.numbers.proofs.number.is_integer.Goals as goal
 
 pub returns-then-not-allow_sign : goal.returns-then-not-allow_sign

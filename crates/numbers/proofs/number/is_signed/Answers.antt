@@ -1,7 +1,6 @@
 -- `numbers::number::is_signed` meets its contract, by specs/NumberLaws.antt.
 use mathlib.Core.Path.{sym}
 use Rattle.numbers.specs.NumberLaws.{is_signed_empty, is_signed_first}
-use borrow.Author.Rules.{rules}
 use Rattle.numbers.proofs.number.is_signed.Goals as goal
 
 -- return false;

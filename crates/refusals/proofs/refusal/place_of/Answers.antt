@@ -1,7 +1,6 @@
 -- `refusals::refusal::place_of` meets its contract, a case at a time.
-use mathlib.Core.Path.{◌≡◌, sym, ap}
+use mathlib.Core.Path.{sym, ap}
 use Rattle.refusals.specs.Refusal.{refusal_place}
-use borrow.Author.Rules.{rules}
 use Rattle.refusals.proofs.refusal.place_of.Goals as goal
 
 pub returns-in-RuleBroken : goal.returns-in-RuleBroken
