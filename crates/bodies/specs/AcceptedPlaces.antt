@@ -70,7 +70,7 @@ Moves (Group count delimiter required) state next =
     (state.part ≤ 1) × ((next.stage ≡ state.stage) × ((next.part ≡ 0) × (next.depth ≡ suc state.depth)))
 Moves (Use name required) state next =
     ((state.part ≤ 2) × (state.depth ≡ 0 → 7 ≤ state.stage)) × ((next.stage ≡ state.stage) × ((next.part ≡ 2) × (next.depth ≡ state.depth)))
-Moves (End number letters) state next = Closes state next
+Moves (End read_number read_letters) state next = Closes state next
 Moves (Member tag) state next = ⊥
 Moves (RequiredTag tag) state next = ⊥
 Moves Unknown state next = ⊥
@@ -107,12 +107,12 @@ module _ (state : State) (number : ℕ) where
       → eqb state.stage 8 ≡ message
       → is_taken (end_step name letters state number).fault ≡ true
       → Closes state (end_step name letters state number).next
-  end-moves name letters true component message test in-component in-message passes =
+  end-moves name read_letters true component message test in-component in-message passes =
       let closed =
       allowed (is_number (get_or state.counts (state.depth - 1) 0) name) (standing state.stage 1 state.name (state.depth - 1) state.counts)
       (rw test at passes) in
       rw test (rw closed.1 (group_ends_lem (ltb-true 0 state.depth test) refl refl refl))
-  end-moves name letters false true message test in-component in-message passes =
+  end-moves name read_letters false true message test in-component in-message passes =
       let closed = allowed (is_number state.name name) (closed_block 3 state) (rw (test, in-component) at passes) in
       let shallow = ltb-false 0 state.depth test in
       let stage = eqb-true state.stage 7 in-component in
@@ -122,7 +122,7 @@ module _ (state : State) (number : ℕ) where
       let shallow = ltb-false 0 state.depth test in
       let stage = eqb-true state.stage 8 in-message in
       rw (test, in-component, in-message) (rw closed.1 (block_ends (omega arith) (omega arith) (omega arith) (omega arith) refl refl))
-  end-moves name letters false false false test in-component in-message passes = absurd (false≢true (rw (test, in-component, in-message) at passes))
+  end-moves name read_letters false false false test in-component in-message passes = absurd (false≢true (rw (test, in-component, in-message) at passes))
 
 moves : (line : Line) (state : State) (number : ℕ) → is_taken (step_of state number line).fault ≡ true → Moves line state (step_of state number line).next
 unfolding step_of
@@ -229,7 +229,7 @@ standing-next (Group count delimiter required) state next here step =
     standing-inside state next here (omega (arith, step.0)) step.1.0 (omega (arith, step.1.1.0))
 standing-next (Use name required) state next here step =
     standing-inside state next here step.0.0 step.1.0 (omega (arith, step.1.1.0))
-standing-next (End name letters) state next here step = standing-closes state next here step
+standing-next (End name read_letters) state next here step = standing-closes state next here step
 standing-next (Member tag) state next here step = absurd step
 standing-next (RequiredTag tag) state next here step = absurd step
 standing-next Unknown state next here step = absurd step
@@ -527,7 +527,7 @@ module _ (state next : State) (blocks : Blocks) (here : Standing state) (there :
   placed (Field tag required) step = placed-field (record { tag = tag; required = required }) step.0 step.1
   placed (Group count delimiter required) step = placed-group count delimiter required step.0 step.1
   placed (Use name required) step = placed-use (record { name = name; required = required }) step.0 step.1
-  placed (End number letters) step = (placed-close step, tt)
+  placed (End read_number read_letters) step = (placed-close step, tt)
   placed (Member tag) step = absurd step
   placed (RequiredTag tag) step = absurd step
   placed Unknown step = absurd step
@@ -624,7 +624,7 @@ header-later (Message letters app) state next rest here step behind comes = absu
 header-later (Field tag required) state next rest here step behind comes = absurd (omega (arith, step.0, here.no_part (omega arith)))
 header-later (Group count delimiter required) state next rest here step behind comes = absurd (omega (arith, step.0, here.no_part (omega arith)))
 header-later (Use name required) state next rest here step behind comes = absurd (omega (arith, step.0.0, here.no_part (omega arith)))
-header-later (End number letters) state next rest here step behind comes = absurd (no_close state next here step (omega arith))
+header-later (End read_number read_letters) state next rest here step behind comes = absurd (no_close state next here step (omega arith))
 header-later (Member tag) state next rest here step behind comes = absurd step
 header-later (RequiredTag tag) state next rest here step behind comes = absurd step
 header-later Unknown state next rest here step behind comes = absurd step
@@ -653,7 +653,7 @@ trailer-close : (number : Number32) (letters : MessageType) (state next : State)
     → place_of 4 0 (End number letters ∷ rest) < length (End number letters ∷ rest)
 trailer-close number letters state next rest (group_ends_lem deep stage part depth) behind comes =
     place-further 4 0 (End number letters) rest (behind (trailer-same state next stage comes))
-trailer-close number letters state next rest (block_ends shallow high low from part depth) behind comes = absurd (omega (arith, comes.early))
+trailer-close read_number read_letters state next rest (block_ends shallow high low from part depth) behind comes = absurd (omega (arith, comes.early))
 
 trailer-later : (line : Line) (state next : State) (rest : List Line)
     → Moves line state next
@@ -712,7 +712,7 @@ pub record Parted (lines : List Line) (header : ℕ) : Type 0 where
 
 end-other : (number : Number32) (letters : MessageType) → is_definition (End number letters) ≡ false
 unfolding is_of record_of
-end-other number (Letters letters) = refl
+end-other read_number (Letters letters) = refl
 end-other (Number number) NoLetters = refl
 end-other NoNumber NoLetters = refl
 
@@ -797,7 +797,7 @@ parted-later (Message letters app) state next rest here step behind none comes =
 parted-later (Field tag required) state next rest here step behind none comes = absurd (omega (arith, step.0, here.no_part (omega arith)))
 parted-later (Group count delimiter required) state next rest here step behind none comes = absurd (omega (arith, step.0, here.no_part (omega arith)))
 parted-later (Use name required) state next rest here step behind none comes = absurd (omega (arith, step.0.0, here.no_part (omega arith)))
-parted-later (End number letters) state next rest here step behind none comes = absurd (no_close state next here step (omega arith))
+parted-later (End read_number read_letters) state next rest here step behind none comes = absurd (no_close state next here step (omega arith))
 parted-later (Member tag) state next rest here step behind none comes = absurd step
 parted-later (RequiredTag tag) state next rest here step behind none comes = absurd step
 parted-later Unknown state next rest here step behind none comes = absurd step

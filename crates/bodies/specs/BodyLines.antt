@@ -38,7 +38,7 @@ Tells read.Other line = IsOther line
 -- the record of an end is that of no other line of a body
 tells-end : (number : Number32) (letters : MessageType) → Tells (read_from (record_of (End number letters))) (End number letters)
 unfolding read_from record_of
-tells-end number (Letters letters) = tt
+tells-end read_number (Letters letters) = tt
 tells-end (Number number) NoLetters = tt
 tells-end NoNumber NoLetters = tt
 

@@ -91,7 +91,7 @@ components-end : (name : ℕ) (number : Number32) (letters : MessageType) (block
     → component_of (before (End number letters) blocks).whole name
     ≡ cond (is_of 5 (End number letters) && eqb (name_of (End number letters)) name) (Tree.Found (innermost blocks.opened)) (component_of blocks.whole name)
 unfolding is_of record_of
-components-end name number (Letters letters) blocks = refl
+components-end name read_number (Letters letters) blocks = refl
 components-end name (Number number) NoLetters blocks = refl
 components-end name NoNumber NoLetters blocks = refl
 
@@ -119,7 +119,7 @@ messages-end : (name : ℕ) (number : Number32) (letters : MessageType) (blocks 
     → message_of (before (End number letters) blocks).whole name
     ≡ cond (is_of 6 (End number letters) && eqb (name_of (End number letters)) name) (Tree.Found (innermost blocks.opened)) (message_of blocks.whole name)
 unfolding is_of record_of
-messages-end name number (Letters letters) blocks = refl
+messages-end name read_number (Letters letters) blocks = refl
 messages-end name (Number number) NoLetters blocks = refl
 messages-end name NoNumber NoLetters blocks = refl
 
@@ -147,7 +147,7 @@ header-end : (number : Number32) (letters : MessageType) (blocks : Blocks)
     → (before (End number letters) blocks).whole.header
     ≡ cond (is_of 3 (End number letters) && eqb (name_of (End number letters)) 0) (innermost blocks.opened) blocks.whole.header
 unfolding is_of record_of
-header-end number (Letters letters) blocks = refl
+header-end read_number (Letters letters) blocks = refl
 header-end (Number number) NoLetters blocks = refl
 header-end NoNumber NoLetters blocks = refl
 
@@ -174,7 +174,7 @@ trailer-end : (number : Number32) (letters : MessageType) (blocks : Blocks)
     → (before (End number letters) blocks).whole.trailer
     ≡ cond (is_of 4 (End number letters) && eqb (name_of (End number letters)) 0) (innermost blocks.opened) blocks.whole.trailer
 unfolding is_of record_of
-trailer-end number (Letters letters) blocks = refl
+trailer-end read_number (Letters letters) blocks = refl
 trailer-end (Number number) NoLetters blocks = refl
 trailer-end NoNumber NoLetters blocks = refl
 
@@ -223,7 +223,7 @@ module _ (kind : ℕ) (opened : List Body) (from : 3 ≤ kind) (to : kind ≤ 6)
 
   end-opens : (number : Number32) (letters : MessageType) → is_of kind (End number letters) ≡ true → Opening
   unfolding is_of record_of
-  end-opens number (Letters letters) test = other_kind 12 (inr (omega arith)) test
+  end-opens read_number (Letters letters) test = other_kind 12 (inr (omega arith)) test
   end-opens (Number number) NoLetters test = other_kind 13 (inr (omega arith)) test
   end-opens NoNumber NoLetters test = other_kind 0 (inl (omega arith)) test
 

@@ -91,7 +91,7 @@ usable_held state number (Message letters app) taken usable = usable
 usable_held state number (Field tag required) taken usable = usable
 usable_held state number (Group count delimiter required) taken usable = usable
 usable_held state number (Use name required) taken usable = usable
-usable_held state number (End name letters) taken usable = usable
+usable_held state number (End name read_letters) taken usable = usable
 usable_held state number (Member tag) taken usable = absurd (false≢true taken)
 usable_held state number (RequiredTag tag) taken usable = absurd (false≢true taken)
 usable_held state number Unknown taken usable = absurd (false≢true taken)
@@ -526,7 +526,7 @@ unfolding digit_count
 some_digits n = some-digit_by (ltb n 10) (digit_count_from 9 100 n)
 
 end-long : (number : Number32) (letters : MessageType) → HeldEnd number letters → 5 ≤ end_length number letters
-end-long number (Letters letters) held = omega (arith, letters_length-range letters)
+end-long read_number (Letters letters) held = omega (arith, letters_length-range letters)
 end-long (Number number) NoLetters held = omega (arith, some_digits number)
 end-long NoNumber NoLetters held = absurd held
 

@@ -67,7 +67,7 @@ module _ (tag : ℕ) (values : List (List ℕ)) (others : List FieldDef) where
 
   field_step_end : (number : Number32) (letters : MessageType) → Step (End number letters)
   unfolding field_called is_of name_of record_of
-  field_step_end number (Letters letters) = refl
+  field_step_end read_number (Letters letters) = refl
   field_step_end (Number number) NoLetters = refl
   field_step_end NoNumber NoLetters = refl
 
@@ -115,7 +115,7 @@ module _ (values : List (List ℕ)) (others : List FieldDef) where
 
   named_end : (number : Number32) (letters : MessageType) → Named (End number letters)
   unfolding is_of name_of record_of
-  named_end number (Letters letters) = refl
+  named_end read_number (Letters letters) = refl
   named_end (Number number) NoLetters = refl
   named_end NoNumber NoLetters = refl
 
@@ -289,7 +289,7 @@ OtherLine line = (eqb (get_or (record_of line) 0 0) 2 ≡ false) × ((others : L
 
 other_end : (number : Number32) (letters : MessageType) → OtherLine (End number letters)
 unfolding record_of
-other_end number (Letters letters) = (refl, λ others. refl)
+other_end read_number (Letters letters) = (refl, λ others. refl)
 other_end (Number number) NoLetters = (refl, λ others. refl)
 other_end NoNumber NoLetters = (refl, λ others. refl)
 

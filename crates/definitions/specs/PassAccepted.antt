@@ -91,7 +91,7 @@ app_low false = refl
 
 end_low : (number : Number32) (letters : MessageType) → HeldEnd number letters → above (end_text number letters)
 unfolding every
-end_low number (Letters letters) held = letters-low letters held.0
+end_low read_number (Letters letters) held = letters-low letters held.0
 end_low (Number number) NoLetters held = numeral-low number
 end_low NoNumber NoLetters held = absurd held
 
@@ -247,7 +247,7 @@ SmallNames Nothing = Unit
 
 tags-step_end : (number : Number32) (letters : MessageType) (rest : List Line) → names_of 1 (End number letters ∷ rest) ≡ names_of 1 rest
 unfolding names_of is_of name_of record_of
-tags-step_end number (Letters letters) rest = refl
+tags-step_end read_number (Letters letters) rest = refl
 tags-step_end (Number number) NoLetters rest = refl
 tags-step_end NoNumber NoLetters rest = refl
 
@@ -271,7 +271,7 @@ tags-step (End number letters) rest = tags-step_end number letters rest
 
 components-step_end : (number : Number32) (letters : MessageType) (rest : List Line) → names_of 5 (End number letters ∷ rest) ≡ names_of 5 rest
 unfolding names_of is_of name_of record_of
-components-step_end number (Letters letters) rest = refl
+components-step_end read_number (Letters letters) rest = refl
 components-step_end (Number number) NoLetters rest = refl
 components-step_end NoNumber NoLetters rest = refl
 
@@ -295,7 +295,7 @@ components-step (End number letters) rest = components-step_end number letters r
 
 messages-step_end : (number : Number32) (letters : MessageType) (rest : List Line) → names_of 6 (End number letters ∷ rest) ≡ names_of 6 rest
 unfolding names_of is_of name_of record_of
-messages-step_end number (Letters letters) rest = refl
+messages-step_end read_number (Letters letters) rest = refl
 messages-step_end (Number number) NoLetters rest = refl
 messages-step_end NoNumber NoLetters rest = refl
 
@@ -332,7 +332,7 @@ held_small (Use name required) held = tt
 held_small (Member tag) held = absurd held
 held_small (RequiredTag tag) held = absurd held
 held_small Unknown held = absurd held
-held_small (End number letters) held = tt
+held_small (End read_number read_letters) held = tt
 
 pub once-other : (word other : ℕ) → (other ≡ word → ⊥) → once word other ≡ 0
 unfolding once

@@ -177,7 +177,7 @@ before (Group count delimiter required) blocks = record {
   whole = blocks.whole;
 }
 before (Use name required) blocks = changed (with_use (record { name = name; required = required })) blocks
-before (End number letters) blocks = begun blocks
+before (End read_number read_letters) blocks = begun blocks
 before (Member tag) blocks = blocks
 before (RequiredTag tag) blocks = blocks
 before Unknown blocks = blocks

@@ -224,11 +224,11 @@ so_far_group level (block_of count delimiter flag around ∷ blocks) group =
 
 member_below : (tag : ℕ) (level : Level) → first_below (with_member tag level) ≡ first_below level
 unfolding first_below
-member_below tag (level_of_lem members required groups) = refl
+member_below tag (level_of_lem members required held_groups) = refl
 
 required-below : (tag : ℕ) (level : Level) → first_below (with_required tag level) ≡ first_below level
 unfolding first_below
-required-below tag (level_of_lem members required groups) = refl
+required-below tag (level_of_lem members required held_groups) = refl
 
 top-whole : (layout : Layout) → first_broken layout ≡ or_else (broken_so_far layout []) (top_broken layout)
 unfolding first_broken broken_so_far

@@ -86,29 +86,29 @@ level_broken-top level = refl
 module _ (tag : ℕ) where
   pub held-member : (level : Level) (blocks : List Block) → held_members (with_member tag level) blocks ≡ held_members level blocks ++ (tag ∷ [])
   unfolding held_members
-  held-member (level_of_lem members required groups) [] = refl
-  held-member (level_of_lem members required groups) (block_of count delimiter flag around ∷ blocks) = sym (append_assoc (held_members around blocks) members (tag ∷ []))
+  held-member (level_of_lem members required held_groups) [] = refl
+  held-member (level_of_lem members required held_groups) (block_of count delimiter flag around ∷ blocks) = sym (append_assoc (held_members around blocks) members (tag ∷ []))
 
   pub held-tags_member : (level : Level) (blocks : List Block) → held_tags (with_member tag level) blocks ≡ held_tags level blocks
   unfolding held_tags
-  held-tags_member (level_of_lem members required groups) [] = refl
-  held-tags_member (level_of_lem members required groups) (block_of count delimiter flag around ∷ blocks) = refl
+  held-tags_member (level_of_lem members required held_groups) [] = refl
+  held-tags_member (level_of_lem members required held_groups) (block_of count delimiter flag around ∷ blocks) = refl
 
   pub held-required : (level : Level) (blocks : List Block) → held_members (with_required tag level) blocks ≡ held_members level blocks
   unfolding held_members
-  held-required (level_of_lem members required groups) [] = refl
-  held-required (level_of_lem members required groups) (block_of count delimiter flag around ∷ blocks) = refl
+  held-required (level_of_lem members required held_groups) [] = refl
+  held-required (level_of_lem members required held_groups) (block_of count delimiter flag around ∷ blocks) = refl
 
   pub held-tags_required : (level : Level) (blocks : List Block) → held_tags (with_required tag level) blocks ≡ held_tags level blocks
   unfolding held_tags
-  held-tags_required (level_of_lem members required groups) [] = refl
-  held-tags_required (level_of_lem members required groups) (block_of count delimiter flag around ∷ blocks) = refl
+  held-tags_required (level_of_lem members required held_groups) [] = refl
+  held-tags_required (level_of_lem members required held_groups) (block_of count delimiter flag around ∷ blocks) = refl
 
 module _ (group : Group) where
   pub held-group : (level : Level) (blocks : List Block) → held_members (with_group group level) blocks ≡ held_members level blocks
   unfolding held_members
-  held-group (level_of_lem members required groups) [] = refl
-  held-group (level_of_lem members required groups) (block_of count delimiter flag around ∷ blocks) = refl
+  held-group (level_of_lem members required held_groups) [] = refl
+  held-group (level_of_lem members required held_groups) (block_of count delimiter flag around ∷ blocks) = refl
 
   tags-then : (groups : Groups) → map count_tag (listed (groups_then groups group)) ≡ map count_tag (listed groups) ++ (count_tag group ∷ [])
   tags-then no_groups = refl

@@ -108,9 +108,9 @@ module _ (state : LevelState) (number total : ℕ) (goes_on : LevelState → Lay
   line-follows (Field tag flag) accepted = refused (UnknownForm number) accepted
   line-follows (Group count delimiter flag) accepted = group-follows _ count delimiter flag (ltb state.depth 40) refl refl refl accepted
   line-follows (Use name flag) accepted = refused (UnknownForm number) accepted
-  line-follows (End (Number count) letters) accepted =
+  line-follows (End (Number count) read_letters) accepted =
       end-follows (level nested (state.depth - 1) state.counts) (is_number (get_or state.counts (state.depth - 1) 0) (Number count)) (eqb state.depth 0) refl refl refl accepted
-  line-follows (End NoNumber letters) accepted = refused (UnknownForm number) accepted
+  line-follows (End NoNumber read_letters) accepted = refused (UnknownForm number) accepted
   line-follows (Member tag) accepted = member-follows tag (eqb state.part 0) refl accepted
   line-follows (RequiredTag tag) accepted = required-follows tag (leb state.part 1) refl accepted
   line-follows Unknown accepted = refused (UnknownForm number) accepted

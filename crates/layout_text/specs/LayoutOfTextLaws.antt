@@ -38,11 +38,11 @@ MayTake part (level_of_lem members required groups) = (part ≡ 0 → required �
 
 level_lines-member : (tag part : ℕ) (level : Level) (rest : List LevelLine) → MayTake part level → part ≡ 0 → level_lines (with_member tag level) rest ≡ level_lines level (MemberLine tag ∷ rest)
 unfolding level_lines required_lines
-level_lines-member tag part (level_of_lem members required groups) rest so_far first = rw (so_far.0 first, so_far.1 (omega arith)) (member_lines-more members tag rest)
+level_lines-member tag part (level_of_lem members required held_groups) rest so_far first = rw (so_far.0 first, so_far.1 (omega arith)) (member_lines-more members tag rest)
 
 level_lines-required : (tag part : ℕ) (level : Level) (rest : List LevelLine) → MayTake part level → part ≤ 1 → level_lines (with_required tag level) rest ≡ level_lines level (RequiredLine tag ∷ rest)
 unfolding level_lines
-level_lines-required tag part (level_of_lem members required groups) rest so_far early =
+level_lines-required tag part (level_of_lem members required held_groups) rest so_far early =
     rw (so_far.1 early) (ap (member_lines members) (required_lines-more required tag rest))
 
 level_lines-group : (group : Group) (level : Level) (rest : List LevelLine) → level_lines (with_group group level) rest ≡ level_lines level (group_lines group rest)
@@ -63,13 +63,13 @@ told_with-same level other (block_of count delimiter flag around ∷ blocks) res
     ap (λ (lines : List LevelLine). told_with around blocks (GroupLine count delimiter flag ∷ lines)) same
 
 taken-member : (tag part : ℕ) (level : Level) → MayTake part level → MayTake part (with_member tag level)
-taken-member tag part (level_of_lem members required groups) so_far = so_far
+taken-member tag part (level_of_lem members required held_groups) so_far = so_far
 
 taken-required : (tag part : ℕ) (level : Level) → MayTake part level → part ≤ 1 → MayTake 1 (with_required tag level)
-taken-required tag part (level_of_lem members required groups) so_far early = (λ (first : ◌≡◌ {A = ℕ} 1 0). absurd (omega arith), λ still. so_far.1 early)
+taken-required tag part (level_of_lem members required held_groups) so_far early = (λ (first : ◌≡◌ {A = ℕ} 1 0). absurd (omega arith), λ still. so_far.1 early)
 
 taken-group : (group : Group) (level : Level) → MayTake 2 (with_group group level)
-taken-group group (level_of_lem members required groups) = (λ (first : ◌≡◌ {A = ℕ} 2 0). absurd (omega arith), λ (early : 2 ≤ 1). absurd (omega arith))
+taken-group group (level_of_lem members required held_groups) = (λ (first : ◌≡◌ {A = ℕ} 2 0). absurd (omega arith), λ (early : 2 ≤ 1). absurd (omega arith))
 
 no_blocks : (level : Level) (blocks : List Block) → length blocks ≡ 0 → told_with level blocks [] ≡ level_lines level []
 unfolding told_with

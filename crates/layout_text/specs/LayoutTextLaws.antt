@@ -63,7 +63,7 @@ module _ (state : LevelState) (number : ℕ) (within : state.depth ≤ 40) where
   level-depth (Field tag flag) = within
   level-depth (Group count delimiter flag) = open_level_by count state number (ltb state.depth 40) refl within
   level-depth (Use name flag) = within
-  level-depth (End name letters) = numbered-depth name
+  level-depth (End name read_letters) = numbered-depth name
   level-depth (Member tag) = level-either (eqb state.part members) (taken_level state) (refused_level state (NotAllowed number)) within within
   level-depth (RequiredTag tag) = level-either (leb state.part required) (taken_level (in_part required state)) (refused_level state (NotAllowed number)) within within
   level-depth Unknown = within

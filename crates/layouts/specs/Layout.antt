@@ -39,10 +39,10 @@ grouped [] = no_groups
 grouped (first ∷ others) = group_and first (grouped others)
 
 abbrev pub members_of : Level → List ℕ
-members_of (level_of_lem members required groups) = members
+members_of (level_of_lem members required held_groups) = members
 
 abbrev pub required_of : Level → List ℕ
-required_of (level_of_lem members required groups) = required
+required_of (level_of_lem members required held_groups) = required
 
 abbrev pub groups_of : Level → List Group
 groups_of (level_of_lem members required groups) = listed groups

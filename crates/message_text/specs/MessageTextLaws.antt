@@ -35,7 +35,7 @@ module _ (line : List ℕ) (place : ℕ) (found : place ≡ 0 + position_of equa
   pub field_line_of-number : (place ≡ length line → ⊥) → (number : Number32) → number ≡ number_of (take (place - 0) line)
       → field_line_of line ≡ field_with (place + 1) number
   unfolding field_line_of
-  field_line_of-number before-end number reads =
+  field_line_of-number before-end read_number reads =
       let position : position_of equals_sign line ≡ place = omega arith in
       let other : position_of equals_sign line ≡ length line → ⊥ = λ same. before-end (omega arith) in
       rw (ne_eqb (position_of equals_sign line) (length line) other, reads, before-found equals_sign line place found, position)
@@ -58,7 +58,7 @@ says-by : (line : List ℕ) (tag value : ℕ) (none : Bool) (number : Number32)
     → number_of (before equals_sign line) ≡ number
     → (if none then NoField else field_with (position_of equals_sign line + 1) number) ≡ Field tag value
     → Says line tag value
-says-by line tag value true number at-end reads says = let zero_one : ◌≡◌ {A = ℕ} 0 1 = cc in absurd (omega arith)
+says-by line tag value true read_number at-end reads says = let zero_one : ◌≡◌ {A = ℕ} 0 1 = cc in absurd (omega arith)
 says-by line tag value false NoNumber inside reads says = let zero_one : ◌≡◌ {A = ℕ} 0 1 = cc in absurd (omega arith)
 says-by line tag value false (Number other) inside reads says =
     let is-tag : other ≡ tag = cc in

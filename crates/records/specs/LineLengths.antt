@@ -36,7 +36,7 @@ app_length true = 3
 app_length false = 5
 
 abbrev pub end_length : Number32 → MessageType → ℕ
-end_length number (Letters letters) = 4 + letters_length letters
+end_length read_number (Letters letters) = 4 + letters_length letters
 end_length (Number number) NoLetters = 4 + digit_count number
 end_length NoNumber NoLetters = 0
 

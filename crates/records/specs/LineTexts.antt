@@ -68,7 +68,7 @@ app_text true = ascii "app"
 app_text false = ascii "admin"
 
 abbrev pub end_text : Number32 → MessageType → List ℕ
-end_text number (Letters letters) = ascii "end=" ++ letters_text letters
+end_text read_number (Letters letters) = ascii "end=" ++ letters_text letters
 end_text (Number number) NoLetters = ascii "end=" ++ numeral number
 end_text NoNumber NoLetters = []
 

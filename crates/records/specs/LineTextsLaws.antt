@@ -171,7 +171,7 @@ app_length_lem true = refl
 app_length_lem false = refl
 
 end-text_length : (number : Number32) (letters : MessageType) → HeldEnd number letters → length (end_text number letters) ≡ end_length number letters
-end-text_length number (Letters letters) held = omega (arith, letters_text-length letters)
+end-text_length read_number (Letters letters) held = omega (arith, letters_text-length letters)
 end-text_length (Number number) NoLetters held = omega (arith, numeral-length number)
 end-text_length NoNumber NoLetters held = absurd held
 

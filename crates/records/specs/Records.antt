@@ -107,7 +107,7 @@ abbrev pub value_record : Admitted → List ℕ
 value_record value = 2 ∷ value.len ∷ value_words value
 
 abbrev pub end_record : Number32 → MessageType → List ℕ
-end_record number (Letters letters) = record4 12 letters 0 0
+end_record read_number (Letters letters) = record4 12 letters 0 0
 end_record (Number number) NoLetters = record4 13 number 0 0
 end_record NoNumber NoLetters = record4 0 0 0 0
 

@@ -172,7 +172,7 @@ Held Unknown = ⊥
 
 end_back : (number : Number32) (letters : MessageType) → HeldEnd number letters → line_from (record_of (End number letters)) ≡ End number letters
 unfolding line_from record_of body_from is_unused every
-end_back number (Letters letters) held = rw (held.0, ← held.1)
+end_back read_number (Letters letters) held = rw (held.0, ← held.1)
 end_back (Number number) NoLetters held = rw (le-leb 10000 number held.0)
 end_back NoNumber NoLetters held = absurd held
 
@@ -200,7 +200,7 @@ line_from-record_of Unknown held = absurd held
 
 end-length : (number : Number32) (letters : MessageType) → length (record_of (End number letters)) ≡ 10
 unfolding record_of
-end-length number (Letters letters) = refl
+end-length read_number (Letters letters) = refl
 end-length (Number number) NoLetters = refl
 end-length NoNumber NoLetters = refl
 

@@ -358,7 +358,7 @@ word_at_over first bytes over =
 pub word_at_further : (zeroth first second third : ℕ) (rest : List ℕ) (place : ℕ)
     → word_at (4 + place) (zeroth ∷ first ∷ second ∷ third ∷ rest) ≡ word_at place rest
 unfolding word_at
-word_at_further zeroth first second third rest place =
+word_at_further first_word first second third rest place =
     let at0 : 4 + place ≡ suc (suc (suc (suc place))) = omega arith in
     let at1 : suc (suc (suc (suc place))) + 1 ≡ suc (suc (suc (suc (place + 1)))) = omega arith in
     let at2 : suc (suc (suc (suc place))) + 2 ≡ suc (suc (suc (suc (place + 2)))) = omega arith in

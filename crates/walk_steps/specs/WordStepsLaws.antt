@@ -57,7 +57,7 @@ module _ (fields members count_tags : List ℕ) (first delimiter start cursor : 
 
         pub step-taken : (step : EntryStep) → step ≡ member_step rank tag (number_found first (rank_in count_tags tag)) → step ≡ entry_step fields members count_tags first delimiter start cursor
         unfolding entry_step
-        step-taken step is = is ∙ rw (lt-ltb cursor (row_count fields) inside, there-too, taken-too, is-tag)
+        step-taken step_taken is = is ∙ rw (lt-ltb cursor (row_count fields) inside, there-too, taken-too, is-tag)
 
 pub taken-first : (cursor start tag delimiter : ℕ) → cursor ≡ start → (not (eqb cursor start) && eqb tag delimiter) ≡ false
 taken-first cursor start tag delimiter same = rw (eq-eqb cursor start same)
@@ -295,7 +295,7 @@ module _ (words : List ℕ) (group : ℕ) (members count_tags : List ℕ) (first
   pub level-step : count_tags ≡ level_count_tags words (1 + group) → first ≡ first_group words (1 + group)
       → (fields : List ℕ) (start cursor : ℕ) (step : EntryStep) → step ≡ entry_step fields members count_tags first delimiter start cursor
       → step ≡ entry_step fields (level_members words (1 + group)) (level_count_tags words (1 + group)) (first_group words (1 + group)) (delimiter_at words group) start cursor
-  level-step are-tags is-first fields start cursor step steps =
+  level-step are-tags is-first fields start cursor step_taken steps =
       steps
       ∙ ap (λ (list : List ℕ). entry_step fields list count_tags first delimiter start cursor) are-members
       ∙ ap (λ (list : List ℕ). entry_step fields (level_members words (1 + group)) list first delimiter start cursor) are-tags
