@@ -4,7 +4,8 @@
 --   non_empty value        the value has a byte
 --   every test value      every byte of the value passes the test (so also of the empty value)
 --   how_many test value    how many bytes of the value pass the test
-use Rattle.std.specs.Prelude.{ℕ, suc, Bool, true, false, ◌&&◌, List, [], ◌∷◌, if◌then◌else◌}
+use Rattle.std.specs.Prelude.{ℕ, Bool, true, false, List, [], ◌∷◌}
+use Rattle.std.specs.List.{list_all, count_by}
 use Prim.Native.Char.{code}
 use Prim.Native.String.{String}
 
@@ -16,10 +17,10 @@ unfoldable pub non_empty : List ℕ → Bool
 non_empty [] = false
 non_empty (byte ∷ rest) = true
 
-unfoldable pub every : (ℕ → Bool) → List ℕ → Bool
-every test [] = true
-every test (byte ∷ rest) = test byte && every test rest
+unfoldable abbrev pub every : (ℕ → Bool) → List ℕ → Bool
+unfolding ascii
+every test value = list_all test value
 
-unfoldable pub how_many : (ℕ → Bool) → List ℕ → ℕ
-how_many test [] = 0
-how_many test (byte ∷ rest) = if test byte then suc (how_many test rest) else how_many test rest
+unfoldable abbrev pub how_many : (ℕ → Bool) → List ℕ → ℕ
+unfolding ascii
+how_many test value = count_by test value

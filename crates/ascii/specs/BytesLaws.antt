@@ -1,8 +1,8 @@
 -- Laws of `Bytes.antt`, in its order, and of the parts of a list that loops and loans of a slice speak of. `drop index value` is what a
 -- loop that reads the value from the left has still to read. Assumes nothing.
-use Rattle.std.specs.Prelude.{◌≡◌, refl, ℕ, suc, ◌+◌, ◌-◌, ◌≤◌, ◌<◌, Bool, true, false, List, [], ◌∷◌, length, get_or, take, drop}
-use Rattle.std.proofs.Common.{◌∙◌, arith, add-one, drop_of_length-le, length-drop, drop-cons, take_all}
-use Rattle.ascii.specs.Bytes.{non_empty, every, how_many}
+use Rattle.std.specs.Prelude.{◌≡◌, refl, ℕ, ◌+◌, ◌-◌, ◌≤◌, ◌<◌, Bool, true, false, not, eqb, List, [], ◌∷◌, length, get_or, take, drop}
+use Rattle.std.proofs.Common.{◌∙◌, arith, add-one, rules, drop_of_length-le, length-drop, drop-cons, take_all}
+use Rattle.ascii.specs.Bytes.{non_empty, every}
 
 -- ---- lists
 
@@ -30,34 +30,23 @@ unfolding non_empty
 non_empty-some [] some_byte = absurd (some_byte refl)
 non_empty-some (byte ∷ rest) some_byte = refl
 
+-- as `is_empty` and a comparison of the length answer it
+pub non_empty_is : (value : List ℕ) → non_empty value ≡ not (eqb (length value) 0)
+unfolding non_empty
+non_empty_is [] = refl
+non_empty_is (byte ∷ rest) = search rules
+
 module _ (test : ℕ → Bool) (value : List ℕ) (index : ℕ) where
   -- ---- every
 
   pub every-step : index < length value → test (get_or value index 0) ≡ true → every test (drop index value) ≡ every test (drop (index + 1) value)
-  unfolding every
   every-step inside passes = rw (drop-step value index inside, passes)
 
   pub every-stop : index < length value → test (get_or value index 0) ≡ false → every test (drop index value) ≡ false
-  unfolding every
   every-stop inside fails = rw (drop-step value index inside, fails)
 
   pub every-end : length value ≤ index → every test (drop index value) ≡ true
-  unfolding every
   every-end over = rw (drop_of_length-le value over)
-
-  -- ---- how_many
-
-  pub how_many-counts : index < length value → test (get_or value index 0) ≡ true → how_many test (drop index value) ≡ suc (how_many test (drop (index + 1) value))
-  unfolding how_many
-  how_many-counts inside passes = rw (drop-step value index inside, passes)
-
-  pub how_many-skips : index < length value → test (get_or value index 0) ≡ false → how_many test (drop index value) ≡ how_many test (drop (index + 1) value)
-  unfolding how_many
-  how_many-skips inside fails = rw (drop-step value index inside, fails)
-
-  pub how_many-end : length value ≤ index → how_many test (drop index value) ≡ 0
-  unfolding how_many
-  how_many-end over = rw (drop_of_length-le value over)
 
 -- the loop of a function that looks at every byte: those before `index` pass the test
 pub record EverySoFar (test : ℕ → Bool) (value : List ℕ) (index : ℕ) : Type 0 where

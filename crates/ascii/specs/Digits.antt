@@ -4,9 +4,10 @@
 --   is_digit byte            the byte is one of 0 to 9
 --   is_digits value          "a non-empty run of ASCII digits"
 --   is_digits_of_len len value "exactly `len` ASCII digits" (schema.rs, `is_digits_of_len`)
---   decimal_from high value  the number that `high` makes with the digits of the value written behind it
+--   decimal_from high value  the number that `high` makes with the digits of the value written after it
 --   decimal value           the number that the digits of the value make
-use Rattle.std.specs.Prelude.{ℕ, ◌+◌, ◌*◌, ◌-◌, Bool, ◌&&◌, List, [], ◌∷◌, length}
+use Rattle.std.specs.Prelude.{ℕ, ◌+◌, ◌*◌, ◌-◌, Bool, ◌&&◌, List, length}
+use Rattle.std.specs.List.{fold}
 use Prim.Native.Char.{code}
 use Rattle.ascii.specs.Notation.{◌≡ᵇ◌, is_between}
 use Rattle.ascii.specs.Bytes.{non_empty, every}
@@ -14,15 +15,17 @@ use Rattle.ascii.specs.Bytes.{non_empty, every}
 abbrev pub is_digit : ℕ → Bool
 is_digit byte = is_between (code "0") (code "9") byte
 
-unfoldable pub is_digits : List ℕ → Bool
+unfoldable abbrev pub is_digits : List ℕ → Bool
+unfolding is_digit
 is_digits value = non_empty value && every is_digit value
 
-unfoldable pub is_digits_of_len : ℕ → List ℕ → Bool
+unfoldable abbrev pub is_digits_of_len : ℕ → List ℕ → Bool
+unfolding is_digit
 is_digits_of_len len value = length value ≡ᵇ len && every is_digit value
 
-unfoldable pub decimal_from : ℕ → List ℕ → ℕ
-decimal_from high [] = high
-decimal_from high (byte ∷ rest) = decimal_from (high * 10 + (byte - code "0")) rest
+unfoldable abbrev pub decimal_from : ℕ → List ℕ → ℕ
+unfolding is_digit
+decimal_from high value = fold (λ number byte. number * 10 + (byte - code "0")) high value
 
 abbrev pub decimal : List ℕ → ℕ
 decimal value = decimal_from 0 value

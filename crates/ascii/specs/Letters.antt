@@ -16,8 +16,10 @@ is_upper byte = is_between (code "A") (code "Z") byte
 abbrev pub is_lower : ℕ → Bool
 is_lower byte = is_between (code "a") (code "z") byte
 
-unfoldable pub is_letter : ℕ → Bool
+unfoldable abbrev pub is_letter : ℕ → Bool
+unfolding is_upper
 is_letter byte = is_upper byte || is_lower byte
 
-unfoldable pub is_alpha_of_len : ℕ → List ℕ → Bool
+unfoldable abbrev pub is_alpha_of_len : ℕ → List ℕ → Bool
+unfolding is_upper
 is_alpha_of_len len value = length value ≡ᵇ len && every is_letter value

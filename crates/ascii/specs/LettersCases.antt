@@ -2,7 +2,7 @@
 use Rattle.std.specs.Prelude.{◌≡◌, refl, true, false}
 use Prim.Native.Char.{code}
 use Rattle.ascii.specs.Notation.{is_between}
-use Rattle.ascii.specs.Bytes.{ascii, every}
+use Rattle.ascii.specs.Bytes.{ascii}
 use Rattle.ascii.specs.Letters.{is_letter, is_alpha_of_len}
 
 pub record LettersCases : Type 0 where
@@ -22,7 +22,7 @@ pub record LettersCases : Type 0 where
   pub a_digit : is_alpha_of_len 3 (ascii "US1") ≡ false
 
 pub letters-cases : LettersCases
-unfolding is_between every is_letter is_alpha_of_len
+unfolding is_between
 letters-cases = record {
   first_capital = refl;
   last_capital = refl;

@@ -1,31 +1,23 @@
 -- Laws of `Split.antt`, in its order, for any separator. The last section is for code that searches a separator from `from` on and finds
 -- it, or the end, at `found`. Assumes nothing.
-use Rattle.std.specs.Prelude.{◌≡◌, ℕ, suc, ◌+◌, ◌-◌, ◌≤◌, ◌<◌, Bool, not, cond, eqb, length, get_or, take, drop}
-use Rattle.std.proofs.Math.Path.{refl, ap}
+use Rattle.std.specs.Prelude.{◌≡◌, ℕ, suc, ◌+◌, ◌-◌, ◌≤◌, ◌<◌, Bool, not, cond, eqb, ltb, length, take, drop}
+use Rattle.std.proofs.Math.Path.{refl, ap, sym}
 use Rattle.std.proofs.Common.{◌∙◌, arith, drop_of_length-le, length-drop, drop-drop}
 use Rattle.std.proofs.Math.Bool.{true, false}
 use mathlib.Core.List.{List, [], ◌∷◌, ◌++◌}
-use borrow.Author.Tests.{eqb-true, not-true, eq-eqb, ne_eqb}
+use borrow.Author.Tests.{eqb-true, not-true, eq-eqb}
+use Rattle.std.specs.List.{position_or_len, position}
+use Rattle.std.specs.Option.{unwrap_or}
+use Rattle.std.proofs.Common.{Some, None, rules}
+use Rattle.std.proofs.lemmas.List.Recursion.{is_position_or_len}
 use Rattle.ascii.specs.NotationLaws.{and_left, and_right}
-use Rattle.ascii.specs.Bytes.{every}
-use Rattle.ascii.specs.BytesLaws.{drop-step}
 use Rattle.ascii.specs.Split.{index_of, Parts, last, part, with_first, split, every_part, without, join}
 
 -- ---- index_of
 
-module _ (separator : ℕ) (value : List ℕ) (index : ℕ) where
-  pub index_of_here : index < length value → get_or value index 0 ≡ separator → index_of separator (drop index value) ≡ 0
-  unfolding index_of
-  index_of_here inside same = rw (drop-step value index inside, eq-eqb _ _ same)
-
-  pub index_of_further : index < length value → (get_or value index 0 ≡ separator → ⊥)
-      → index_of separator (drop index value) ≡ suc (index_of separator (drop (index + 1) value))
-  unfolding index_of
-  index_of_further inside other = rw (drop-step value index inside, ne_eqb _ _ other)
-
-  pub index_of_end : length value ≤ index → index_of separator (drop index value) ≡ 0
-  unfolding index_of
-  index_of_end over = rw (drop_of_length-le value over)
+pub index_of_end : (separator : ℕ) (value : List ℕ) (index : ℕ) → length value ≤ index → index_of separator (drop index value) ≡ 0
+unfolding index_of
+index_of_end separator value index over = rw (drop_of_length-le value over)
 
 index_of_within_by : (test : Bool) (m n : ℕ) → m ≤ n → cond test 0 (suc m) ≤ suc n
 index_of_within_by true m n less = omega arith
@@ -35,6 +27,23 @@ pub index_of_within : (separator : ℕ) (value : List ℕ) → index_of separato
 unfolding index_of
 index_of_within separator [] = omega arith
 index_of_within separator (byte ∷ rest) = index_of_within_by (eqb byte separator) _ _ (index_of_within separator rest)
+
+-- `value.iter().position(|byte| *byte == separator)` and `unwrap_or(value.len())` of it
+index_of_first : (separator byte : ℕ) (rest : List ℕ) → index_of separator (byte ∷ rest) ≡ cond (eqb byte separator) 0 (1 + index_of separator rest)
+unfolding index_of
+index_of_first separator byte rest = ap (cond (eqb byte separator) 0) (omega arith)
+
+pub index_of_is : (separator : ℕ) (value : List ℕ) → index_of separator value ≡ position_or_len (λ byte. eqb byte separator) value
+unfolding index_of
+index_of_is separator value = is_position_or_len (index_of separator) (λ byte. eqb byte separator) refl (index_of_first separator) value
+
+index_of_or_len : (first len : ℕ) → first ≤ len → unwrap_or (cond (ltb first len) (Some first) None) len ≡ first
+index_of_or_len first len within = search rules
+
+pub index_of_position : (separator : ℕ) (value : List ℕ) → unwrap_or (position (λ byte. eqb byte separator) value) (length value) ≡ index_of separator value
+index_of_position separator value =
+    let within : position_or_len (λ byte. eqb byte separator) value ≤ length value = rw (sym (index_of_is separator value)) (index_of_within separator value) in
+    index_of_or_len _ _ within ∙ sym (index_of_is separator value)
 
 -- ---- split
 
@@ -74,11 +83,9 @@ module _ (separator : ℕ) where
 
 module _ (separator : ℕ) where
   without-cons : (byte : ℕ) (rest : List ℕ) → without separator (byte ∷ rest) ≡ true → eqb byte separator ≡ false
-  unfolding every
   without-cons byte rest holds = not-true (eqb byte separator) (and_left _ _ holds)
 
   without-rest : (byte : ℕ) (rest : List ℕ) → without separator (byte ∷ rest) ≡ true → without separator rest ≡ true
-  unfolding every
   without-rest byte rest holds = and_right (not (eqb byte separator)) _ holds
 
   pub split-last : (bytes : List ℕ) → without separator bytes ≡ true → split separator bytes ≡ last bytes
@@ -96,18 +103,18 @@ module _ (separator : ℕ) where
   -- no part has a separator
   without-with_first : (byte : ℕ) (parts : Parts) → eqb byte separator ≡ false
       → every_part (without separator) (with_first byte parts) ≡ every_part (without separator) parts
-  unfolding every every_part with_first
+  unfolding every_part with_first
   without-with_first byte (last bytes) other = rw other
   without-with_first byte (part bytes others) other = rw other
 
   split-without_by : (byte : ℕ) (parts : Parts) (test : Bool) → eqb byte separator ≡ test → every_part (without separator) parts ≡ true
       → every_part (without separator) (cond test (part [] parts) (with_first byte parts)) ≡ true
-  unfolding every every_part
+  unfolding every_part
   split-without_by byte parts true same of_parts = of_parts
   split-without_by byte parts false other of_parts = without-with_first byte parts other ∙ of_parts
 
   pub split-without : (value : List ℕ) → every_part (without separator) (split separator value) ≡ true
-  unfolding split every_part every
+  unfolding split every_part
   split-without [] = refl
   split-without (byte ∷ rest) = split-without_by byte (split separator rest) (eqb byte separator) refl (split-without rest)
 
@@ -138,30 +145,6 @@ module _ (separator : ℕ) where
       ∙ ap (part bytes) (split-join others (and_right (without separator bytes) _ holds))
 
 -- ---- a search from `from` on
-
--- the bytes from `from` to before `index` are no separators
-pub record FindSoFar (separator : ℕ) (value : List ℕ) (from index : ℕ) : Type 0 where
-  pub after : from ≤ index
-  pub within : index ≤ from + (length value - from)
-  pub same : from + index_of separator (drop from value) ≡ index + index_of separator (drop index value)
-
-module _ (separator : ℕ) (value : List ℕ) (from : ℕ) where
-  pub find_begins : FindSoFar separator value from from
-  find_begins = record { after = omega arith; within = omega arith; same = refl }
-
-  module _ (index : ℕ) (so_far : FindSoFar separator value from index) where
-    pub find_stops : index < length value → get_or value index 0 ≡ separator → index ≡ from + index_of separator (drop from value)
-    find_stops inside here = omega (arith, index_of_here separator value index inside here)
-
-    pub find_goes_on : index < length value → (get_or value index 0 ≡ separator → ⊥) → FindSoFar separator value from (index + 1)
-    find_goes_on inside other = record {
-      after = omega arith;
-      within = omega arith;
-      same = omega (arith, index_of_further separator value index inside other);
-    }
-
-    pub find_ends : length value ≤ index → index ≡ from + index_of separator (drop from value)
-    find_ends over = omega (arith, index_of_end separator value index over)
 
 module _ (separator : ℕ) (value : List ℕ) (from found : ℕ) (starts : from ≤ length value)
     (place : found ≡ from + index_of separator (drop from value)) where

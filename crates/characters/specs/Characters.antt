@@ -4,13 +4,13 @@
 -- A maximal invalid part is what there is of a character that is broken off (E2 82 before A), or else one byte that begins no character
 -- (80, C0, FF). So every byte either continues the open character or begins a new one, valid or not, and the number of characters is the
 -- number of bytes that continue nothing. An open character is known by what it still expects, the code's struct `Expected`: `more` bytes,
--- of which the next is one of `low` to `high`; the bytes behind that one are 80 to BF in every row of the table.
+-- of which the next is one of `low` to `high`; the bytes after that one are 80 to BF in every row of the table.
 --
 --   expects more low high           the state with these three numbers
 --   nothing_expected                 no character is open
 --   expected_after lead              what a character that begins with this byte expects
 --   continues expected byte         the byte continues the open character
---   next expected                   what the open character expects behind a byte that continued it
+--   next expected                   what the open character expects after a byte that continued it
 --   characters_from expected value   the number of characters that begin in the value, where before it one is open that expects this
 --   characters value                the number of characters of the value
 --   leads_from expected value        the first bytes of the characters that begin in the value, where before it one is open that expects this
@@ -25,7 +25,7 @@ expects more low high = record { more = more; low = low; high = high }
 abbrev pub nothing_expected : Expected
 nothing_expected = expects 0 0x80 0xBF
 
--- the rows of table 3-7 behind 00..7F, by the first byte; the range is that of the second
+-- the rows of table 3-7 after 00..7F, by the first byte; the range is that of the second
 unfoldable pub expected_after : ℕ → Expected
 expected_after lead =
     if is_between 0xC2 0xDF lead then expects 1 0x80 0xBF

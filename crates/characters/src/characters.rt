@@ -14,14 +14,11 @@ pub struct Expected {
 fn expects(more: u8, low: u8, high: u8) -> Expected
     ensures { result ≡ expects more low high }
 {
-    Expected {
-        more: more,
-        low: low,
-        high: high,
-    }
+    Expected { more, low, high }
 }
 
-// What a character that begins with this byte expects behind it (Unicode, table 3-7).
+// What a character that begins with this byte expects after it (Unicode, table 3-7).
+#[tactic(auto, unfolding(crate::specs::Characters::expected_after, ascii::specs::Notation::is_between))]
 pub fn expected_after(lead: u8) -> Expected
     ensures { result ≡ expected_after lead }
 {
@@ -39,30 +36,26 @@ pub fn expected_after(lead: u8) -> Expected
 }
 
 // Whether the byte goes on with the open character.
+#[tactic(auto, unfolding(crate::specs::Characters::continues, ascii::specs::Notation::is_between))]
 pub fn continues(expected: Expected, byte: u8) -> bool
     ensures { result ≡ continues expected byte }
 {
-    if expected.more == 0 {
-        return false;
-    }
-    expected.low <= byte && byte <= expected.high
+    expected.more != 0 && expected.low <= byte && byte <= expected.high
 }
 
 // The number of characters of the value after from_utf8_lossy. The Rust's value.chars().count().
+#[tactic(auto, using(crate::specs::CharactersLaws::counting), unfolding(crate::specs::Characters::characters))]
 pub fn count_chars(value: &[u8]) -> usize
     ensures outcome { result ≡ characters value.now }
 {
     let mut count: usize = 0;
     let mut expected = expects(0, 0x80, 0xBF);
-    let mut index = 0;
-    while index < value.len() {
-        let byte = value[index];
-        index += 1;
-        if continues(expected, byte) {
+    for byte in value {
+        if continues(expected, *byte) {
             expected = expects(expected.more - 1, 0x80, 0xBF);
         } else {
             count += 1;
-            expected = expected_after(byte);
+            expected = expected_after(*byte);
         }
     }
     count

@@ -23,15 +23,12 @@ is_capital letter = is_between 65 90 letter
 
 module _ (separator byte : ℕ) (rest : List ℕ) (others : without separator (byte ∷ rest) ≡ true) where
   without-first : eqb byte separator ≡ false
-  unfolding every
   without-first = not-true _ (and_left _ _ others)
 
   without-rest : without separator rest ≡ true
-  unfolding every
   without-rest = and_right (not (eqb byte separator)) _ others
 
 is_digits_of_len-nothing : is_digits_of_len 0 [] ≡ true
-unfolding is_digits_of_len every
 is_digits_of_len-nothing = refl
 
 and-swap : (a b c : Bool) → a && (b && c) ≡ b && (a && c)
@@ -39,21 +36,18 @@ and-swap true b c = refl
 and-swap false b c = sym (and-false b)
 
 is_digits_of_len-first : (len byte : ℕ) (rest : List ℕ) → is_digits_of_len (suc len) (byte ∷ rest) ≡ is_digit byte && is_digits_of_len len rest
-unfolding is_digits_of_len every
 is_digits_of_len-first len byte rest = rw (eqb-suc-suc (length rest) len, and-swap (eqb (length rest) len) (is_digit byte) (every is_digit rest))
 
 stands_for_capital : (letter byte : ℕ) → is_capital letter ≡ true → stands_for letter byte ≡ is_digit byte
-unfolding stands_for
 stands_for_capital letter byte capital = rw capital
 
 stands_for_itself : (letter byte : ℕ) → is_capital letter ≡ false → stands_for letter byte ≡ eqb byte letter
-unfolding stands_for
 stands_for_itself letter byte other = rw other
 
 -- ---- letters alone
 
 capitals_are_digits : (letters value : List ℕ) → every is_capital letters ≡ true → has_picture letters value ≡ is_digits_of_len (length letters) value
-unfolding has_picture every
+unfolding has_picture
 capitals_are_digits [] [] capitals = sym is_digits_of_len-nothing
 capitals_are_digits [] (byte ∷ rest) capitals = sym (is_digits_of_len-other_length (byte ∷ rest) 0 (λ same. omega arith))
 capitals_are_digits (letter ∷ letters) [] capitals = sym (is_digits_of_len-other_length [] (suc (length letters)) (λ same. omega arith))
@@ -71,8 +65,8 @@ module _ (separator : ℕ) (itself : is_capital separator ≡ false) (no_digit :
       → every is_capital letters ≡ true
       → without separator part ≡ true
       → has_picture (letters ++ separator ∷ picture) (part ++ separator ∷ rest) ≡ is_digits_of_len (length letters) part && has_picture picture rest
-  unfolding has_picture every
-  cut [] picture [] rest capitals others = rw (stands_for_itself separator separator itself, eq-eqb separator separator refl, is_digits_of_len-nothing)
+  unfolding has_picture
+  cut [] picture [] rest capitals others = rw (stands_for_itself separator separator itself, eq-eqb separator separator refl)
   cut [] picture (byte ∷ part) rest capitals others =
       rw (
         stands_for_itself separator byte itself,
@@ -108,8 +102,8 @@ module _ (separator : ℕ) (itself : is_capital separator ≡ false) (no_digit :
       → has_picture (letters ++ separator ∷ []) (take (suc (length letters)) (part ++ separator ∷ rest))
       && test (drop (suc (length letters)) (part ++ separator ∷ rest))
       ≡ is_digits_of_len (length letters) part && test rest
-  unfolding has_picture every
-  cut-test test [] [] rest capitals others = rw (stands_for_itself separator separator itself, eq-eqb separator separator refl, is_digits_of_len-nothing)
+  unfolding has_picture
+  cut-test test [] [] rest capitals others = rw (stands_for_itself separator separator itself, eq-eqb separator separator refl)
   cut-test test [] (byte ∷ part) rest capitals others =
       rw (
         stands_for_itself separator byte itself,
@@ -147,12 +141,12 @@ module _ (separator : ℕ) (itself : is_capital separator ≡ false) (no_digit :
 pub is_utc_timestamp-split : (date time : List ℕ)
     → without (code "-") date ≡ true
     → is_utc_timestamp (date ++ code "-" ∷ time) ≡ is_digits_of_len 8 date && is_time_of_day time
-unfolding is_utc_timestamp every is_between
+unfolding is_between
 is_utc_timestamp-split date time others = cut-test 45 refl refl is_time_of_day (ascii "YYYYMMDD") date time refl others
 
 -- `None => false`
 pub is_utc_timestamp-unsplit : (value : List ℕ) → without (code "-") value ≡ true → is_utc_timestamp value ≡ false
-unfolding is_utc_timestamp is_between
+unfolding is_between
 is_utc_timestamp-unsplit value others = rw (cut-test_nowhere 45 refl refl (ascii "YYYYMMDD") value others)
 
 -- ---- is_time_of_day: `match value.split_once('.')`
@@ -163,11 +157,9 @@ no_point picture = every (λ letter. not (stands_for letter 46)) picture
 
 module _ (letter : ℕ) (letters : List ℕ) (none : no_point (letter ∷ letters) ≡ true) where
   no_point-first : stands_for letter 46 ≡ false
-  unfolding every
   no_point-first = not-true _ (and_left _ _ none)
 
   no_point-rest : no_point letters ≡ true
-  unfolding every
   no_point-rest = and_right (not (stands_for letter 46)) _ none
 
 point_cut : (picture clock fraction : List ℕ)
@@ -175,7 +167,7 @@ point_cut : (picture clock fraction : List ℕ)
     → without 46 clock ≡ true
     → has_picture picture (take (length picture) (clock ++ 46 ∷ fraction)) && is_fraction (drop (length picture) (clock ++ 46 ∷ fraction))
     ≡ has_picture picture clock && (is_between 1 12 (length fraction) && every is_digit fraction)
-unfolding has_picture is_fraction
+unfolding has_picture
 point_cut [] [] fraction none others = refl
 point_cut [] (byte ∷ clock) fraction none others = rw (without-first 46 byte clock others)
 point_cut (letter ∷ letters) [] fraction none others = rw (no_point-first letter letters none)
@@ -189,7 +181,7 @@ point_cut (letter ∷ letters) (byte ∷ clock) fraction none others =
 point_nowhere : (picture value : List ℕ)
     → without 46 value ≡ true
     → has_picture picture (take (length picture) value) && is_fraction (drop (length picture) value) ≡ has_picture picture value
-unfolding has_picture is_fraction
+unfolding has_picture
 point_nowhere [] [] others = refl
 point_nowhere [] (byte ∷ rest) others = rw (without-first 46 byte rest others)
 point_nowhere (letter ∷ letters) [] others = refl
@@ -200,21 +192,19 @@ point_nowhere (letter ∷ letters) (byte ∷ rest) others =
 pub is_time_of_day-split : (clock fraction : List ℕ)
     → without (code ".") clock ≡ true
     → is_time_of_day (clock ++ code "." ∷ fraction) ≡ has_picture (ascii "HH:MM:SS") clock && (is_between 1 12 (length fraction) && every is_digit fraction)
-unfolding is_time_of_day every is_between stands_for
+unfolding is_between
 is_time_of_day-split clock fraction others = point_cut (ascii "HH:MM:SS") clock fraction refl others
 
 -- `None => (value, None)`
 pub is_time_of_day-unsplit : (value : List ℕ) → without (code ".") value ≡ true → is_time_of_day value ≡ has_picture (ascii "HH:MM:SS") value
-unfolding is_time_of_day
 is_time_of_day-unsplit value others = point_nowhere (ascii "HH:MM:SS") value others
 
 colon_is_no_digit : (first rest : List ℕ) → every is_digit (first ++ 58 ∷ rest) ≡ false
-unfolding every is_between
+unfolding is_between
 colon_is_no_digit [] rest = refl
 colon_is_no_digit (byte ∷ first) rest = rw (colon_is_no_digit first rest, and-false (is_digit byte))
 
 no_digits_around_colon : (len : ℕ) (first rest : List ℕ) → is_digits_of_len len (first ++ 58 ∷ rest) ≡ false
-unfolding is_digits_of_len
 no_digits_around_colon len first rest = rw (colon_is_no_digit first rest, and-false (eqb (length (first ++ 58 ∷ rest)) len))
 
 -- ---- HH:MM:SS: `for part in clock.split(':')`, `is_digits_of_len(part, 2)` and at the end `parts == 3`
@@ -225,7 +215,7 @@ module _ (hour : List ℕ) (no-colon-in-hour : without (code ":") hour ≡ true)
   clock_one_part = cut-nowhere 58 refl refl (ascii "HH") (ascii "MM:SS") hour no-colon-in-hour
 
   clock_hour : (rest : List ℕ) → has_picture (ascii "HH:MM:SS") (hour ++ code ":" ∷ rest) ≡ is_digits_of_len 2 hour && has_picture (ascii "MM:SS") rest
-  unfolding every is_between
+  unfolding is_between
   clock_hour rest = cut 58 refl refl (ascii "HH") (ascii "MM:SS") hour rest refl no-colon-in-hour
 
   module _ (minute : List ℕ) (no-colon-in-minute : without (code ":") minute ≡ true) where
@@ -237,7 +227,7 @@ module _ (hour : List ℕ) (no-colon-in-hour : without (code ":") hour ≡ true)
     pub clock_three_parts : (second : List ℕ)
         → has_picture (ascii "HH:MM:SS") (hour ++ code ":" ∷ (minute ++ code ":" ∷ second))
         ≡ is_digits_of_len 2 hour && (is_digits_of_len 2 minute && is_digits_of_len 2 second)
-    unfolding every is_between
+    unfolding is_between
     clock_three_parts second =
         clock_hour (minute ++ 58 ∷ second)
         ∙ rw (cut 58 refl refl (ascii "MM") (ascii "SS") minute second refl no-colon-in-minute, capitals_are_digits (ascii "SS") second refl)

@@ -7,14 +7,11 @@
 --   spelling_of type        the type's name, as a dictionary text spells it
 --   format_of type          the form that its values have; several types share one
 --   is_multi_value type      "this type carries a space-separated list of values" (schema.rs, `is_multi_value`)
-use Rattle.std.specs.Prelude.{ℕ, Bool, true, false, List, [], ◌∷◌, get_or, if◌then◌else◌}
+use Rattle.std.specs.Prelude.{ℕ, Bool, true, false, List, [], ◌∷◌, get_or, if◌then◌else◌, Option, Some, None}
 use Rattle.field_types.specs.declared.field_type.FieldType.{FieldType}
 use Rattle.field_types.specs.declared.field_type.FieldType.TheVariants.{Int, Length, SeqNum, NumInGroup, TagNum, DayOfMonth, Float, Qty, Price, PriceOffset, Amt, Percentage, Char, Boolean, String, MultipleCharValue, MultipleStringValue, Country, Currency, Exchange, MonthYear, UtcTimestamp, UtcTimeOnly, UtcDateOnly, LocalMktDate, LocalMktTime, TzTimeOnly, TzTimestamp, Data, XmlData, Language, Pattern, Tenor, Reserved}
 use Rattle.field_types.specs.declared.field_type.Format.{Format}
 use Rattle.field_types.specs.declared.field_type.Format.TheVariants.{SignedInteger, UnsignedInteger, Day, Decimal, OneCharacter, YesOrNo, Tokens, Letters, YearMonth, Date, TimeOfDay, DateAndTime, Anything}
-use Rattle.multi_values.specs.declared.multi_value.TokenLen.TheVariants.{Any, Exactly}
-use Rattle.field_types.specs.declared.field_type.NumberedType.{NumberedType}
-use Rattle.field_types.specs.declared.field_type.NumberedType.TheVariants.{Numbered, Nothing}
 use Rattle.ascii.specs.Notation.{◌<ᵇ◌}
 use Rattle.ascii.specs.Bytes.{ascii}
 
@@ -92,8 +89,8 @@ number_of Pattern = 31
 number_of Tenor = 32
 number_of Reserved = 33
 
-unfoldable pub type_numbered : ℕ → NumberedType
-type_numbered number = if number <ᵇ 34 then Numbered (get_or field_types number Int) else Nothing
+unfoldable pub type_numbered : ℕ → Option FieldType
+type_numbered number = if number <ᵇ 34 then Some (get_or field_types number Int) else None
 
 unfoldable pub spelling_of : FieldType → List ℕ
 spelling_of Int = ascii "Int"
@@ -147,8 +144,8 @@ format_of Percentage = Decimal
 format_of Char = OneCharacter
 format_of Boolean = YesOrNo
 format_of String = Anything
-format_of MultipleCharValue = Tokens (Exactly 1)
-format_of MultipleStringValue = Tokens Any
+format_of MultipleCharValue = Tokens (Some 1)
+format_of MultipleStringValue = Tokens None
 format_of Country = Letters 2
 format_of Currency = Letters 3
 format_of Exchange = Anything

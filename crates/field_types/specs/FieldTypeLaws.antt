@@ -1,9 +1,8 @@
 -- Laws of `FieldType.antt`. Assumes nothing.
 --
 --   NoneBelow count number   the number is none of those below the count
-use Rattle.std.specs.Prelude.{◌≡◌, ℕ, zero, suc, ◌≤◌}
+use Rattle.std.specs.Prelude.{◌≡◌, ℕ, zero, suc, ◌≤◌, None}
 use Rattle.std.proofs.Common.{ap, sym, arith, le-ltb}
-use Rattle.field_types.specs.declared.field_type.NumberedType.TheVariants.{Nothing}
 use Rattle.field_types.specs.FieldType.{type_numbered}
 
 -- the type of a number that is known
@@ -18,6 +17,6 @@ pub none_below : (count number : ℕ) → NoneBelow count number → count ≤ n
 none_below zero number none = omega arith
 none_below (suc count) number none = omega (arith, none_below count number none.0, none.1)
 
-pub type_numbered-behind : (number : ℕ) → NoneBelow 34 number → Nothing ≡ type_numbered number
+pub type_numbered-behind : (number : ℕ) → NoneBelow 34 number → None ≡ type_numbered number
 unfolding type_numbered
 type_numbered-behind number none = rw (le-ltb number 34 (none_below 34 number none))

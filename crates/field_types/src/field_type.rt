@@ -2,8 +2,6 @@
 ghost use Rattle.std.specs.Prelude.{◌≡◌};
 ghost use Rattle.field_types.specs.FieldType.{format_of, is_multi_value, type_numbered};
 
-use multi_values::multi_value::TokenLen;
-
 // FIX field data type.
 #[derive(Clone, Copy)]
 pub enum FieldType {
@@ -86,20 +84,13 @@ pub enum Format {
     Decimal,
     OneCharacter,
     YesOrNo,
-    Tokens(TokenLen),
+    Tokens(Option<usize>),
     Letters(usize),
     YearMonth,
     Date,
     TimeOfDay,
     DateAndTime,
     Anything,
-}
-
-// The type of a number, where there is one.
-#[derive(Clone, Copy)]
-pub enum NumberedType {
-    Numbered(FieldType),
-    Nothing,
 }
 
 impl FieldType {
@@ -123,8 +114,8 @@ impl FieldType {
             FieldType::Char => Format::OneCharacter,
             FieldType::Boolean => Format::YesOrNo,
             FieldType::String => Format::Anything,
-            FieldType::MultipleCharValue => Format::Tokens(TokenLen::Exactly(1)),
-            FieldType::MultipleStringValue => Format::Tokens(TokenLen::Any),
+            FieldType::MultipleCharValue => Format::Tokens(Some(1)),
+            FieldType::MultipleStringValue => Format::Tokens(None),
             FieldType::Country => Format::Letters(2),
             FieldType::Currency => Format::Letters(3),
             FieldType::Exchange => Format::Anything,
@@ -189,44 +180,44 @@ impl FieldType {
 }
 
 // The type whose number is given. The numbers are those of the enum's own cases, so that no table is read.
-pub fn type_numbered(number: usize) -> NumberedType
+pub fn type_numbered(number: usize) -> Option<FieldType>
     ensures { result ≡ type_numbered number }
 {
     match number {
-        0 => NumberedType::Numbered(FieldType::Int),
-        1 => NumberedType::Numbered(FieldType::Length),
-        2 => NumberedType::Numbered(FieldType::SeqNum),
-        3 => NumberedType::Numbered(FieldType::NumInGroup),
-        4 => NumberedType::Numbered(FieldType::TagNum),
-        5 => NumberedType::Numbered(FieldType::DayOfMonth),
-        6 => NumberedType::Numbered(FieldType::Float),
-        7 => NumberedType::Numbered(FieldType::Qty),
-        8 => NumberedType::Numbered(FieldType::Price),
-        9 => NumberedType::Numbered(FieldType::PriceOffset),
-        10 => NumberedType::Numbered(FieldType::Amt),
-        11 => NumberedType::Numbered(FieldType::Percentage),
-        12 => NumberedType::Numbered(FieldType::Char),
-        13 => NumberedType::Numbered(FieldType::Boolean),
-        14 => NumberedType::Numbered(FieldType::String),
-        15 => NumberedType::Numbered(FieldType::MultipleCharValue),
-        16 => NumberedType::Numbered(FieldType::MultipleStringValue),
-        17 => NumberedType::Numbered(FieldType::Country),
-        18 => NumberedType::Numbered(FieldType::Currency),
-        19 => NumberedType::Numbered(FieldType::Exchange),
-        20 => NumberedType::Numbered(FieldType::MonthYear),
-        21 => NumberedType::Numbered(FieldType::UtcTimestamp),
-        22 => NumberedType::Numbered(FieldType::UtcTimeOnly),
-        23 => NumberedType::Numbered(FieldType::UtcDateOnly),
-        24 => NumberedType::Numbered(FieldType::LocalMktDate),
-        25 => NumberedType::Numbered(FieldType::LocalMktTime),
-        26 => NumberedType::Numbered(FieldType::TzTimeOnly),
-        27 => NumberedType::Numbered(FieldType::TzTimestamp),
-        28 => NumberedType::Numbered(FieldType::Data),
-        29 => NumberedType::Numbered(FieldType::XmlData),
-        30 => NumberedType::Numbered(FieldType::Language),
-        31 => NumberedType::Numbered(FieldType::Pattern),
-        32 => NumberedType::Numbered(FieldType::Tenor),
-        33 => NumberedType::Numbered(FieldType::Reserved),
-        _ => NumberedType::Nothing,
+        0 => Some(FieldType::Int),
+        1 => Some(FieldType::Length),
+        2 => Some(FieldType::SeqNum),
+        3 => Some(FieldType::NumInGroup),
+        4 => Some(FieldType::TagNum),
+        5 => Some(FieldType::DayOfMonth),
+        6 => Some(FieldType::Float),
+        7 => Some(FieldType::Qty),
+        8 => Some(FieldType::Price),
+        9 => Some(FieldType::PriceOffset),
+        10 => Some(FieldType::Amt),
+        11 => Some(FieldType::Percentage),
+        12 => Some(FieldType::Char),
+        13 => Some(FieldType::Boolean),
+        14 => Some(FieldType::String),
+        15 => Some(FieldType::MultipleCharValue),
+        16 => Some(FieldType::MultipleStringValue),
+        17 => Some(FieldType::Country),
+        18 => Some(FieldType::Currency),
+        19 => Some(FieldType::Exchange),
+        20 => Some(FieldType::MonthYear),
+        21 => Some(FieldType::UtcTimestamp),
+        22 => Some(FieldType::UtcTimeOnly),
+        23 => Some(FieldType::UtcDateOnly),
+        24 => Some(FieldType::LocalMktDate),
+        25 => Some(FieldType::LocalMktTime),
+        26 => Some(FieldType::TzTimeOnly),
+        27 => Some(FieldType::TzTimestamp),
+        28 => Some(FieldType::Data),
+        29 => Some(FieldType::XmlData),
+        30 => Some(FieldType::Language),
+        31 => Some(FieldType::Pattern),
+        32 => Some(FieldType::Tenor),
+        33 => Some(FieldType::Reserved),
+        _ => None,
     }
 }

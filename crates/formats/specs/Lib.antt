@@ -3,5 +3,4 @@
 pub mod Boolean
 pub mod BooleanLaws
 pub mod FieldValue
-pub mod FieldValueLaws
 pub mod StarredCases

@@ -1,26 +1,24 @@
 -- The starred cases of document 01, 'The verdict on a value': "Starred cases are the proved set." One table, proved as a whole by
 -- computation over the definitions. Assumes nothing.
-use Rattle.std.specs.Prelude.{◌≡◌, refl, ℕ, Bool, true, false}
-use Rattle.counts.specs.declared.count.Count.TheVariants.{Number, Nothing}
+use Rattle.std.specs.Prelude.{◌≡◌, refl, true, false, Some, None}
 use Rattle.field_types.specs.declared.field_type.FieldType.TheVariants.{Int, Price, DayOfMonth, MultipleCharValue, MonthYear}
 use Rattle.ascii.specs.Notation.{is_between}
 use Rattle.ascii.specs.Bytes.{ascii, non_empty, every, how_many}
 use Rattle.ascii.specs.Digits.{is_digits, is_digits_of_len, decimal_from}
 use Rattle.counts.specs.Count.{count_of}
-use Rattle.numbers.specs.Number.{is_signed, without_sign, is_integer, is_decimal_body, is_decimal, is_day_of_month}
 use Rattle.characters.specs.Characters.{expected_after, continues, characters_from, characters}
 use Rattle.ascii.specs.Split.{with_first, split, every_part}
 use Rattle.multi_values.specs.MultiValue.{is_token, is_multi_value_list}
-use Rattle.dates.specs.Date.{stands_for, has_picture, is_month_year}
-use Rattle.strict_dates.specs.StrictDate.{is_in_range, is_strict_month_year}
+use Rattle.dates.specs.Date.{has_picture}
+use Rattle.strict_dates.specs.StrictDate.{is_in_range}
 use Rattle.formats.specs.FieldValue.{is_of_format, is_valid_value, is_in_ranges, is_strict_value}
 
 pub record Starred : Type 0 where
   -- "Count: empty none*; 007 is 7*; 18446744073709551615 good*, ..616 none*"
-  pub count_empty : count_of (ascii "") ≡ Nothing
-  pub count_leading_zeros : count_of (ascii "007") ≡ Number 7
-  pub count_largest : count_of (ascii "18446744073709551615") ≡ Number 18446744073709551615
-  pub count_too_large : count_of (ascii "18446744073709551616") ≡ Nothing
+  pub count_empty : count_of (ascii "") ≡ None
+  pub count_leading_zeros : count_of (ascii "007") ≡ Some 7
+  pub count_largest : count_of (ascii "18446744073709551615") ≡ Some 18446744073709551615
+  pub count_too_large : count_of (ascii "18446744073709551616") ≡ None
   -- "Int -0 good*, - bad*"
   pub int_signed_zero : is_valid_value Int (ascii "-0") ≡ true
   pub int_sign_alone : is_valid_value Int (ascii "-") ≡ false
@@ -38,7 +36,7 @@ pub record Starred : Type 0 where
   pub month_year_month_thirteen : is_strict_value MonthYear (ascii "202413") ≡ false
 
 pub starred : Starred
-unfolding is_between non_empty every how_many is_digits is_digits_of_len decimal_from count_of is_signed without_sign is_integer is_decimal_body is_decimal is_day_of_month expected_after continues characters_from characters with_first split every_part is_token is_multi_value_list stands_for has_picture is_month_year is_in_range is_strict_month_year is_of_format is_in_ranges
+unfolding is_between non_empty every how_many is_digits is_digits_of_len decimal_from expected_after continues characters_from characters with_first split every_part is_multi_value_list has_picture is_in_range is_of_format is_in_ranges
 starred = record {
   count_empty = refl;
   count_leading_zeros = refl;

@@ -3,14 +3,9 @@ ghost use Rattle.std.specs.Prelude.{◌≡◌};
 ghost use Rattle.formats.specs.Boolean.{is_boolean};
 
 // Returns true for Y and for N.
+#[tactic(auto, using(crate::specs::BooleanLaws::is_boolean_is))]
 pub fn is_boolean(value: &[u8]) -> bool
     ensures outcome { result ≡ is_boolean value.now }
 {
-    if value.len() != 1 {
-        return false;
-    }
-    if value[0] == b'Y' {
-        return true;
-    }
-    value[0] == b'N'
+    matches!(value, [b'Y' | b'N'])
 }

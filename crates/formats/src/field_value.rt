@@ -1,4 +1,5 @@
-// The values that a field of each data type may have. Ported from schema.rs, `FieldType::is_valid_value`.
+// The values that a field of each data type may have. Ported from schema.rs,
+// `FieldType::is_valid_value`.
 ghost use Rattle.std.specs.Prelude.{◌≡◌};
 ghost use Rattle.formats.specs.FieldValue.{is_of_format, is_valid_value, is_in_ranges, is_strict_value};
 
@@ -15,6 +16,7 @@ use strict_dates::strict_date::{
 };
 
 // Returns true if `value` has this form.
+#[tactic(auto, unfolding(crate::specs::FieldValue::is_of_format))]
 pub fn is_of_format(format: Format, value: &[u8]) -> bool
     ensures outcome { result ≡ is_of_format format value.now }
 {
@@ -35,24 +37,18 @@ pub fn is_of_format(format: Format, value: &[u8]) -> bool
     }
 }
 
-// Returns true if the numbers of a date or time of this form are in strict mode's ranges. Not in the Rust.
+// Returns true if the numbers of a date or time of this form are in strict mode's ranges. Not in
+// the Rust.
+#[tactic(auto, unfolding(crate::specs::FieldValue::is_in_ranges))]
 pub fn is_in_ranges(format: Format, value: &[u8]) -> bool
     ensures outcome { result ≡ is_in_ranges format value.now }
 {
     match format {
-        Format::SignedInteger => true,
-        Format::UnsignedInteger => true,
-        Format::Day => true,
-        Format::Decimal => true,
-        Format::OneCharacter => true,
-        Format::YesOrNo => true,
-        Format::Tokens(_) => true,
-        Format::Letters(_) => true,
         Format::YearMonth => is_strict_month_year(value),
         Format::Date => is_strict_date(value),
         Format::TimeOfDay => is_strict_time_of_day(value),
         Format::DateAndTime => is_strict_utc_timestamp(value),
-        Format::Anything => true,
+        _ => true,
     }
 }
 
@@ -68,8 +64,5 @@ pub fn is_strict_value(field_type: FieldType, value: &[u8]) -> bool
     ensures outcome { result ≡ is_strict_value field_type value.now }
 {
     let format = field_type.format();
-    if !is_of_format(format, value) {
-        return false;
-    }
-    is_in_ranges(format, value)
+    is_of_format(format, value) && is_in_ranges(format, value)
 }

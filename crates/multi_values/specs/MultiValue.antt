@@ -8,21 +8,19 @@
 -- none away, and what it makes of a token depends on the token's bytes alone. Proved: `characters-parted` (characters,
 -- CharactersLaws.antt) of the numbers, `cut-before_or_behind` (MultiValueOrder.antt) of the answer.
 --
---   TokenLen                        the code's enum: `Any`, or `Exactly len` characters
+--   a token's length                None for any, or Some of so many characters
 --   is_token token_len token          the token is non-empty and of this length
 --   is_multi_value_list token_len value every token of the value, cut at its spaces, is one of this length
-use Rattle.std.specs.Prelude.{ℕ, Bool, ◌&&◌, List}
+use Rattle.std.specs.Prelude.{ℕ, Bool, ◌&&◌, List, Option, Some, None}
 use Prim.Native.Char.{code}
-use Rattle.multi_values.specs.declared.multi_value.TokenLen.{TokenLen}
-use Rattle.multi_values.specs.declared.multi_value.TokenLen.TheVariants.{Any, Exactly}
 use Rattle.ascii.specs.Notation.{◌≡ᵇ◌}
 use Rattle.ascii.specs.Bytes.{non_empty}
 use Rattle.characters.specs.Characters.{characters}
 use Rattle.ascii.specs.Split.{split, every_part}
 
-unfoldable pub is_token : TokenLen → List ℕ → Bool
-is_token Any token = non_empty token
-is_token (Exactly len) token = non_empty token && characters token ≡ᵇ len
+abbrev pub is_token : Option ℕ → List ℕ → Bool
+is_token None token = non_empty token
+is_token (Some len) token = non_empty token && characters token ≡ᵇ len
 
-unfoldable pub is_multi_value_list : TokenLen → List ℕ → Bool
+unfoldable pub is_multi_value_list : Option ℕ → List ℕ → Bool
 is_multi_value_list token_len value = every_part (is_token token_len) (split (code " ") value)

@@ -4,7 +4,7 @@
 --   is_token_of token_len token        the Rust's test of a token, on its characters: non-empty, and so many where `token_len` is set
 --   leads_of_parts expected parts     each part by the first bytes of its characters; before the first part a character is open that expects this
 --   cut-before-or-behind            the theorem
-use Rattle.std.specs.Prelude.{◌≡◌, ℕ, ◌<◌, Bool, ◌&&◌, eqb, length}
+use Rattle.std.specs.Prelude.{◌≡◌, ℕ, ◌<◌, Bool, ◌&&◌, eqb, length, Option, Some, None}
 use Rattle.std.proofs.Math.Path.{refl, sym, ap}
 use Rattle.std.proofs.Common.{◌∙◌}
 use Prim.Native.Char.{code}
@@ -14,8 +14,6 @@ use mathlib.Core.List.{List, [], ◌∷◌}
 use native.Mathlib.Omega.{arith}
 use borrow.Author.Tests.{eqb-true}
 use Rattle.characters.specs.declared.characters.Expected.{Expected}
-use Rattle.multi_values.specs.declared.multi_value.TokenLen.{TokenLen}
-use Rattle.multi_values.specs.declared.multi_value.TokenLen.TheVariants.{Any, Exactly}
 use Rattle.ascii.specs.Notation.{◌≡ᵇ◌}
 use Rattle.ascii.specs.Bytes.{non_empty}
 use Rattle.characters.specs.Characters.{nothing_expected, expected_after, continues, next, leads_from, leads}
@@ -32,9 +30,9 @@ use Rattle.characters.specs.CharactersLaws.{
 use Rattle.ascii.specs.Split.{Parts, last, part, with_first, split, every_part}
 use Rattle.multi_values.specs.MultiValue.{is_token, is_multi_value_list}
 
-unfoldable pub is_token_of : TokenLen → List ℕ → Bool
-is_token_of Any token = non_empty token
-is_token_of (Exactly len) token = non_empty token && length token ≡ᵇ len
+unfoldable pub is_token_of : Option ℕ → List ℕ → Bool
+is_token_of None token = non_empty token
+is_token_of (Some len) token = non_empty token && length token ≡ᵇ len
 
 unfoldable pub leads_of_parts : Expected → Parts → Parts
 leads_of_parts expected (last bytes) = last (leads_from expected bytes)
@@ -97,18 +95,18 @@ module _ (separator : ℕ) (small : separator < 0x80) where
 
 -- ---- tokens
 
-pub is_token-leads : (token_len : TokenLen) (token : List ℕ) → is_token_of token_len (leads token) ≡ is_token token_len token
-unfolding is_token_of is_token
-is_token-leads Any token = non_empty-leads token
-is_token-leads (Exactly len) token = rw (non_empty-leads token, length-leads token)
+pub is_token-leads : (token_len : Option ℕ) (token : List ℕ) → is_token_of token_len (leads token) ≡ is_token token_len token
+unfolding is_token_of
+is_token-leads None token = non_empty-leads token
+is_token-leads (Some len) token = rw (non_empty-leads token, length-leads token)
 
-every_part-leads : (token_len : TokenLen) (parts : Parts)
+every_part-leads : (token_len : Option ℕ) (parts : Parts)
     → every_part (is_token_of token_len) (leads_of_parts nothing_expected parts) ≡ every_part (is_token token_len) parts
 unfolding every_part leads_of_parts
 every_part-leads token_len (last bytes) = is_token-leads token_len bytes
 every_part-leads token_len (part bytes others) = rw (is_token-leads token_len bytes, every_part-leads token_len others)
 
-pub cut-before_or_behind : (token_len : TokenLen) (value : List ℕ)
+pub cut-before_or_behind : (token_len : Option ℕ) (value : List ℕ)
     → is_multi_value_list token_len value ≡ every_part (is_token_of token_len) (split (code " ") (leads value))
 unfolding is_multi_value_list
 cut-before_or_behind token_len value =

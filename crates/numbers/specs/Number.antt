@@ -14,14 +14,14 @@ use Rattle.ascii.specs.Notation.{◌≤ᵇ◌, ◌≡ᵇ◌, is_between}
 use Rattle.ascii.specs.Bytes.{every, how_many}
 use Rattle.ascii.specs.Digits.{is_digit, is_digits, decimal}
 
-unfoldable pub is_signed : List ℕ → Bool
+abbrev pub is_signed : List ℕ → Bool
 is_signed [] = false
 is_signed (byte ∷ rest) = byte ≡ᵇ code "-"
 
-unfoldable pub without_sign : List ℕ → List ℕ
+abbrev pub without_sign : List ℕ → List ℕ
 without_sign value = if is_signed value then drop 1 value else value
 
-unfoldable pub is_integer : Bool → List ℕ → Bool
+abbrev pub is_integer : Bool → List ℕ → Bool
 is_integer allow_sign value = is_digits (if allow_sign then without_sign value else value)
 
 abbrev pub is_point : ℕ → Bool
@@ -30,14 +30,14 @@ is_point byte = byte ≡ᵇ code "."
 abbrev pub is_digit_or_point : ℕ → Bool
 is_digit_or_point byte = is_digit byte || is_point byte
 
-unfoldable pub is_decimal_body : List ℕ → Bool
+abbrev pub is_decimal_body : List ℕ → Bool
 is_decimal_body body =
     every is_digit_or_point body
     && 1 ≤ᵇ how_many is_digit body
     && how_many is_point body ≤ᵇ 1
 
-unfoldable pub is_decimal : List ℕ → Bool
+abbrev pub is_decimal : List ℕ → Bool
 is_decimal value = is_decimal_body (without_sign value)
 
-unfoldable pub is_day_of_month : List ℕ → Bool
+abbrev pub is_day_of_month : List ℕ → Bool
 is_day_of_month value = is_digits value && is_between 1 31 (decimal value)

@@ -1,9 +1,8 @@
 -- Cases of `Number.antt`, by computation: document 01's (The verdict on a value), and the bounds beside them. Assumes nothing.
 use Rattle.std.specs.Prelude.{◌≡◌, refl, true, false}
 use Rattle.ascii.specs.Notation.{is_between}
-use Rattle.ascii.specs.Bytes.{ascii, non_empty, every, how_many}
-use Rattle.ascii.specs.Digits.{is_digits, decimal_from}
-use Rattle.numbers.specs.Number.{is_signed, without_sign, is_integer, is_decimal_body, is_decimal, is_day_of_month}
+use Rattle.ascii.specs.Bytes.{ascii, non_empty}
+use Rattle.numbers.specs.Number.{is_integer, is_decimal, is_day_of_month}
 
 pub record Integers : Type 0 where
   pub minus_zero : is_integer true (ascii "-0") ≡ true
@@ -15,7 +14,7 @@ pub record Integers : Type 0 where
   pub leading_zeros : is_integer false (ascii "007") ≡ true
 
 pub integers : Integers
-unfolding is_integer without_sign is_signed is_digits non_empty every is_between
+unfolding non_empty is_between
 integers = record {
   minus_zero = refl;
   sign_alone = refl;
@@ -36,7 +35,7 @@ pub record Decimals : Type 0 where
   pub empty : is_decimal (ascii "") ≡ false
 
 pub decimals : Decimals
-unfolding is_decimal is_decimal_body without_sign is_signed every how_many is_between
+unfolding is_between
 decimals = record {
   point_behind = refl;
   point_before = refl;
@@ -57,7 +56,7 @@ pub record DaysOfMonth : Type 0 where
   pub empty : is_day_of_month (ascii "") ≡ false
 
 pub days_of_month : DaysOfMonth
-unfolding is_day_of_month is_digits non_empty every decimal_from is_between
+unfolding non_empty is_between
 days_of_month = record {
   leading_zeros = refl;
   first = refl;

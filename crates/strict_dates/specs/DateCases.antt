@@ -1,9 +1,8 @@
 -- Cases of `Date.antt` and `StrictDate.antt`, by computation: document 01's (The verdict on a value), and the bounds beside them. Assumes nothing.
 use Rattle.std.specs.Prelude.{◌≡◌, refl, true, false}
 use Rattle.ascii.specs.Notation.{is_between}
-use Rattle.ascii.specs.Bytes.{ascii, every}
-use Rattle.ascii.specs.Digits.{is_digits_of_len, decimal_from}
-use Rattle.dates.specs.Date.{stands_for, has_picture, is_month_year, is_date, is_fraction, is_time_of_day, is_utc_timestamp}
+use Rattle.ascii.specs.Bytes.{ascii}
+use Rattle.dates.specs.Date.{has_picture, is_month_year, is_date, is_time_of_day, is_utc_timestamp}
 use Rattle.strict_dates.specs.StrictDate.{is_in_range, is_strict_date, is_strict_month_year, is_strict_time_of_day, is_strict_utc_timestamp}
 
 pub record MonthsOfYears : Type 0 where
@@ -21,7 +20,7 @@ pub record MonthsOfYears : Type 0 where
   pub day_32_strict : is_strict_month_year (ascii "20241232") ≡ false
 
 pub months_of_years : MonthsOfYears
-unfolding is_month_year has_picture stands_for is_digits_of_len every is_between is_strict_month_year is_strict_date is_in_range decimal_from
+unfolding has_picture is_between is_in_range
 months_of_years = record {
   month = refl;
   day = refl;
@@ -44,7 +43,7 @@ pub record Dates : Type 0 where
   pub day_zero_strict : is_strict_date (ascii "20240200") ≡ false
 
 pub dates : Dates
-unfolding is_digits_of_len every is_between is_strict_date is_in_range decimal_from
+unfolding is_between is_in_range
 dates = record { eight_digits = refl; hyphens = refl; any_month_has_31_strict = refl; day_zero_strict = refl }
 
 pub record Times : Type 0 where
@@ -63,7 +62,7 @@ pub record Times : Type 0 where
   pub minute_60_strict : is_strict_time_of_day (ascii "23:60:00") ≡ false
 
 pub times : Times
-unfolding is_time_of_day is_fraction has_picture stands_for every is_between is_strict_time_of_day is_in_range is_digits_of_len decimal_from
+unfolding has_picture is_between is_in_range
 times = record {
   seconds = refl;
   twelve_digits = refl;
@@ -90,7 +89,7 @@ pub record Timestamps : Type 0 where
   pub all_in_range_strict : is_strict_utc_timestamp (ascii "20241231-23:59:60") ≡ true
 
 pub timestamps : Timestamps
-unfolding is_utc_timestamp is_time_of_day is_fraction has_picture stands_for every is_between is_strict_utc_timestamp is_strict_date is_strict_time_of_day is_in_range is_digits_of_len decimal_from
+unfolding has_picture is_between is_in_range
 timestamps = record {
   milliseconds = refl;
   space_between = refl;

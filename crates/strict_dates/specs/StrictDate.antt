@@ -19,20 +19,20 @@ pair_at place value = take 2 (drop place value)
 unfoldable pub is_in_range : ℕ → ℕ → ℕ → List ℕ → Bool
 is_in_range low high place value = is_digits_of_len 2 (pair_at place value) && is_between low high (decimal (pair_at place value))
 
-unfoldable pub is_strict_date : List ℕ → Bool
+abbrev pub is_strict_date : List ℕ → Bool
 is_strict_date value = is_in_range 1 12 4 value && is_in_range 1 31 6 value
 
-unfoldable pub is_strict_month_year : List ℕ → Bool
+abbrev pub is_strict_month_year : List ℕ → Bool
 is_strict_month_year value =
     if is_digits_of_len 8 value
     then is_strict_date value
     else is_in_range 1 12 4 value
 
-unfoldable pub is_strict_time_of_day : List ℕ → Bool
+abbrev pub is_strict_time_of_day : List ℕ → Bool
 is_strict_time_of_day value =
     is_in_range 0 23 0 value
     && is_in_range 0 59 3 value
     && is_in_range 0 60 6 value
 
-unfoldable pub is_strict_utc_timestamp : List ℕ → Bool
+abbrev pub is_strict_utc_timestamp : List ℕ → Bool
 is_strict_utc_timestamp value = is_strict_date (take 8 value) && is_strict_time_of_day (drop 9 value)

@@ -1,14 +1,10 @@
--- `characters::characters::count_chars` meets its contract. The loop's invariant is `CharactersSoFar`; every answer cites a law of
--- specs/CharactersLaws.antt.
-use mathlib.Core.Path.{sym, ◌∙◌}
-use Prim.Native.Nat.{◌-◌}
-use lib.ListN.{length}
-use Rattle.characters.specs.CharactersLaws.{CharactersSoFar, continues-more, characters-start, characters-continued, characters-begun, characters-end}
-use borrow.Author.Rules.{rules}
+-- The characters that begin before the byte are counted, and the last of them expects `expected`.
+use Rattle.std.proofs.Common.{◌≡◌, ◌+◌, ◌≤◌, drop}
+use Rattle.characters.specs.Characters.{characters, characters_from}
 use Rattle.characters.proofs.characters.count_chars.Given as goal
 
-abbrev pub invariant-loop-index : goal.invariant-loop-index
-invariant-loop-index l = CharactersSoFar l.value l.index l.count l.expected
-
-abbrev pub decreases-loop-index : goal.decreases-loop-index
-decreases-loop-index l = length l.value - l.index
+abbrev pub invariant-loop-byte : goal.invariant-loop-byte
+invariant-loop-byte l = record {
+  few : l.count ≤ l.byte-index;
+  same : characters l.value ≡ l.count + characters_from l.expected (drop l.byte-index l.value);
+}

@@ -4,7 +4,7 @@ use Rattle.field_types.specs.FieldType.{type_numbered}
 use Rattle.field_types.specs.FieldTypeLaws.{type_numbered-at, type_numbered-behind}
 use Rattle.field_types.proofs.field_type.type_numbered.Goals as goal
 
--- pub fn type_numbered(number: usize) -> NumberedType
+-- pub fn type_numbered(number: usize) -> Option<FieldType>
 pub returns-in-0 : goal.returns-in-0
 unfolding type_numbered
 returns-in-0 c = type_numbered-at 0 c.args.number (omega arith)

@@ -1,11 +1,12 @@
--- `numbers::number::is_day_of_month` meets its contract. The loop's invariant is `DaySoFar`; the laws are those of specs/NumberLaws.antt.
-use Prim.Native.Nat.{◌-◌}
-use lib.ListN.{length}
-use Rattle.numbers.specs.NumberLaws.{DaySoFar}
+-- The bytes so far are digits, and the day is the number that they make.
+use Rattle.std.proofs.Common.{◌≡◌, ◌≤◌, true, take}
+use Rattle.ascii.specs.Bytes.{every}
+use Rattle.ascii.specs.Digits.{is_digit, decimal}
 use Rattle.numbers.proofs.number.is_day_of_month.Given as goal
 
-abbrev pub invariant-loop-index : goal.invariant-loop-index
-invariant-loop-index l = DaySoFar l.value l.index l.day
-
-abbrev pub decreases-loop-index : goal.decreases-loop-index
-decreases-loop-index l = length l.value - l.index
+abbrev pub invariant-loop-byte : goal.invariant-loop-byte
+invariant-loop-byte l = record {
+  passed : every is_digit (take l.byte-index l.value) ≡ true;
+  makes : l.day ≡ decimal (take l.byte-index l.value);
+  small : l.day ≤ 31;
+}
