@@ -9,10 +9,8 @@
 --   rank_in words tag              the place of the first word that is the tag, or Nothing where there is none
 --   is_found found                 the tag is there
 --   Holds words tag found         where a place was found, the word there is the tag
-use Rattle.std.specs.Prelude.{◌≡◌, ℕ, ◌+◌, ◌<◌, Bool, true, false, ◌&&◌, List, [], ◌∷◌, length, get_or, if◌then◌else◌}
+use Rattle.std.specs.Prelude.{◌≡◌, ℕ, ◌+◌, ◌<◌, Bool, true, false, ◌&&◌, List, [], ◌∷◌, length, get_or, if◌then◌else◌, Option, Some, None}
 use Rattle.ascii.specs.Notation.{◌<ᵇ◌, ◌≡ᵇ◌}
-use Rattle.ascending.specs.declared.search.Found.{Found}
-use Rattle.ascending.specs.declared.search.Found.TheVariants.{At, Nothing}
 
 abbrev pub StrictlyAbove : ℕ → List ℕ → Type 0
 StrictlyAbove low [] = Unit
@@ -30,17 +28,17 @@ unfoldable pub is_strictly_ascending : List ℕ → Bool
 is_strictly_ascending [] = true
 is_strictly_ascending (word ∷ rest) = is_strictly_above word rest
 
-unfoldable pub rank_from : ℕ → List ℕ → ℕ → Found
-rank_from index [] tag = Nothing
-rank_from index (word ∷ rest) tag = if word ≡ᵇ tag then At index else rank_from (index + 1) rest tag
+unfoldable pub rank_from : ℕ → List ℕ → ℕ → Option ℕ
+rank_from index [] tag = None
+rank_from index (word ∷ rest) tag = if word ≡ᵇ tag then Some index else rank_from (index + 1) rest tag
 
-unfoldable pub rank_in : List ℕ → ℕ → Found
+unfoldable pub rank_in : List ℕ → ℕ → Option ℕ
 rank_in words tag = rank_from 0 words tag
 
-unfoldable pub is_found : Found → Bool
-is_found (At place) = true
-is_found Nothing = false
+unfoldable pub is_found : Option ℕ → Bool
+is_found (Some place) = true
+is_found None = false
 
-abbrev pub Holds : List ℕ → ℕ → Found → Type 0
-Holds words tag (At place) = (place < length words) × (get_or words place 0 ≡ tag)
-Holds words tag Nothing = Unit
+abbrev pub Holds : List ℕ → ℕ → Option ℕ → Type 0
+Holds words tag (Some place) = (place < length words) × (get_or words place 0 ≡ tag)
+Holds words tag None = Unit

@@ -1,13 +1,11 @@
--- Laws of `Search.antt`, in its order, and the loops of `is_strictly_ascending` and `binary_search`, turn by turn. Assumes nothing.
-use Rattle.std.specs.Prelude.{◌≡◌, refl, ℕ, zero, suc, ◌+◌, ◌-◌, ◌*◌, ◌≤◌, ◌<◌, Bool, true, false, cond, ◌||◌, List, [], ◌∷◌, ltb, eqb, length, get_or, drop}
-use Rattle.std.proofs.Common.{sym, ◌∙◌, drop_of_length-le}
+-- Laws of `Search.antt`, in its order, the answer of `is_strictly_ascending`, and the loop of `binary_search`, turn by turn. Assumes nothing.
+use Rattle.std.specs.Prelude.{◌≡◌, refl, ℕ, zero, suc, ◌+◌, ◌-◌, ◌*◌, ◌≤◌, ◌<◌, Bool, true, false, cond, ◌||◌, List, [], ◌∷◌, ltb, eqb, length, get_or, Option, Some, None}
+use Rattle.std.proofs.Common.{sym, ◌∙◌, add-one}
 use Rattle.std.proofs.Math.Path.{ap}
 use native.Mathlib.Omega.{arith}
-use borrow.Author.Tests.{ltb-true, ltb-false, lt-ltb, le-ltb, eqb-true, eqb-false, eq-eqb, ne_eqb}
+use borrow.Author.Tests.{ltb-true, ltb-false, lt-ltb, eqb-true, eqb-false, eq-eqb, ne_eqb}
+use Rattle.std.specs.List.{IsAllAdjacentAnswer}
 use Rattle.ascii.specs.NotationLaws.{and_left, and_right, and_both}
-use Rattle.ascii.specs.BytesLaws.{drop-step}
-use Rattle.ascending.specs.declared.search.Found.{Found}
-use Rattle.ascending.specs.declared.search.Found.TheVariants.{At, Nothing}
 use Rattle.ascending.specs.Sort.{is_in}
 use Rattle.ascending.specs.Search.{StrictlyAbove, StrictlyAscending, is_strictly_above, is_strictly_ascending, rank_from, rank_in, is_found, Holds}
 
@@ -62,41 +60,30 @@ unfolding is_strictly_ascending
 strictly_is_strictly_ascending [] ascends = refl
 strictly_is_strictly_ascending (word ∷ rest) ascends = above-is_strictly_above word rest ascends
 
--- ---- the loop of `is_strictly_ascending`
+-- ---- the answer of `is_sorted_by` at words and `<`
 
--- the words before `index` are each above the one before
-pub record AscendsSoFar (words : List ℕ) (index : ℕ) : Type 0 where
-  pub some_word : 0 < index
-  pub left_over : is_strictly_ascending words ≡ is_strictly_above (get_or words (index - 1) 0) (drop index words)
+above_by_places : (low : ℕ) (words : List ℕ) → (0 < length words → low < get_or words 0 0)
+    → ((place : ℕ) → suc place < length words → get_or words place 0 < get_or words (suc place) 0)
+    → StrictlyAbove low words
+above_by_places low [] first next = tt
+above_by_places low (word ∷ rest) first next =
+    (first (omega arith), above_by_places word rest (λ some_word. next 0 (omega arith)) (λ place inside. next (suc place) (omega arith)))
 
-pub ascends-empty : (words : List ℕ) → length words ≡ 0 → is_strictly_ascending words ≡ true
-unfolding is_strictly_ascending
-ascends-empty [] empty = refl
-ascends-empty (word ∷ rest) empty = absurd (omega arith)
+strictly_by_places : (words : List ℕ) → ((place : ℕ) → suc place < length words → get_or words place 0 < get_or words (suc place) 0) → StrictlyAscending words
+strictly_by_places [] next = tt
+strictly_by_places (word ∷ rest) next = above_by_places word rest (λ some_word. next 0 (omega arith)) (λ place inside. next (suc place) (omega arith))
 
-pub ascends-begins : (words : List ℕ) → (length words ≡ 0 → ⊥) → AscendsSoFar words 1
-unfolding is_strictly_ascending
-ascends-begins [] some_word = absurd (some_word refl)
-ascends-begins (word ∷ rest) some_word = record { some_word = omega arith; left_over = refl }
-
-module _ (words : List ℕ) (index : ℕ) (so_far : AscendsSoFar words index) where
-  pub ascends-ends : length words ≤ index → is_strictly_ascending words ≡ true
-  unfolding is_strictly_above
-  ascends-ends over = so_far.left_over ∙ rw (drop_of_length-le words over)
-
-  module _ (inside : index < length words) where
-    pub ascends-goes_on : get_or words (index - 1) 0 < get_or words index 0 → AscendsSoFar words (index + 1)
-    unfolding is_strictly_above
-    ascends-goes_on above = record {
-      some_word = omega arith;
-      left_over =
-          let last : index + 1 - 1 ≡ index = omega arith in
-          so_far.left_over ∙ rw (drop-step words index inside, lt-ltb (get_or words (index - 1) 0) (get_or words index 0) above, last);
-    }
-
-    pub ascends-stops : get_or words index 0 ≤ get_or words (index - 1) 0 → is_strictly_ascending words ≡ false
-    unfolding is_strictly_above
-    ascends-stops not-above = so_far.left_over ∙ rw (drop-step words index inside, le-ltb (get_or words (index - 1) 0) (get_or words index 0) not-above)
+pub ascending-answer : (words : List ℕ) (answer : Bool) → IsAllAdjacentAnswer (λ before word above. above ≡ ltb before word) words answer → answer ≡ is_strictly_ascending words
+ascending-answer words true each =
+    sym (strictly_is_strictly_ascending words (strictly_by_places words (λ place inside. ltb-true (get_or words place 0) (get_or words (suc place) 0) (sym (rw add-one at (each place 0 (omega arith)))))))
+ascending-answer words false some_place = go (is_strictly_ascending words) refl
+  where
+    go : (ascends : Bool) → is_strictly_ascending words ≡ ascends → false ≡ ascends
+    go true ascends =
+        let above = strictly_places words (is_strictly_ascending-true words ascends) some_place.0 (some_place.0 + 1) (omega arith) some_place.1 in
+        let not_above = ltb-false (get_or words some_place.0 0) (get_or words (some_place.0 + 1) 0) (sym (some_place.2 0)) in
+        absurd (omega (arith, above, not_above))
+    go false ascends = refl
 
 -- ---- rank_in
 
@@ -104,18 +91,18 @@ rank_from-at : (index : ℕ) (words : List ℕ) (tag place : ℕ)
     → place < length words
     → get_or words place 0 ≡ tag
     → ((before : ℕ) → before < place → get_or words before 0 ≡ tag → ⊥)
-    → rank_from index words tag ≡ At (index + place)
+    → rank_from index words tag ≡ Some (index + place)
 unfolding rank_from
 rank_from-at index [] tag place inside there first = absurd (omega arith)
-rank_from-at index (word ∷ rest) tag zero inside there first = rw (eq-eqb word tag there) (ap At (omega arith))
+rank_from-at index (word ∷ rest) tag zero inside there first = rw (eq-eqb word tag there) (ap Some (omega arith))
 rank_from-at index (word ∷ rest) tag (suc place) inside there first =
     let next : index + 1 + place ≡ index + suc place = omega arith in
     rw (ne_eqb word tag (first 0 (omega arith)))
-    (rank_from-at (index + 1) rest tag place (omega arith) there (λ before order. first (suc before) (omega arith)) ∙ ap At next)
+    (rank_from-at (index + 1) rest tag place (omega arith) there (λ before order. first (suc before) (omega arith)) ∙ ap Some next)
 
 rank_from-nothing : (index : ℕ) (words : List ℕ) (tag : ℕ)
     → ((place : ℕ) → place < length words → get_or words place 0 ≡ tag → ⊥)
-    → rank_from index words tag ≡ Nothing
+    → rank_from index words tag ≡ None
 unfolding rank_from
 rank_from-nothing index [] tag nowhere = refl
 rank_from-nothing index (word ∷ rest) tag nowhere =
@@ -126,18 +113,18 @@ module _ (words : List ℕ) (tag : ℕ) where
       → place < length words
       → get_or words place 0 ≡ tag
       → ((before : ℕ) → before < place → get_or words before 0 ≡ tag → ⊥)
-      → rank_in words tag ≡ At place
+      → rank_in words tag ≡ Some place
   unfolding rank_in
   rank_in-at place inside there first =
       let same : 0 + place ≡ place = omega arith in
-      rank_from-at 0 words tag place inside there first ∙ ap At same
+      rank_from-at 0 words tag place inside there first ∙ ap Some same
 
-  pub rank_in-nothing : ((place : ℕ) → place < length words → get_or words place 0 ≡ tag → ⊥) → rank_in words tag ≡ Nothing
+  pub rank_in-nothing : ((place : ℕ) → place < length words → get_or words place 0 ≡ tag → ⊥) → rank_in words tag ≡ None
   unfolding rank_in
   rank_in-nothing = rank_from-nothing 0 words tag
 
 is_found-by : (test : Bool) (index : ℕ) (rest : List ℕ) (tag : ℕ) → is_found (rank_from (index + 1) rest tag) ≡ is_in tag rest
-    → is_found (cond test (At index) (rank_from (index + 1) rest tag)) ≡ test || is_in tag rest
+    → is_found (cond test (Some index) (rank_from (index + 1) rest tag)) ≡ test || is_in tag rest
 unfolding is_found
 is_found-by true index rest tag deeper = refl
 is_found-by false index rest tag deeper = deeper
@@ -153,23 +140,23 @@ unfolding rank_in
 is_found-rank words tag = is_found-from 0 words tag
 
 -- a rank that was found is a place
-rank_from-inside : (index : ℕ) (words : List ℕ) (tag rank : ℕ) → rank_from index words tag ≡ At rank → rank < index + length words
+rank_from-inside : (index : ℕ) (words : List ℕ) (tag rank : ℕ) → rank_from index words tag ≡ Some rank → rank < index + length words
 unfolding rank_from
 rank_from-inside index [] tag rank found = let never : ◌≡◌ {A = ℕ} 0 1 = cc in absurd (omega arith)
 rank_from-inside index (word ∷ rest) tag rank found = go (eqb word tag) found (rank_from-inside (index + 1) rest tag rank)
   where
-    go : (test : Bool) → cond test (At index) (rank_from (index + 1) rest tag) ≡ At rank → (rank_from (index + 1) rest tag ≡ At rank → rank < index + 1 + length rest) → rank < index + suc (length rest)
+    go : (test : Bool) → cond test (Some index) (rank_from (index + 1) rest tag) ≡ Some rank → (rank_from (index + 1) rest tag ≡ Some rank → rank < index + 1 + length rest) → rank < index + suc (length rest)
     go true here later = let same : index ≡ rank = cc in omega arith
     go false there later = omega (arith, later there)
 
-pub rank_in-inside : (words : List ℕ) (tag rank : ℕ) → rank_in words tag ≡ At rank → rank < length words
+pub rank_in-inside : (words : List ℕ) (tag rank : ℕ) → rank_in words tag ≡ Some rank → rank < length words
 unfolding rank_in
 rank_in-inside words tag rank found = omega (arith, rank_from-inside 0 words tag rank found)
 
 -- ---- Holds
 
-pub holds_at : (words : List ℕ) (tag place : ℕ) (found : Found)
-    → found ≡ At place
+pub holds_at : (words : List ℕ) (tag place : ℕ) (found : Option ℕ)
+    → found ≡ Some place
     → Holds words tag found
     → (place < length words) × (get_or words place 0 ≡ tag)
 holds_at words tag place found there holds = rw there at holds
@@ -184,7 +171,7 @@ pub record SearchSoFar (words : List ℕ) (tag base last size : ℕ) : Type 0 wh
   pub below : StrictlyAscending words → (place : ℕ) → place < base → get_or words place 0 < tag
   pub above : StrictlyAscending words → (place : ℕ) → base + size ≤ place → place < length words → tag < get_or words place 0
 
-pub search_empty : (words : List ℕ) (tag : ℕ) → length words ≡ 0 → StrictlyAscending words → Nothing ≡ rank_in words tag
+pub search_empty : (words : List ℕ) (tag : ℕ) → length words ≡ 0 → StrictlyAscending words → None ≡ rank_in words tag
 search_empty words tag empty ascends = sym (rank_in-nothing words tag (λ place inside there. omega (arith, empty, inside)))
 
 pub search_begins : (words : List ℕ) (tag : ℕ) → (length words ≡ 0 → ⊥) → SearchSoFar words tag 0 (get_or words 0 0) (length words)
@@ -199,7 +186,7 @@ search_begins words tag some_word = record {
 module _ (words : List ℕ) (tag base last size : ℕ) (so_far : SearchSoFar words tag base last size) where
   -- one word is left
   module _ (one : size ≤ 1) where
-    pub search_finds : last ≡ tag → StrictlyAscending words → At base ≡ rank_in words tag
+    pub search_finds : last ≡ tag → StrictlyAscending words → Some base ≡ rank_in words tag
     search_finds there ascends =
         let inside : base < length words = omega (arith, so_far.some_word, so_far.within) in
         sym (rank_in-at words tag base inside (sym so_far.last_is ∙ there) (λ place earlier same. omega (arith, so_far.below ascends place earlier)))
@@ -207,7 +194,7 @@ module _ (words : List ℕ) (tag base last size : ℕ) (so_far : SearchSoFar wor
     pub search_holds : last ≡ tag → (base < length words) × (get_or words base 0 ≡ tag)
     search_holds there = (omega (arith, so_far.some_word, so_far.within), sym so_far.last_is ∙ there)
 
-    pub search_misses : (last ≡ tag → ⊥) → StrictlyAscending words → Nothing ≡ rank_in words tag
+    pub search_misses : (last ≡ tag → ⊥) → StrictlyAscending words → None ≡ rank_in words tag
     search_misses differs ascends = sym (rank_in-nothing words tag (λ place inside there. by_side place inside there (ltb place base) refl (eqb place base) refl))
       where
         by_side : (place : ℕ) → place < length words → get_or words place 0 ≡ tag → (before : Bool) → ltb place base ≡ before → (here : Bool) → eqb place base ≡ here → ⊥

@@ -1,20 +1,20 @@
-// Dropping words that repeat the one before. The Rust's Vec::dedup, on a slice: the answer is how many words stay.
+// Dropping words that repeat the one before. The Rust's Vec::dedup, on a slice: the answer is how
+// many words stay.
 ghost use Rattle.std.specs.Prelude.{◌≡◌, length};
 ghost use Rattle.ascending.specs.Dedup.{deduped, deduped_in};
 
-// Keeps the first of each run of equal words, in front and in order, and returns how many they are. Behind them the words stay.
+// Keeps the first of each run of equal words, in front and in order, and returns how many they are.
+// The words after them stay.
 pub fn dedup(words: &mut [u32]) -> usize
     ensures outcome { result ≡ length (deduped words.old) }
     ensures memory { words.new ≡ deduped_in words.old }
 {
-    if words.len() == 0 {
+    if words.is_empty() {
         return 0;
     }
     let mut kept = 1;
-    let mut index = 1;
-    while index < words.len() {
+    for index in 1..words.len() {
         let word = words[index];
-        index += 1;
         if word != words[kept - 1] {
             words[kept] = word;
             kept += 1;

@@ -9,7 +9,8 @@
 --   rank_count words members  how many are set in the words that a level of so many members uses, (members + 63) / 64 of them
 --   Stands words width members ranks   the words, so many, stand for the set of these ranks of a level of so many members, each listed once
 --   TagsSeen words width members is_member rank_of seen   the words stand for the tags seen, members of the level, by their ranks
-use Rattle.std.specs.Prelude.{◌≡◌, ℕ, ◌+◌, ◌*◌, ◌/◌, ◌%◌, ◌^◌, ◌≤◌, ◌<◌, Bool, true, List, [], ◌∷◌, map, length, get_or, set, take, replicate, if◌then◌else◌}
+use Rattle.std.specs.Prelude.{◌≡◌, ℕ, ◌+◌, ◌*◌, ◌/◌, ◌%◌, ◌^◌, ◌≤◌, ◌<◌, Bool, true, List, map, length, get_or, set, take, replicate, if◌then◌else◌}
+use Rattle.std.specs.List.{sum_by}
 use Rattle.std.specs.Int.Bits.{bit_or}
 use Rattle.std.specs.Int.Count.{ones}
 use Rattle.ascii.specs.Notation.{◌≡ᵇ◌}
@@ -27,9 +28,8 @@ insert_rank words rank = set words (rank / 64) (bit_or (get_or words (rank / 64)
 unfoldable pub mask_in : ℕ → ℕ → ℕ
 mask_in word rank = if rank / 64 ≡ᵇ word then 2 ^ (rank % 64) else 0
 
-unfoldable pub ones_of : List ℕ → ℕ
-ones_of [] = 0
-ones_of (word ∷ rest) = ones word + ones_of rest
+abbrev pub ones_of : List ℕ → ℕ
+ones_of words = sum_by ones words
 
 unfoldable pub rank_count : List ℕ → ℕ → ℕ
 rank_count words members = ones_of (take ((members + 63) / 64) words)

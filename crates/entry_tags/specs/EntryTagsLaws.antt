@@ -1,10 +1,13 @@
 -- Laws of `EntryTags.antt`: one bit of a word, a rank of the words, and the set of ranks that the words stand for. One law serves every number of
 -- words. Assumes nothing.
-use Rattle.std.specs.Prelude.{◌≡◌, ◌≢◌, Bool, true, false, not, ◌||◌, List, [], ◌∷◌, ◌++◌, map, set, take, replicate}
+use Rattle.std.specs.Prelude.{◌≡◌, ◌≢◌, Bool, true, false, not, ◌||◌, List, [], ◌∷◌, map, set, take, replicate}
 use Rattle.std.proofs.Math.Path.{refl}
-use Rattle.std.proofs.Common.{sym, ap, ◌∙◌, pow-suc, one-mul, zero-mul, mul_assoc, add-one, length-set, shl_exact, pow_pos, take-suc, get_or-set_other, eq-eqb, ne_eqb, eqb-true}
-use Prim.Native.Nat.{ℕ, zero, suc, ◌+◌, ◌*◌, ◌-◌, ◌/◌, ◌%◌, ◌^◌, min, ◌≤◌, ◌<◌}
+use Rattle.std.proofs.Common.{sym, ap, ◌∙◌, pow-suc, one-mul, zero-mul, mul_assoc, length-set, shl_exact, pow_pos, get_or-set_other, eq-eqb, ne_eqb, eqb-true}
+use Prim.Native.Nat.{ℕ, zero, suc, ◌+◌, ◌*◌, ◌/◌, ◌%◌, ◌^◌, min, ◌≤◌, ◌<◌}
 use Rattle.std.proofs.lemmas.Bool.{false≢true, eqb-false}
+use Rattle.std.proofs.Math.Bool.{not-not}
+use Rattle.std.proofs.lemmas.List.Sums.{sum_by-set, sum_by-take-le}
+use Rattle.std.proofs.lemmas.List.Folds.{sum_by-replicate}
 use native.Mathlib.Omega.{arith}
 use Rattle.std.proofs.Math.Nat.{pow-succ', div-div-eq-div-mul, zero-div}
 use Rattle.std.proofs.Math.Decide.{ℕ_discrete}
@@ -93,16 +96,15 @@ bit_cases bit word = go (word / 2 ^ bit % 2) refl (omega arith)
         let mask : bit_and word (2 ^ bit) ≡ 1 * 2 ^ bit = and-mask_is bit word ∙ ap (λ (number : ℕ). number * 2 ^ bit) one in
         rw (one, ne_eqb (bit_and word (2 ^ bit)) 0 (λ (none-set : bit_and word (2 ^ bit) ≡ 0). omega (arith, mask, none-set, pow_pos bit)))
 
--- ---- what `insert_rank` gives, as code has it
+-- ---- the test of a rank, as code makes it
 
 module _ (words : List ℕ) (rank : ℕ) where
   pub fresh_is : eqb (bit_and (get_or words (rank / 64) 0) (2 ^ (rank % 64))) 0 ≡ not (holds_rank words rank)
   unfolding holds_rank
   fresh_is = bit_cases (rank % 64) (get_or words (rank / 64) 0)
 
-  pub inserted-is : set words (rank / 64) (bit_or (get_or words (rank / 64) 0) (2 ^ (rank % 64))) ≡ insert_rank words rank
-  unfolding insert_rank
-  inserted-is = refl
+  pub holds-is : not (eqb (bit_and (get_or words (rank / 64) 0) (2 ^ (rank % 64))) 0) ≡ holds_rank words rank
+  holds-is = ap not fresh_is ∙ not-not (holds_rank words rank)
 
 -- ---- the same by the words one by one, each with its mask
 
@@ -170,54 +172,6 @@ module _ (words : List ℕ) (rank : ℕ) where
   pub fresh_masks : (last : ℕ) → rank / 64 ≤ last → eqb (masks_hit last) 0 ≡ not (holds_rank words rank)
   fresh_masks last within = rw (hit_by last within) (fresh_is words rank)
 
--- ---- ones_of
-
-ones_of-append : (words others : List ℕ) → ones_of (words ++ others) ≡ ones_of words + ones_of others
-unfolding ones_of
-ones_of-append [] others = omega arith
-ones_of-append (word ∷ rest) others = omega (arith, ones_of-append rest others)
-
-ones_of-set : (words : List ℕ) (index word : ℕ) → index < length words
-    → ones_of (set words index word) + ones (get_or words index 0) ≡ ones_of words + ones word
-unfolding ones_of
-ones_of-set [] index word inside = absurd (omega arith)
-ones_of-set (first ∷ rest) zero word inside = omega arith
-ones_of-set (first ∷ rest) (suc index) word inside = omega (arith, ones_of-set rest index word (omega arith))
-
-ones_of-next : (words : List ℕ) (index : ℕ) → index < length words
-    → ones_of (take (index + 1) words) ≡ ones_of (take index words) + ones (get_or words index 0)
-unfolding ones_of
-ones_of-next words index inside =
-    rw (add-one, take-suc words index 0 inside) (ones_of-append (take index words) (get_or words index 0 ∷ []) ∙ omega arith)
-
--- ---- the loop of `close`
-
--- of the words in use, those before `index` have so many ones
-pub record OnesSoFar (words : List ℕ) (used index seen : ℕ) : Type 0 where
-  pub within : index ≤ used
-  pub stored : used ≤ length words
-  pub few : seen ≤ 64 * index
-  pub counted : seen ≡ ones_of (take index words)
-
-pub ones_begin : (words : List ℕ) (used : ℕ) → used ≤ length words → OnesSoFar words used 0 0
-unfolding ones_of
-ones_begin words used stored = record { within = omega arith; stored = stored; few = omega arith; counted = refl }
-
-module _ (words : List ℕ) (used index seen : ℕ) (so_far : OnesSoFar words used index seen) where
-  pub ones_add : (more : ℕ) → index < used → more ≡ ones (get_or words index 0) → more ≤ 64 → OnesSoFar words used (index + 1) (seen + more)
-  ones_add more inside is-ones few = record {
-    within = omega arith;
-    stored = so_far.stored;
-    few = omega (arith, so_far.few);
-    counted = omega (arith, so_far.counted, is-ones, ones_of-next words index (omega (arith, so_far.stored)));
-  }
-
-  pub ones_end : (members : ℕ) → used ≤ index → used ≡ (members + 63) / 64 → seen ≡ rank_count words members
-  unfolding rank_count
-  ones_end members over is-used =
-      let all : index ≡ (members + 63) / 64 = omega (arith, so_far.within) in
-      so_far.counted ∙ rw all
-
 -- ---- the set of ranks
 
 insert_rank-length : (words : List ℕ) (rank : ℕ) → length (insert_rank words rank) ≡ length words
@@ -233,15 +187,7 @@ unfolding ones lib.Count.ones_in
 ones_zero = refl
 
 ones_of-zeros : (width : ℕ) → ones_of (replicate width 0) ≡ 0
-unfolding ones_of
-ones_of-zeros zero = refl
-ones_of-zeros (suc width) = omega (arith, ones_of-zeros width, ones_zero)
-
-ones_of-take : (count : ℕ) (words : List ℕ) → ones_of (take count words) ≤ ones_of words
-unfolding ones_of
-ones_of-take zero words = omega arith
-ones_of-take (suc count) [] = omega arith
-ones_of-take (suc count) (word ∷ rest) = omega (arith, ones_of-take count rest)
+ones_of-zeros width = sum_by-replicate ones width 0 ∙ rw ones_zero (omega arith)
 
 pub stands-empty : (width members : ℕ) → members ≤ 64 * width → Stands (no_ranks width) width members []
 unfolding holds_rank rank_count
@@ -249,7 +195,7 @@ stands-empty width members fits = record {
   wide = length-replicate {A = ℕ} width 0;
   fits = fits;
   holds = λ rank inside. rw (get_or-replicate {A = ℕ} width (rank / 64) 0 0 (omega arith), zero-div (2 ^ (rank % 64)));
-  counts = omega (arith, ones_of-take ((members + 63) / 64) (replicate width 0), ones_of-zeros width);
+  counts = omega (arith, sum_by-take-le ones (replicate width 0) ((members + 63) / 64), ones_of-zeros width);
 }
 
 module _ (words : List ℕ) (rank : ℕ) (inside : rank / 64 < length words) where
@@ -291,7 +237,7 @@ module _ (words : List ℕ) (rank : ℕ) (inside : rank / 64 < length words) whe
       let clear : get_or words (rank / 64) 0 / 2 ^ (rank % 64) % 2 ≡ 0 = bit_clear _ (eqb-false _ 1 new) (omega arith) in
       let taken : length (take ((members + 63) / 64) words) ≡ (members + 63) / 64 = length-take-le ((members + 63) / 64) words (omega arith) in
       let read : get_or (take ((members + 63) / 64) words) (rank / 64) 0 ≡ get_or words (rank / 64) 0 = get_or-take ((members + 63) / 64) words (rank / 64) 0 used in
-      let stored = ones_of-set (take ((members + 63) / 64) words) (rank / 64) (bit_or (get_or words (rank / 64) 0) (2 ^ (rank % 64))) (omega arith) in
+      let stored = sum_by-set ones (take ((members + 63) / 64) words) (rank / 64) (bit_or (get_or words (rank / 64) 0) (2 ^ (rank % 64))) 0 (omega arith) in
       rw (take-set-lt ((members + 63) / 64) words (rank / 64) (bit_or (get_or words (rank / 64) 0) (2 ^ (rank % 64))) used)
       (omega (arith, rw read at stored, or-adds (rank % 64) (get_or words (rank / 64) 0) clear))
 

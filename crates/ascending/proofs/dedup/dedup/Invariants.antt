@@ -1,11 +1,6 @@
 -- `ascending::dedup::dedup` meets its contract. The loop's invariant is `DedupSoFar`; the laws are those of specs/DedupLaws.antt.
-use Prim.Native.Nat.{◌-◌}
-use lib.ListN.{length}
 use Rattle.ascending.specs.DedupLaws.{DedupSoFar}
 use Rattle.ascending.proofs.dedup.dedup.Given as goal
 
 abbrev pub invariant-loop-index : goal.invariant-loop-index
 invariant-loop-index l = DedupSoFar l.initial.words l.words l.kept l.index
-
-abbrev pub decreases-loop-index : goal.decreases-loop-index
-decreases-loop-index l = length l.initial.words - l.index

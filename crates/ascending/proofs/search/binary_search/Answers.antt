@@ -3,7 +3,7 @@ use native.Mathlib.Omega.{arith}
 use Rattle.ascending.specs.SearchLaws.{search_empty, search_begins, search_finds, search_holds, search_misses, search_goes_up, search_goes_down}
 use Rattle.ascending.proofs.search.binary_search.Goals as goal
 
--- return Found::Nothing;
+-- return None;
 pub returns-then-words-eq0 : goal.returns-then-words-eq0
 returns-then-words-eq0 c = record {
   outcome = search_empty _ _ c.if-words-eq0.true;
@@ -24,14 +24,14 @@ loop-size-preserved-then-word-tag c = search_goes_up _ _ _ _ _ c.loop-size.invar
 pub loop-size-preserved : goal.loop-size-preserved
 loop-size-preserved c = search_goes_down _ _ _ _ _ c.loop-size.invariant _ (omega arith) (omega arith) c.if-word-tag.false
 
--- return Found::At(base);
+-- return Some(base);
 pub returns-then-last-tag : goal.returns-then-last-tag
 returns-then-last-tag c = record {
   outcome = search_finds _ _ _ _ _ c.loop-size.invariant c.loop-size-test.false c.if-last-tag.true;
   there = search_holds _ _ _ _ _ c.loop-size.invariant c.loop-size-test.false c.if-last-tag.true;
 }
 
--- pub fn binary_search(words: &[u32], tag: u32) -> Found
+-- pub fn binary_search(words: &[u32], tag: u32) -> Option<usize>
 pub returns : goal.returns
 returns c = record {
   outcome = search_misses _ _ _ _ _ c.loop-size.invariant c.loop-size-test.false c.if-last-tag.false;

@@ -1,31 +1,13 @@
 -- `events::event::put` meets its contract: the five stores are those of `put_in` (specs/EventSpaceLaws.antt).
-use mathlib.Core.Path.{refl, sym}
-use native.Mathlib.Omega.{arith}
-use lib.ListN.{length-set}
+use Rattle.std.proofs.Common.{ℕ, sym, ap, arith}
 use Rattle.events.specs.EventSpaceLaws.{put_in_no_room, put_in_stores}
-use borrow.Author.Rules.{rules}
 use Rattle.events.proofs.event.put.Goals as goal
 
-pub bounds-events-at-then-next-events : goal.bounds-events-at-then-next-events
-bounds-events-at-then-next-events c = simp length-set (omega arith)
+pub returns-then-next-events-clause-memory : goal.returns-then-next-events-clause-memory
+returns-then-next-events-clause-memory c =
+    put_in_stores c.args.events.now c.args.at c.args.event _ _ _ _ _ c.if-next-events.true
+    (ap (λ (words : ℕ × ℕ × ℕ). words.0) c.words_of-number.ensures) c.from.ensures c.from-then-next-events.ensures
+    (ap (λ (words : ℕ × ℕ × ℕ). words.1) c.words_of-number.ensures) (ap (λ (words : ℕ × ℕ × ℕ). words.2) c.words_of-number.ensures)
 
-pub bounds-events-at-then-next-events-2 : goal.bounds-events-at-then-next-events-2
-bounds-events-at-then-next-events-2 c = simp length-set (omega arith)
-
-pub bounds-events-at-then-next-events-3 : goal.bounds-events-at-then-next-events-3
-bounds-events-at-then-next-events-3 c = simp length-set (omega arith)
-
-pub bounds-events-at-then-next-events-4 : goal.bounds-events-at-then-next-events-4
-bounds-events-at-then-next-events-4 c = simp length-set (omega arith)
-
-pub returns-then-next-events : goal.returns-then-next-events
-returns-then-next-events c = record {
-  outcome = refl;
-  memory = put_in_stores c.args.events.now c.args.at c.args.event _ _ _ _ _ (omega arith) c.words_of-words.ensures.0 c.wide.ensures c.wide-then-next-events.ensures c.words_of-words.ensures.1 c.words_of-words.ensures.2;
-}
-
-pub returns-else-next-events : goal.returns-else-next-events
-returns-else-next-events c = record {
-  outcome = refl;
-  memory = sym (put_in_no_room c.args.events.now c.args.at c.args.event (omega arith));
-}
+pub returns-else-next-events-clause-memory : goal.returns-else-next-events-clause-memory
+returns-else-next-events-clause-memory c = sym (put_in_no_room c.args.events.now c.args.at c.args.event (omega arith))
