@@ -2,7 +2,7 @@
 -- (`accepted-size`). The converse is `PassAccepted.antt`. Assumes nothing.
 --
 --   bytes_in pieces   how many bytes a text has, from its pieces
-use Rattle.std.specs.Prelude.{◌≡◌, Bool, ◌&&◌, ◌||◌, cond, leb, ltb, eqb, drop}
+use Rattle.std.specs.Prelude.{◌≡◌, Bool, ◌&&◌, ◌||◌, cond, leb, ltb, eqb, drop, Option, Some, None, Result, Ok, Err}
 use Rattle.std.proofs.Math.Path.{refl, sym, ap}
 use Rattle.std.proofs.Common.{◌∙◌, take_at, get_or-drop}
 use Prim.Native.Nat.{ℕ, zero, suc, ◌+◌, ◌*◌, ◌-◌, ◌≤◌, ◌<◌}
@@ -24,17 +24,9 @@ use Rattle.refusals.specs.declared.refusal.Refusal.{Refusal}
 use Rattle.line_forms.specs.declared.line.Line.{Line}
 use Rattle.line_forms.specs.declared.line.Line.TheVariants.{Def, Value, BeginHeader, BeginTrailer, EndHeader, EndTrailer, Component, Message, Field, Group, Use, End, Member, RequiredTag, Unknown}
 use Rattle.dictionary_order.specs.declared.dictionary_order.State.{State}
-use Rattle.dictionary_order.specs.declared.dictionary_order.Fault.{Fault}
-use Rattle.dictionary_order.specs.declared.dictionary_order.Fault.TheVariants.{NoFault, Faulty}
 use Rattle.texts.specs.declared.dictionary_text.Counts.{Counts}
 use Rattle.texts.specs.declared.dictionary_text.Defined.{Defined}
 use Rattle.texts.specs.declared.dictionary_text.Defined.TheVariants.{Tag, ComponentName, MessageName, Nothing}
-use Rattle.texts.specs.declared.dictionary_text.TextOutcome.{TextOutcome}
-use Rattle.texts.specs.declared.dictionary_text.TextOutcome.TheVariants.{Accepted, Refused}
-use Rattle.texts.specs.declared.dictionary_text.Key.{Key}
-use Rattle.texts.specs.declared.dictionary_text.Key.TheVariants.{Of, NoKey}
-use Rattle.texts.specs.declared.dictionary_text.Again.{Again}
-use Rattle.texts.specs.declared.dictionary_text.Again.TheVariants.{At, Nowhere}
 use Rattle.refusals.specs.declared.refusal.Refusal.TheVariants.{TextTooLong, UnknownForm, NotAllowed, DefinedAgain}
 use Rattle.refusals.specs.Refusal.{refusal_place}
 use Rattle.lines.specs.Lines.{Pieces, last, piece, longer, cut, lines_of, line_feed}
@@ -46,10 +38,6 @@ use Rattle.records.specs.RecordsLaws.{Held, HeldEnd, line_from-record_of, record
 use Rattle.records.specs.LineLengths.{digit_count_from, digit_count, end_length, length_of}
 use Rattle.records.specs.WordTextLaws.{letters_length-range}
 use Rattle.records.specs.LineTextsLaws.{some-digit_by}
-use Rattle.lines.specs.declared.line_parts.Number32.{Number32}
-use Rattle.lines.specs.declared.line_parts.Number32.TheVariants.{Number, NoNumber}
-use Rattle.lines.specs.declared.line_parts.MessageType.{MessageType}
-use Rattle.lines.specs.declared.line_parts.MessageType.TheVariants.{Letters, NoLetters}
 use Rattle.records.specs.LineReadLaws.{Usable, line_of_fits}
 use Rattle.dictionary.specs.DictionaryWords.{is_of, name_of, names_of, place_of, records_of, index_of, dictionary_words, lines_in}
 use Rattle.dictionary.specs.DictionaryCheck.{is_taken, accepts, count_of, stands_at, stands_each, is_index, tags_at, components_at, size_of, is_dictionary}
@@ -96,21 +84,21 @@ usable_held state number (Member tag) taken usable = absurd (false≢true taken)
 usable_held state number (RequiredTag tag) taken usable = absurd (false≢true taken)
 usable_held state number Unknown taken usable = absurd (false≢true taken)
 
-refused-never : {A : Type 0} (refusal : Refusal) (outcome : Counts) → Refused refusal ≡ Accepted outcome → A
+refused-never : {A : Type 0} (refusal : Refusal) (outcome : Counts) → Err refusal ≡ Ok outcome → A
 refused-never refusal outcome same = let never : ◌≡◌ {A = ℕ} 0 1 = cc in absurd (omega arith)
 
-end_by : (some ends : Bool) (read outcome : Counts) (one two : Refusal) → cond some (Refused one) (cond ends (Accepted read) (Refused two)) ≡ Accepted outcome → ends ≡ true
+end_by : (some ends : Bool) (read outcome : Counts) (one two : Refusal) → cond some (Err one) (cond ends (Ok read) (Err two)) ≡ Ok outcome → ends ≡ true
 end_by true ends read outcome one two same = refused-never one outcome same
 end_by false true read outcome one two same = refl
 end_by false false read outcome one two same = refused-never two outcome same
 
-pub fault_by : (fault : Fault) (goes_on : TextOutcome) (outcome : Counts) → on_fault fault goes_on ≡ Accepted outcome → (is_taken fault ≡ true) × (goes_on ≡ Accepted outcome)
-fault_by NoFault goes_on outcome same = (refl, same)
-fault_by (Faulty refusal) goes_on outcome same = refused-never refusal outcome same
+pub fault_by : (fault : Option Refusal) (goes_on : Result Counts Refusal) (outcome : Counts) → on_fault fault goes_on ≡ Ok outcome → (is_taken fault ≡ true) × (goes_on ≡ Ok outcome)
+fault_by None goes_on outcome same = (refl, same)
+fault_by (Some refusal) goes_on outcome same = refused-never refusal outcome same
 
 order-accepts : (state : State) (read : Counts) (number total : ℕ) (pieces : Pieces) (outcome : Counts)
     → number ≡ read.lines + 1
-    → order_from state read pieces ≡ Accepted outcome
+    → order_from state read pieces ≡ Ok outcome
     → total + bytes_in pieces ≤ 65536
     → AllHeld (lines_in pieces) × (accepts state number total (lines_in pieces) ≡ true)
 unfolding order_from lines_in accepts
@@ -161,11 +149,11 @@ unfolding once
 one-more_by true each key seen test none few = rw test (omega (arith, ap (λ (word : ℕ). how_often word seen) (eqb-true key each test)))
 one-more_by false each key seen test none few = rw test (omega arith)
 
-nowhere-key_by : (found : Bool) (key : ℕ) (seen keys : List ℕ) (number : ℕ) (goes_on : List ℕ → Again)
+nowhere-key_by : (found : Bool) (key : ℕ) (seen keys : List ℕ) (number : ℕ) (goes_on : List ℕ → Option ℕ)
     → is_in key seen ≡ found
-    → cond found (At number) (goes_on (seen ++ (key ∷ []))) ≡ Nowhere
+    → cond found (Some number) (goes_on (seen ++ (key ∷ []))) ≡ None
     → ((each : ℕ) → how_often each seen ≤ 1)
-    → ((more : List ℕ) → goes_on more ≡ Nowhere → ((each : ℕ) → how_often each more ≤ 1) → (each : ℕ) → how_often each more + how_often each keys ≤ 1)
+    → ((more : List ℕ) → goes_on more ≡ None → ((each : ℕ) → how_often each more ≤ 1) → (each : ℕ) → how_often each more + how_often each keys ≤ 1)
     → (each : ℕ)
     → how_often each seen + how_often each (key ∷ keys) ≤ 1
 unfolding how_often
@@ -180,16 +168,16 @@ nowhere-key_by false key seen keys number goes_on test nowhere few deeper each =
       joined each,
     )
 
-nowhere-by : (key : Key) (seen keys : List ℕ) (number : ℕ) (goes_on : List ℕ → Again)
-    → on_key key seen number goes_on ≡ Nowhere
+nowhere-by : (key : Option ℕ) (seen keys : List ℕ) (number : ℕ) (goes_on : List ℕ → Option ℕ)
+    → on_key key seen number goes_on ≡ None
     → ((each : ℕ) → how_often each seen ≤ 1)
-    → ((more : List ℕ) → goes_on more ≡ Nowhere → ((each : ℕ) → how_often each more ≤ 1) → (each : ℕ) → how_often each more + how_often each keys ≤ 1)
+    → ((more : List ℕ) → goes_on more ≡ None → ((each : ℕ) → how_often each more ≤ 1) → (each : ℕ) → how_often each more + how_often each keys ≤ 1)
     → (each : ℕ)
     → how_often each seen + how_often each (key_in key ++ keys) ≤ 1
-nowhere-by (Of key) seen keys number goes_on nowhere few deeper each = nowhere-key_by (is_in key seen) key seen keys number goes_on refl nowhere few deeper each
-nowhere-by NoKey seen keys number goes_on nowhere few deeper each = deeper seen nowhere few each
+nowhere-by (Some key) seen keys number goes_on nowhere few deeper each = nowhere-key_by (is_in key seen) key seen keys number goes_on refl nowhere few deeper each
+nowhere-by None seen keys number goes_on nowhere few deeper each = deeper seen nowhere few each
 
-nowhere-once : (seen : List ℕ) (number : ℕ) (pieces : Pieces) → again_from seen number pieces ≡ Nowhere
+nowhere-once : (seen : List ℕ) (number : ℕ) (pieces : Pieces) → again_from seen number pieces ≡ None
     → ((each : ℕ) → how_often each seen ≤ 1)
     → (each : ℕ)
     → how_often each seen + how_often each (keys_of (lines_in pieces)) ≤ 1
@@ -394,21 +382,21 @@ module _ (words : List ℕ) (lines : List Line) (behind : List ℕ) (counted' : 
 
 -- ---- the words of an accepted text
 
-earlier_by : (test : Bool) (one two : Refusal) (outcome : Counts) → cond test (Refused one) (Refused two) ≡ Accepted outcome → ⊥
+earlier_by : (test : Bool) (one two : Refusal) (outcome : Counts) → cond test (Err one) (Err two) ≡ Ok outcome → ⊥
 earlier_by true one two outcome same = refused-never one outcome same
 earlier_by false one two outcome same = refused-never two outcome same
 
-text-by : (long : Bool) (again : Again) (order : TextOutcome) (outcome : Counts)
-    → cond long (Refused TextTooLong) (first_of again order) ≡ Accepted outcome
-    → (long ≡ false) × ((again ≡ Nowhere) × (order ≡ Accepted outcome))
+text-by : (long : Bool) (again : Option ℕ) (order : Result Counts Refusal) (outcome : Counts)
+    → cond long (Err TextTooLong) (first_of again order) ≡ Ok outcome
+    → (long ≡ false) × ((again ≡ None) × (order ≡ Ok outcome))
 text-by true again order outcome same = refused-never TextTooLong outcome same
-text-by false (At line) (Accepted read) outcome same = refused-never (DefinedAgain line) outcome same
-text-by false (At line) (Refused refusal) outcome same = absurd (earlier_by (ltb line (refusal_place refusal)) (DefinedAgain line) refusal outcome same)
-text-by false Nowhere order outcome same = (refl, (refl, same))
+text-by false (Some line) (Ok read) outcome same = refused-never (DefinedAgain line) outcome same
+text-by false (Some line) (Err refusal) outcome same = absurd (earlier_by (ltb line (refusal_place refusal)) (DefinedAgain line) refusal outcome same)
+text-by false None order outcome same = (refl, (refl, same))
 
 -- what is known of an accepted text: its length, row 5, and rows 2 to 4
-pub accepted-parts : (text : List ℕ) (outcome : Counts) → dictionary_text_of text ≡ Accepted outcome
-    → (length text ≤ 65536) × ((again_of text ≡ Nowhere) × (order_of text ≡ Accepted outcome))
+pub accepted-parts : (text : List ℕ) (outcome : Counts) → dictionary_text_of text ≡ Ok outcome
+    → (length text ≤ 65536) × ((again_of text ≡ None) × (order_of text ≡ Ok outcome))
 unfolding dictionary_text_of
 accepted-parts text outcome accepted =
     let parts = text-by (ltb 65536 (length text)) (again_of text) (order_of text) outcome accepted in
@@ -503,7 +491,7 @@ module _ (lines : List Line) (more : List ℕ) (held : AllHeld lines) (accepted 
       (and_both (is_index 1 (tags_at all_words) (length (names_of 1 lines)) all_words) _ tags-pass
       (and_both (is_index 5 (components_at all_words) (length (names_of 5 lines)) all_words) _ components-pass messages-pass))))
 
-module _ (text : List ℕ) (outcome : Counts) (accepted : dictionary_text_of text ≡ Accepted outcome) where
+module _ (text : List ℕ) (outcome : Counts) (accepted : dictionary_text_of text ≡ Ok outcome) where
   pub text-lines : AllHeld (lines_in (lines_of text)) × (accepts start 1 0 (lines_in (lines_of text)) ≡ true)
   unfolding order_of
   text-lines =
@@ -525,10 +513,10 @@ some_digits : (n : ℕ) → 1 ≤ digit_count n
 unfolding digit_count
 some_digits n = some-digit_by (ltb n 10) (digit_count_from 9 100 n)
 
-end-long : (number : Number32) (letters : MessageType) → HeldEnd number letters → 5 ≤ end_length number letters
-end-long read_number (Letters letters) held = omega (arith, letters_length-range letters)
-end-long (Number number) NoLetters held = omega (arith, some_digits number)
-end-long NoNumber NoLetters held = absurd held
+end-long : (number : Option ℕ) (letters : Option ℕ) → HeldEnd number letters → 5 ≤ end_length number letters
+end-long read_number (Some letters) held = omega (arith, letters_length-range letters)
+end-long (Some number) None held = omega (arith, some_digits number)
+end-long None None held = absurd held
 
 -- a line has at least five bytes, as `end=0` has
 held-long : (line : Line) → Held line → 5 ≤ length_of line
@@ -574,7 +562,7 @@ names-few (line ∷ rest) =
     )
 
 -- 10,922 lines of six bytes with their line feeds fill a text; each takes ten words and at most two in an index
-pub accepted-size : (text : List ℕ) (outcome : Counts) → dictionary_text_of text ≡ Accepted outcome → length (dictionary_words (lines_in (lines_of text))) ≤ 131068
+pub accepted-size : (text : List ℕ) (outcome : Counts) → dictionary_text_of text ≡ Ok outcome → length (dictionary_words (lines_in (lines_of text))) ≤ 131068
 accepted-size text outcome accepted =
     let lines = lines_in (lines_of text) in
     omega (

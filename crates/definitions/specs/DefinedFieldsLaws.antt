@@ -1,7 +1,7 @@
 -- What is looked up in a dictionary's words (`Definitions.antt`) is what its lines define (`DefinedFields.antt`), for all words that pass the check:
 -- the definition of a tag (`definition-found`, `definition-missing`), the values it admits (`admits_value-lines`, `is_enumerated-lines`) and the tags in the
 -- index of the definitions (`tags-index`). Assumes nothing.
-use Rattle.std.specs.Prelude.{◌≡◌, ℕ, zero, suc, ◌+◌, ◌*◌, ◌-◌, ◌≤◌, ◌<◌, Bool, true, ◌&&◌, ◌||◌, cond, ◌⊎◌, ltb, length, take, drop, if◌then◌else◌}
+use Rattle.std.specs.Prelude.{◌≡◌, ℕ, zero, suc, ◌+◌, ◌*◌, ◌-◌, ◌≤◌, ◌<◌, Bool, true, ◌&&◌, ◌||◌, cond, ◌⊎◌, ltb, length, take, drop, if◌then◌else◌, Option, Some, None}
 use Rattle.std.proofs.Math.Path.{refl, ap}
 use Rattle.std.proofs.Common.{sym, ◌∙◌, inl, inr, arith, length-drop, drop-drop, get_or-drop}
 use Rattle.std.proofs.Math.Bool.{false}
@@ -14,30 +14,20 @@ use borrow.Author.Tests.{ltb-true, ltb-false, lt-ltb, le-ltb, eqb-true, eq-eqb, 
 use Rattle.ascii.specs.Notation.{◌<ᵇ◌}
 use Rattle.ascii.specs.NotationLaws.{and_left, and_right}
 use Rattle.ascii.specs.Bytes.{every}
-use Rattle.ascending.specs.declared.search.Found.{Found}
-use Rattle.ascending.specs.declared.search.Found.TheVariants.{At, Nothing}
 use Rattle.ascending.specs.Sort.{sorted}
 use Rattle.line_forms.specs.declared.line.Line.{Line}
 use Rattle.line_forms.specs.declared.line.Line.TheVariants.{Def, Value, BeginHeader, BeginTrailer, EndHeader, EndTrailer, Component, Message, Field, Group, Use, End, Member, RequiredTag, Unknown}
-use Rattle.lines.specs.declared.line_parts.Number32.{Number32}
-use Rattle.lines.specs.declared.line_parts.Number32.TheVariants.{Number, NoNumber}
-use Rattle.lines.specs.declared.line_parts.MessageType.{MessageType}
-use Rattle.lines.specs.declared.line_parts.MessageType.TheVariants.{Letters, NoLetters}
 use Rattle.lines.specs.declared.line_parts.Admitted.{Admitted}
-use Rattle.lines.specs.declared.line_parts.ValueText.{ValueText}
-use Rattle.lines.specs.declared.line_parts.ValueText.TheVariants.{Bytes, NoBytes}
 use Rattle.lines.specs.Lines.{starts_with, is_same}
 use Rattle.lines.specs.LineParts.{is_visible, value_of}
 use Rattle.records.specs.Records.{record_of, admitted_from, lines_from, Words32}
 use Rattle.records.specs.RecordsLaws.{Held, record_of-length}
 use Rattle.records.specs.LineTexts.{value_text}
 use Rattle.records.specs.WordTextLaws.{value_text-visible, value_of_value_text}
-use Rattle.definitions.specs.declared.definitions.Definition.{Definition}
-use Rattle.definitions.specs.declared.definitions.Definition.TheVariants as definition
 use Rattle.dictionary.specs.DictionaryWords.{is_of, name_of, names_of, place_of, records_of, word_lines}
 use Rattle.dictionary.specs.DictionaryCheck.{tags_at, is_dictionary}
 use Rattle.definitions.specs.Definitions.{record_in, definition_at, definition_of, is_same_value, is_among, among_with, is_enumerated, admits_value}
-use Rattle.definitions.specs.DefinitionsLaws.{Dictionary, is_dictionary-parts}
+use Rattle.definitions.specs.DefinitionsLaws.{type_told, number_told, Dictionary, is_dictionary-parts}
 use Rattle.definitions.specs.IndexLaws.{record_word, record_drop}
 use Rattle.definitions.specs.PassAccepted.{AllHeld}
 use Rattle.definitions.specs.DefinedFields.{FieldDef, FieldLine, defines, admits, says_nothing, field_line, values_with, values_first, fields_with, fields_in, FoundField, DefinedAs, NotDefined, field_called, field_in, tags_in, is_one_of, is_admitted_by}
@@ -65,11 +55,11 @@ module _ (tag : ℕ) (values : List (List ℕ)) (others : List FieldDef) where
       field_called tag (fields_with (field_line line) values others)
       ≡ cond (is_of 1 line && eqb (name_of line) tag) (DefinedAs (record { tag = name_of line; type = get_or (record_of line) 2 0; values = values })) (field_called tag others)
 
-  field_step_end : (number : Number32) (letters : MessageType) → Step (End number letters)
+  field_step_end : (number : Option ℕ) (letters : Option ℕ) → Step (End number letters)
   unfolding field_called is_of name_of record_of
-  field_step_end read_number (Letters letters) = refl
-  field_step_end (Number number) NoLetters = refl
-  field_step_end NoNumber NoLetters = refl
+  field_step_end read_number (Some letters) = refl
+  field_step_end (Some number) None = refl
+  field_step_end None None = refl
 
   field_step : (line : Line) → Step line
   unfolding field_called is_of name_of record_of
@@ -113,11 +103,11 @@ module _ (values : List (List ℕ)) (others : List FieldDef) where
       cond (is_of 1 line) (name_of line ∷ map (λ (field : FieldDef). field.tag) others) (map (λ (field : FieldDef). field.tag) others)
       ≡ map (λ (field : FieldDef). field.tag) (fields_with (field_line line) values others)
 
-  named_end : (number : Number32) (letters : MessageType) → Named (End number letters)
+  named_end : (number : Option ℕ) (letters : Option ℕ) → Named (End number letters)
   unfolding is_of name_of record_of
-  named_end read_number (Letters letters) = refl
-  named_end (Number number) NoLetters = refl
-  named_end NoNumber NoLetters = refl
+  named_end read_number (Some letters) = refl
+  named_end (Some number) None = refl
+  named_end None None = refl
 
   named_step : (line : Line) → Named line
   unfolding is_of name_of record_of
@@ -250,7 +240,7 @@ module _ (one other : Admitted) where
           ∙ rw (word1, word2, word3, word4, word5, word6, word7)
 
 -- the bytes of a value and of an admitted one are the same where their words are
-module _ (value : List ℕ) (words : Admitted) (there : value_of value ≡ Bytes words) (admitted : Admitted) (held : Held (Value admitted)) where
+module _ (value : List ℕ) (words : Admitted) (there : value_of value ≡ Some words) (admitted : Admitted) (held : Held (Value admitted)) where
   same_by : (same : Bool) → is_same_value admitted words ≡ same → same ≡ is_same (value_text admitted) value
   same_by true same =
       let equal : value_text admitted ≡ value = ap value_text (is_same_value-true admitted words same) ∙ value_text-value_of value words there in
@@ -261,7 +251,7 @@ module _ (value : List ℕ) (words : Admitted) (there : value_of value ≡ Bytes
       go false same = refl
       go true same =
           let bytes : value_text admitted ≡ value = is_same-true (value_text admitted) value same in
-          let both : Bytes words ≡ Bytes admitted = sym there ∙ ap value_of (sym bytes) ∙ value_of_value_text admitted held.0 held.1 in
+          let both : Some words ≡ Some admitted = sym there ∙ ap value_of (sym bytes) ∙ value_of_value_text admitted held.0 held.1 in
           let equal : words ≡ admitted = cc in
           absurd (false≢true (sym other ∙ ap (is_same_value admitted) equal ∙ is_same_value-itself admitted))
 
@@ -269,13 +259,13 @@ module _ (value : List ℕ) (words : Admitted) (there : value_of value ≡ Bytes
   same-value = same_by (is_same_value admitted words) refl
 
 -- a value that no line can have is none of those that lines have
-other_value : (value : List ℕ) → value_of value ≡ NoBytes → (admitted : Admitted) → Held (Value admitted) → is_same (value_text admitted) value ≡ false
+other_value : (value : List ℕ) → value_of value ≡ None → (admitted : Admitted) → Held (Value admitted) → is_same (value_text admitted) value ≡ false
 other_value value none admitted held = go (is_same (value_text admitted) value) refl
   where
     go : (same : Bool) → is_same (value_text admitted) value ≡ same → same ≡ false
     go false same = refl
     go true same =
-        let both : NoBytes ≡ Bytes admitted = sym none ∙ ap value_of (sym (is_same-true (value_text admitted) value same)) ∙ value_of_value_text admitted held.0 held.1 in
+        let both : None ≡ Some admitted = sym none ∙ ap value_of (sym (is_same-true (value_text admitted) value same)) ∙ value_of_value_text admitted held.0 held.1 in
         let never : ◌≡◌ {A = ℕ} 0 1 = cc in
         absurd (omega arith)
 
@@ -287,11 +277,11 @@ ValueLine line = (admitted : Admitted) × ((line ≡ Value admitted) × Held (Va
 abbrev OtherLine : Line → Type 0
 OtherLine line = (eqb (get_or (record_of line) 0 0) 2 ≡ false) × ((others : List (List ℕ)) → values_with (field_line line) others ≡ [])
 
-other_end : (number : Number32) (letters : MessageType) → OtherLine (End number letters)
+other_end : (number : Option ℕ) (letters : Option ℕ) → OtherLine (End number letters)
 unfolding record_of
-other_end read_number (Letters letters) = (refl, λ others. refl)
-other_end (Number number) NoLetters = (refl, λ others. refl)
-other_end NoNumber NoLetters = (refl, λ others. refl)
+other_end read_number (Some letters) = (refl, λ others. refl)
+other_end (Some number) None = (refl, λ others. refl)
+other_end None None = (refl, λ others. refl)
 
 value-or_other : (line : Line) → Held line → ValueLine line ⊎ OtherLine line
 unfolding record_of
@@ -350,13 +340,13 @@ among-drop value (suc left) at words =
     let first : get_or (drop at words) 0 0 ≡ get_or words at 0 = get_or-drop at words 0 0 ∙ ap (λ (place : ℕ). get_or words place 0) here in
     rw (first, among-drop value left (at + 10) words, among-drop value left 10 (drop at words), drop-drop 10 at words)
 
-among_with-drop : (value : ValueText) (left at : ℕ) (words : List ℕ) → among_with value left at words ≡ among_with value left 0 (drop at words)
-among_with-drop (Bytes value) left at words = among-drop value left at words
-among_with-drop NoBytes left at words = refl
+among_with-drop : (value : Option Admitted) (left at : ℕ) (words : List ℕ) → among_with value left at words ≡ among_with value left 0 (drop at words)
+among_with-drop (Some value) left at words = among-drop value left at words
+among_with-drop None left at words = refl
 
 module _ (value : List ℕ) where
   -- where the value is one that a line can have
-  module _ (words : Admitted) (there : value_of value ≡ Bytes words) where
+  module _ (words : Admitted) (there : value_of value ≡ Some words) where
     one-by : (line : Line) (rest : List Line) (deeper : Bool)
         → ValueLine line ⊎ OtherLine line
         → deeper ≡ is_one_of (values_first rest) value
@@ -379,7 +369,7 @@ module _ (value : List ℕ) where
         (one-by line rest _ (value-or_other line held.0) (among-records rest more held.1))
 
   -- where it is none
-  module _ (none : value_of value ≡ NoBytes) where
+  module _ (none : value_of value ≡ None) where
     none-by : (line : Line) (rest : List Line) → ValueLine line ⊎ OtherLine line → is_one_of (values_first rest) value ≡ false → is_one_of (values_first (line ∷ rest)) value ≡ false
     unfolding values_first is_one_of
     none-by line rest (inl is) deeper = rw (is.1.0, other_value value none is.0 is.1.1) deeper
@@ -389,10 +379,10 @@ module _ (value : List ℕ) where
     none_first [] held = unfold values_first is_one_of in refl
     none_first (line ∷ rest) held = none-by line rest (value-or_other line held.0) (none_first rest held.1)
 
-  among_first : (lines : List Line) (more : List ℕ) (text : ValueText) → AllHeld lines → value_of value ≡ text
+  among_first : (lines : List Line) (more : List ℕ) (text : Option Admitted) → AllHeld lines → value_of value ≡ text
       → among_with text (length lines) 0 (records_of lines ++ more) ≡ is_one_of (values_first lines) value
-  among_first lines more (Bytes words) held there = among-records words there lines more held
-  among_first lines more NoBytes held none = sym (none_first none lines held)
+  among_first lines more (Some words) held there = among-records words there lines more held
+  among_first lines more None held none = sym (none_first none lines held)
 
   admits-by : (line : Line) (rest : List Line) (among : Bool)
       → ValueLine line ⊎ OtherLine line
@@ -439,17 +429,17 @@ module _ (words : List ℕ) (small : Words32 words) (passes : is_dictionary word
     -- the definition that the words have of a tag is that of its `def` line
     found-by : (place : ℕ) (test : Bool) (type number : ℕ)
         → ltb place (length lines) ≡ test
-        → definition_at words (cond test (At place) Nothing) ≡ definition.Defined type number
+        → definition_at words (cond test (Some place) None) ≡ Some (record { type_place = type; number = number })
         → (number < length lines) × (((field_at lines number).type ≡ type) × (cond test (DefinedAs (field_at lines place)) NotDefined ≡ DefinedAs (field_at lines number)))
     found-by place true type number inside there =
-        let number_is : place ≡ number = cc in
-        let type-is : get_or words (4 + 10 * place + 2) 0 ≡ type = cc in
+        let number_is : place ≡ number = ap number_told there in
+        let type-is : get_or words (4 + 10 * place + 2) 0 ≡ type = ap type_told there in
         let within : place < length lines = ltb-true place (length lines) inside in
         let word = word_at words small passes place 2 (omega (arith, lines-counted words)) (omega arith) in
         rw (← number_is) (within, (sym word ∙ type-is, refl))
     found-by place false type number outside there = let never : ◌≡◌ {A = ℕ} 0 1 = cc in absurd (omega arith)
 
-    pub definition-found : (type number : ℕ) → definition_of words tag ≡ definition.Defined type number
+    pub definition-found : (type number : ℕ) → definition_of words tag ≡ Some (record { type_place = type; number = number })
         → (number < length (word_lines words))
         × (((field_at (word_lines words) number).type ≡ type) × (field_in (word_lines words) tag ≡ DefinedAs (field_at (word_lines words) number)))
     definition-found type number there =
@@ -458,12 +448,12 @@ module _ (words : List ℕ) (small : Words32 words) (passes : is_dictionary word
         (parts.0, (parts.1.0, field_placed_lem lines tag ∙ parts.1.1))
 
     missing_by : (place : ℕ) (test : Bool)
-        → definition_at words (cond test (At place) Nothing) ≡ definition.Undefined
+        → definition_at words (cond test (Some place) None) ≡ None
         → cond test (DefinedAs (field_at lines place)) NotDefined ≡ NotDefined
     missing_by place true missing = let never : ◌≡◌ {A = ℕ} 0 1 = cc in absurd (omega arith)
     missing_by place false missing = refl
 
-    pub definition-missing : definition_of words tag ≡ definition.Undefined → field_in (word_lines words) tag ≡ NotDefined
+    pub definition-missing : definition_of words tag ≡ None → field_in (word_lines words) tag ≡ NotDefined
     definition-missing missing =
         let place = place_of 1 tag lines in
         field_placed_lem lines tag ∙ missing_by place (ltb place (length lines)) (sym (definition-line tag) ∙ missing)

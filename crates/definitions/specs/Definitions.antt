@@ -10,46 +10,39 @@
 --   is_among value left at words     the value is that of one of the `left` records from this place on, as long as they are `value=V` lines
 --   is_enumerated words number       the definition with this record has admitted values: a `value=V` line stands behind it
 --   admits_value words number value  "`value=V` lines (none: every value admitted)": the definition with this record admits the value
-use Rattle.std.specs.Prelude.{ℕ, zero, suc, ◌+◌, ◌*◌, ◌-◌, Bool, true, false, ◌&&◌, ◌||◌, List, get_or, take, drop, if◌then◌else◌}
+use Rattle.std.specs.Prelude.{ℕ, zero, suc, ◌+◌, ◌*◌, ◌-◌, Bool, true, false, ◌&&◌, ◌||◌, List, get_or, take, drop, if◌then◌else◌, Option, Some, None}
 use Rattle.ascii.specs.Notation.{◌≡ᵇ◌}
-use Rattle.ascending.specs.declared.search.Found.{Found}
-use Rattle.ascending.specs.declared.search.Found.TheVariants.{At, Nothing}
 use Rattle.ascending.specs.Search.{rank_in}
 use Rattle.line_forms.specs.declared.line.Line.{Line}
-use Rattle.lines.specs.declared.line_parts.MessageType.{MessageType}
-use Rattle.lines.specs.declared.line_parts.MessageType.TheVariants.{Letters, NoLetters}
 use Rattle.lines.specs.declared.line_parts.Admitted.{Admitted}
-use Rattle.lines.specs.declared.line_parts.ValueText.{ValueText}
-use Rattle.lines.specs.declared.line_parts.ValueText.TheVariants.{Bytes, NoBytes}
 use Rattle.lines.specs.LineParts.{message_type_of, value_of}
 use Rattle.definitions.specs.declared.definitions.Definition.{Definition}
-use Rattle.definitions.specs.declared.definitions.Definition.TheVariants.{Defined, Undefined}
 use Rattle.records.specs.Records.{admitted_from, line_from}
 use Rattle.dictionary.specs.DictionaryCheck.{tags_at, components_at, messages_at}
 
 -- the number of the record stands as far behind the index's names as the name stands among them
-abbrev pub number_at : ℕ → List ℕ → Found → Found
-number_at past words (At rank) = At (get_or words (past + rank) 0)
-number_at past words Nothing = Nothing
+abbrev pub number_at : ℕ → List ℕ → Option ℕ → Option ℕ
+number_at past words (Some rank) = Some (get_or words (past + rank) 0)
+number_at past words None = None
 
-unfoldable pub record_in : ℕ → ℕ → ℕ → List ℕ → Found
+unfoldable pub record_in : ℕ → ℕ → ℕ → List ℕ → Option ℕ
 record_in at count name words = number_at (at + count) words (rank_in (take count (drop at words)) name)
 
-abbrev pub definition_at : List ℕ → Found → Definition
-definition_at words (At number) = Defined (get_or words (4 + 10 * number + 2) 0) number
-definition_at words Nothing = Undefined
+abbrev pub definition_at : List ℕ → Option ℕ → Option Definition
+definition_at words (Some number) = Some (record { type_place = (get_or words (4 + 10 * number + 2) 0); number = number })
+definition_at words None = None
 
-unfoldable pub definition_of : List ℕ → ℕ → Definition
+unfoldable pub definition_of : List ℕ → ℕ → Option Definition
 definition_of words tag = definition_at words (record_in (tags_at words) (get_or words 1 0) tag words)
 
-unfoldable pub component_of : List ℕ → ℕ → Found
+unfoldable pub component_of : List ℕ → ℕ → Option ℕ
 component_of words name = record_in (components_at words) (get_or words 2 0) name words
 
-abbrev pub message_with : List ℕ → MessageType → Found
-message_with words (Letters letters) = record_in (messages_at words) (get_or words 3 0) letters words
-message_with words NoLetters = Nothing
+abbrev pub message_with : List ℕ → Option ℕ → Option ℕ
+message_with words (Some letters) = record_in (messages_at words) (get_or words 3 0) letters words
+message_with words None = None
 
-unfoldable pub message_of : List ℕ → List ℕ → Found
+unfoldable pub message_of : List ℕ → List ℕ → Option ℕ
 message_of words value = message_with words (message_type_of value)
 
 unfoldable pub line_numbered : List ℕ → ℕ → Line
@@ -76,9 +69,9 @@ is_among value (suc left) at words =
     else false
 
 -- a value that no `value=V` line can have is none of them
-abbrev pub among_with : ValueText → ℕ → ℕ → List ℕ → Bool
-among_with (Bytes value) left at words = is_among value left at words
-among_with NoBytes left at words = false
+abbrev pub among_with : Option Admitted → ℕ → ℕ → List ℕ → Bool
+among_with (Some value) left at words = is_among value left at words
+among_with None left at words = false
 
 unfoldable pub is_enumerated : List ℕ → ℕ → Bool
 is_enumerated words number = if get_or words 0 0 - number - 1 ≡ᵇ 0 then false else get_or words (4 + 10 * number + 10) 0 ≡ᵇ 2

@@ -1,5 +1,5 @@
 -- Laws of `Definitions.antt`: what a dictionary's words are known to hold when they are searched. Assumes nothing.
-use Rattle.std.specs.Prelude.{◌≡◌, refl, Bool, ◌&&◌, List, leb, eqb, length, take, drop, if◌then◌else◌}
+use Rattle.std.specs.Prelude.{◌≡◌, refl, Bool, ◌&&◌, List, leb, eqb, length, take, drop, if◌then◌else◌, Option, Some, None}
 use Rattle.std.proofs.Common.{sym, ◌∙◌, length-drop, length-take-le}
 use Rattle.std.proofs.Math.Path.{ap}
 use Prim.Native.Nat.{ℕ, zero, suc, ◌+◌, ◌*◌, ◌-◌, ◌≤◌, ◌<◌}
@@ -9,8 +9,6 @@ use native.Mathlib.Omega.{arith}
 use Rattle.std.proofs.Math.ListN.{get_or}
 use borrow.Author.Tests.{eq-eqb, ne_eqb, leb-true, ltb-true}
 use Rattle.ascii.specs.NotationLaws.{and_left, and_right}
-use Rattle.ascending.specs.declared.search.Found.{Found}
-use Rattle.ascending.specs.declared.search.Found.TheVariants.{At, Nothing}
 use Rattle.ascending.specs.Search.{StrictlyAscending, is_strictly_ascending, rank_in, Holds}
 use Rattle.ascending.specs.SearchLaws.{is_strictly_ascending-true, holds_at}
 use Rattle.dictionary_order.specs.DictionaryOrder.{start}
@@ -18,11 +16,21 @@ use Rattle.dictionary.specs.DictionaryCheck.{accepts, count_of, stands_at, stand
 use Rattle.definitions.specs.Definitions.{record_in, is_same_value, is_among, is_enumerated, admits_value}
 use Rattle.records.specs.Records.{admitted_from, lines_from}
 use Rattle.lines.specs.declared.line_parts.Admitted.{Admitted}
+use Rattle.definitions.specs.declared.definitions.Definition.{Definition}
 
 -- the number of what was found is below the number of lines
-abbrev pub Below : ℕ → Found → Type 0
-Below lines (At number) = number < lines
-Below lines Nothing = Unit
+abbrev pub Below : ℕ → Option ℕ → Type 0
+Below lines (Some number) = number < lines
+Below lines None = Unit
+
+-- what a definition that was found tells; 0 where there is none
+abbrev pub type_told : Option Definition → ℕ
+type_told (Some definition) = definition.type_place
+type_told None = 0
+
+abbrev pub number_told : Option Definition → ℕ
+number_told (Some definition) = definition.number
+number_told None = 0
 
 -- ---- is_index
 
@@ -110,7 +118,7 @@ line_numbered-place words number inside known = omega (arith, known.fits)
 
 -- ---- record_in: what the search of the names found
 
-module _ (kind at count name : ℕ) (words : List ℕ) (fits : at + 2 * count ≤ length words) (index : is_index kind at count words ≡ true) (found : Found)
+module _ (kind at count name : ℕ) (words : List ℕ) (fits : at + 2 * count ≤ length words) (index : is_index kind at count words ≡ true) (found : Option ℕ)
     (searched : StrictlyAscending (take (at + count - at) (drop at words)) → found ≡ rank_in (take (at + count - at) (drop at words)) name) where
   rank_searched : found ≡ rank_in (take count (drop at words)) name
   rank_searched =
@@ -118,12 +126,12 @@ module _ (kind at count name : ℕ) (words : List ℕ) (fits : at + 2 * count �
       let exact : StrictlyAscending (take count (drop at words)) → found ≡ rank_in (take count (drop at words)) name = rw same at searched in
       exact (index-ascends kind at count words index)
 
-  pub record_in-missing : found ≡ Nothing → Nothing ≡ record_in at count name words
+  pub record_in-missing : found ≡ None → None ≡ record_in at count name words
   unfolding record_in
   record_in-missing missing = rw (← rank_searched, missing)
 
-  module _ (rank : ℕ) (there : found ≡ At rank) where
-    pub record_in-found : At (get_or words (at + count + rank) 0) ≡ record_in at count name words
+  module _ (rank : ℕ) (there : found ≡ Some rank) where
+    pub record_in-found : Some (get_or words (at + count + rank) 0) ≡ record_in at count name words
     unfolding record_in
     record_in-found = rw (← rank_searched, there)
 
@@ -136,7 +144,7 @@ module _ (kind at count name : ℕ) (words : List ℕ) (fits : at + 2 * count �
         omega arith
 
 -- what was found is a number
-pub below-number : (lines number : ℕ) (found : Found) → found ≡ At number → Below lines found → number < lines
+pub below-number : (lines number : ℕ) (found : Option ℕ) → found ≡ Some number → Below lines found → number < lines
 below-number lines number found there below = rw there at below
 
 -- ---- is_among: the loop of `is_among`

@@ -1,20 +1,16 @@
 -- Words of small dictionaries, and what the check says of them, by computation. Assumes nothing.
 --
 --   small   def=35,String begin=header field=35,1 end=header begin=trailer end=trailer component=7 end=7
-use Rattle.std.specs.Prelude.{◌≡◌, refl, ℕ, true, false, List, [], ◌∷◌, ◌++◌, replicate}
+use Rattle.std.specs.Prelude.{◌≡◌, refl, ℕ, true, false, List, [], ◌∷◌, ◌++◌, replicate, Some, None}
 use Rattle.ascii.specs.Notation.{is_between}
 use Rattle.ascii.specs.Bytes.{non_empty, every}
 use Rattle.ascii.specs.Digits.{is_digits, decimal_from}
-use Rattle.ascending.specs.declared.search.Found.TheVariants.{At, Nothing}
 use Rattle.ascending.specs.Sort.{inserted, sorted}
 use Rattle.ascending.specs.Search.{is_strictly_above, is_strictly_ascending, rank_from, rank_in}
 use Rattle.line_forms.specs.declared.line.Line.{Line}
 use Rattle.line_forms.specs.declared.line.Line.TheVariants.{Def, BeginHeader, BeginTrailer, EndHeader, EndTrailer, Component, Field, End}
-use Rattle.lines.specs.declared.line_parts.Number32.TheVariants.{Number}
-use Rattle.lines.specs.declared.line_parts.MessageType.TheVariants.{Letters}
 use Rattle.lines.specs.LineParts.{no_leading_zero, number_of, is_alphanumeric}
 use Rattle.dictionary_order.specs.DictionaryOrder.{step_of}
-use Rattle.definitions.specs.declared.definitions.Definition.TheVariants.{Defined, Undefined}
 use Rattle.records.specs.Records.{holds_byte, holds_part, letters_length, letters_text, holds_letters, record_of, is_unused, outer_from, body_from, line_from, lines_from}
 use Rattle.records.specs.LineLengths.{digit_count, length_of}
 use Rattle.dictionary.specs.DictionaryWords.{is_of, name_of, names_of, place_of, records_of, index_of, dictionary_words}
@@ -30,7 +26,7 @@ small =
     ∷ BeginTrailer
     ∷ EndTrailer
     ∷ Component 7
-    ∷ End (Number 7) (Letters 922746880)
+    ∷ End (Some 7) (Some 922746880)
     ∷ []
 
 abbrev pub four : ℕ → ℕ → ℕ → ℕ → List ℕ
@@ -62,10 +58,10 @@ pub record DictionaryCases : Type 0 where
   pub points_outside : is_dictionary (8 ∷ 1 ∷ 1 ∷ 0 ∷ (small_records ++ (35 ∷ 0 ∷ 7 ∷ 8 ∷ []))) ≡ false
   pub left_out : is_dictionary (8 ∷ 1 ∷ 0 ∷ 0 ∷ (small_records ++ (35 ∷ 0 ∷ 7 ∷ 6 ∷ []))) ≡ false
   pub defined_twice : is_dictionary twice ≡ false
-  pub definition : definition_of small_words 35 ≡ Defined 14 0
-  pub no_definition : definition_of small_words 36 ≡ Undefined
-  pub component : component_of small_words 7 ≡ At 6
-  pub no_component : component_of small_words 8 ≡ Nothing
+  pub definition : definition_of small_words 35 ≡ Some (record { type_place = 14; number = 0 })
+  pub no_definition : definition_of small_words 36 ≡ None
+  pub component : component_of small_words 7 ≡ Some 6
+  pub no_component : component_of small_words 8 ≡ None
 
 pub dictionary-cases : DictionaryCases
 unfolding is_between non_empty every is_digits decimal_from inserted sorted is_strictly_above is_strictly_ascending rank_from rank_in no_leading_zero number_of is_alphanumeric step_of holds_byte holds_part letters_length letters_text holds_letters record_of is_unused outer_from body_from line_from digit_count length_of is_of name_of names_of place_of records_of index_of dictionary_words lines_from accepts count_of stands_at stands_each is_index is_dictionary record_in definition_of component_of

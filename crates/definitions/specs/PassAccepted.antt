@@ -6,7 +6,7 @@
 --   AllHeld lines          a record can hold each of the lines
 --   keys_of lines           what the lines define, as the numbers that row 5 compares
 --   AcceptedWords words    some text is accepted, and the words begin with the arrangement of its lines
-use Rattle.std.specs.Prelude.{◌≡◌, ℕ, zero, suc, ◌+◌, ◌*◌, ◌-◌, ◌≤◌, ◌<◌, Bool, true, false, ◌||◌, cond, leb, ltb, eqb, length, take, drop}
+use Rattle.std.specs.Prelude.{◌≡◌, ℕ, zero, suc, ◌+◌, ◌*◌, ◌-◌, ◌≤◌, ◌<◌, Bool, true, false, ◌||◌, cond, leb, ltb, eqb, length, take, drop, Option, Some, None, Ok}
 use Rattle.std.proofs.Math.Path.{refl, sym}
 use Rattle.std.proofs.Common.{ap, ◌∙◌, length-append, get_or-drop, length-take-le, le-ltb, leb-true, ltb-true, ltb-false, eqb-true, eq-eqb, ne_eqb}
 use Rattle.std.proofs.lemmas.Bool.{false≢true, eqb-false}
@@ -19,21 +19,10 @@ use Rattle.ascii.specs.Bytes.{non_empty, every}
 use Rattle.ascending.specs.Sort.{once, how_often}
 use Rattle.line_forms.specs.declared.line.Line.{Line}
 use Rattle.line_forms.specs.declared.line.Line.TheVariants.{Def, Value, BeginHeader, BeginTrailer, EndHeader, EndTrailer, Component, Message, Field, Group, Use, End, Member, RequiredTag, Unknown}
-use Rattle.lines.specs.declared.line_parts.Number32.{Number32}
-use Rattle.lines.specs.declared.line_parts.Number32.TheVariants.{Number, NoNumber}
-use Rattle.lines.specs.declared.line_parts.MessageType.{MessageType}
-use Rattle.lines.specs.declared.line_parts.MessageType.TheVariants.{Letters, NoLetters}
 use Rattle.dictionary_order.specs.declared.dictionary_order.State.{State}
-use Rattle.dictionary_order.specs.declared.dictionary_order.Fault.{Fault}
-use Rattle.dictionary_order.specs.declared.dictionary_order.Fault.TheVariants.{NoFault, Faulty}
 use Rattle.texts.specs.declared.dictionary_text.Counts.{Counts}
 use Rattle.texts.specs.declared.dictionary_text.Defined.{Defined}
 use Rattle.texts.specs.declared.dictionary_text.Defined.TheVariants.{Tag, ComponentName, MessageName, Nothing}
-use Rattle.texts.specs.declared.dictionary_text.TextOutcome.TheVariants.{Accepted}
-use Rattle.texts.specs.declared.dictionary_text.Key.{Key}
-use Rattle.texts.specs.declared.dictionary_text.Key.TheVariants.{Of, NoKey}
-use Rattle.texts.specs.declared.dictionary_text.Again.{Again}
-use Rattle.texts.specs.declared.dictionary_text.Again.TheVariants.{Nowhere}
 use Rattle.lines.specs.Lines.{Pieces, last, piece, cut, lines_of, line_feed}
 use Rattle.lines.specs.LinesLaws.{cut-first_piece}
 use Rattle.lines.specs.LineParts.{is_visible}
@@ -52,6 +41,7 @@ use Rattle.dictionary.specs.DictionaryWords.{lines_in, is_of, name_of, names_of,
 use Rattle.definitions.specs.IndexLaws.{once-same, index-count, index-once, index-words}
 use Rattle.definitions.specs.DefinitionsLaws.{Dictionary, is_dictionary-parts}
 use Rattle.dictionary.specs.DictionaryCheck.{is_taken, accepts, tags_at, components_at, messages_at, size_of, is_dictionary}
+use Rattle.refusals.specs.declared.refusal.Refusal.{Refusal}
 
 unfoldable pub texts_of : List Line → List ℕ
 texts_of [] = []
@@ -89,11 +79,11 @@ unfolding every
 app_low true = refl
 app_low false = refl
 
-end_low : (number : Number32) (letters : MessageType) → HeldEnd number letters → above (end_text number letters)
+end_low : (number : Option ℕ) (letters : Option ℕ) → HeldEnd number letters → above (end_text number letters)
 unfolding every
-end_low read_number (Letters letters) held = letters-low letters held.0
-end_low (Number number) NoLetters held = numeral-low number
-end_low NoNumber NoLetters held = absurd held
+end_low read_number (Some letters) held = letters-low letters held.0
+end_low (Some number) None held = numeral-low number
+end_low None None held = absurd held
 
 text_of_low : (line : Line) → Held line → above (text_of line)
 unfolding every text_of
@@ -136,9 +126,9 @@ lines_in-texts_of (line ∷ rest) held =
 
 -- ---- rows 2 to 4: what passes is in order
 
-taken-by : (fault : Fault) → is_taken fault ≡ true → fault ≡ NoFault
-taken-by NoFault taken = refl
-taken-by (Faulty refusal) taken = absurd (false≢true taken)
+taken-by : (fault : Option Refusal) → is_taken fault ≡ true → fault ≡ None
+taken-by None taken = refl
+taken-by (Some refusal) taken = absurd (false≢true taken)
 
 -- what the check counts along the lines
 abbrev pub counts_of : Counts → List Line → Counts
@@ -157,7 +147,7 @@ counted-lines read line number same = counted-by read (defined_by line) number s
 pub accepts-order : (state : State) (read : Counts) (number total : ℕ) (lines : List Line) → number ≡ read.lines + 1
     → AllHeld lines
     → accepts state number total lines ≡ true
-    → order_from state read (lines_of (texts_of lines)) ≡ Accepted (counts_of read lines)
+    → order_from state read (lines_of (texts_of lines)) ≡ Ok (counts_of read lines)
 unfolding accepts order_from texts_of
 accepts-order state read number total [] same held passes = unfold cut non_empty in rw passes
 accepts-order state read number total (line ∷ rest) same held passes =
@@ -245,11 +235,11 @@ SmallNames (ComponentName name) = name < 4294967296
 SmallNames (MessageName letters) = Unit
 SmallNames Nothing = Unit
 
-tags-step_end : (number : Number32) (letters : MessageType) (rest : List Line) → names_of 1 (End number letters ∷ rest) ≡ names_of 1 rest
+tags-step_end : (number : Option ℕ) (letters : Option ℕ) (rest : List Line) → names_of 1 (End number letters ∷ rest) ≡ names_of 1 rest
 unfolding names_of is_of name_of record_of
-tags-step_end read_number (Letters letters) rest = refl
-tags-step_end (Number number) NoLetters rest = refl
-tags-step_end NoNumber NoLetters rest = refl
+tags-step_end read_number (Some letters) rest = refl
+tags-step_end (Some number) None rest = refl
+tags-step_end None None rest = refl
 
 pub tags-step : (line : Line) (rest : List Line) → names_of 1 (line ∷ rest) ≡ tag_in (defined_by line) ++ names_of 1 rest
 unfolding names_of is_of name_of record_of
@@ -269,11 +259,11 @@ tags-step (RequiredTag tag) rest = refl
 tags-step Unknown rest = refl
 tags-step (End number letters) rest = tags-step_end number letters rest
 
-components-step_end : (number : Number32) (letters : MessageType) (rest : List Line) → names_of 5 (End number letters ∷ rest) ≡ names_of 5 rest
+components-step_end : (number : Option ℕ) (letters : Option ℕ) (rest : List Line) → names_of 5 (End number letters ∷ rest) ≡ names_of 5 rest
 unfolding names_of is_of name_of record_of
-components-step_end read_number (Letters letters) rest = refl
-components-step_end (Number number) NoLetters rest = refl
-components-step_end NoNumber NoLetters rest = refl
+components-step_end read_number (Some letters) rest = refl
+components-step_end (Some number) None rest = refl
+components-step_end None None rest = refl
 
 pub components-step : (line : Line) (rest : List Line) → names_of 5 (line ∷ rest) ≡ component_in (defined_by line) ++ names_of 5 rest
 unfolding names_of is_of name_of record_of
@@ -293,11 +283,11 @@ components-step (RequiredTag tag) rest = refl
 components-step Unknown rest = refl
 components-step (End number letters) rest = components-step_end number letters rest
 
-messages-step_end : (number : Number32) (letters : MessageType) (rest : List Line) → names_of 6 (End number letters ∷ rest) ≡ names_of 6 rest
+messages-step_end : (number : Option ℕ) (letters : Option ℕ) (rest : List Line) → names_of 6 (End number letters ∷ rest) ≡ names_of 6 rest
 unfolding names_of is_of name_of record_of
-messages-step_end read_number (Letters letters) rest = refl
-messages-step_end (Number number) NoLetters rest = refl
-messages-step_end NoNumber NoLetters rest = refl
+messages-step_end read_number (Some letters) rest = refl
+messages-step_end (Some number) None rest = refl
+messages-step_end None None rest = refl
 
 pub messages-step : (line : Line) (rest : List Line) → names_of 6 (line ∷ rest) ≡ message_in (defined_by line) ++ names_of 6 rest
 unfolding names_of is_of name_of record_of
@@ -347,9 +337,9 @@ once-shifted : (shift word other : ℕ) → once (shift + word) (shift + other) 
 once-shifted shift word other = once-shifted_by shift word other (eqb other word) refl ∙ unfold once in refl
 
 -- what the lines define, as the numbers that row 5 compares
-abbrev pub key_in : Key → List ℕ
-key_in (Of key) = key ∷ []
-key_in NoKey = []
+abbrev pub key_in : Option ℕ → List ℕ
+key_in (Some key) = key ∷ []
+key_in None = []
 
 unfoldable pub keys_of : List Line → List ℕ
 keys_of [] = []
@@ -440,19 +430,19 @@ unfolding how_often is_in
 not_seen key [] none = refl
 not_seen key (first ∷ rest) none = not-seen_by (eqb first key) key first rest refl none (not_seen key rest (omega arith))
 
-again_by : (key : Key) (seen keys : List ℕ) (number : ℕ) (goes_on : List ℕ → Again)
+again_by : (key : Option ℕ) (seen keys : List ℕ) (number : ℕ) (goes_on : List ℕ → Option ℕ)
     → ((each : ℕ) → how_often each seen + how_often each (key_in key ++ keys) ≤ 1)
-    → ((more : List ℕ) → ((each : ℕ) → how_often each more + how_often each keys ≤ 1) → goes_on more ≡ Nowhere)
-    → on_key key seen number goes_on ≡ Nowhere
+    → ((more : List ℕ) → ((each : ℕ) → how_often each more + how_often each keys ≤ 1) → goes_on more ≡ None)
+    → on_key key seen number goes_on ≡ None
 unfolding how_often
-again_by (Of key) seen keys number goes_on few nowhere =
+again_by (Some key) seen keys number goes_on few nowhere =
     rw (not_seen key seen (omega (arith, few key, once-same key)))
     (nowhere (seen ++ (key ∷ [])) (λ each. omega (arith, few each, how_often-append each seen (key ∷ []))))
-again_by NoKey seen keys number goes_on few nowhere = nowhere seen few
+again_by None seen keys number goes_on few nowhere = nowhere seen few
 
 pub again-nowhere : (seen : List ℕ) (number : ℕ) (lines : List Line) → AllHeld lines
     → ((key : ℕ) → how_often key seen + how_often key (keys_of lines) ≤ 1)
-    → again_from seen number (lines_of (texts_of lines)) ≡ Nowhere
+    → again_from seen number (lines_of (texts_of lines)) ≡ None
 unfolding again_from texts_of keys_of
 again-nowhere seen number [] held few = unfold cut in refl
 again-nowhere seen number (line ∷ rest) held few =
@@ -477,7 +467,7 @@ lines_from_length (suc count) words = ap suc (lines_from_length count (drop 10 w
 pub record AcceptedWords (words : List ℕ) : Type 0 where
   pub text : List ℕ
   pub outcome : Counts
-  pub accepted : dictionary_text_of text ≡ Accepted outcome
+  pub accepted : dictionary_text_of text ≡ Ok outcome
   pub arranged : take (size_of words) words ≡ dictionary_words (lines_in (lines_of text))
 
 module _ (words : List ℕ) (small : Words32 words) (known : Dictionary words) where
@@ -499,11 +489,11 @@ module _ (words : List ℕ) (small : Words32 words) (known : Dictionary words) w
   lines-whole : 4 + 10 * length word_lines ≤ length words
   lines-whole = rw (← lines-counted) (omega (arith, known.fits))
 
-  text-order : order_of (texts_of word_lines) ≡ Accepted (counts_of (counts 0 0 0 0) word_lines)
+  text-order : order_of (texts_of word_lines) ≡ Ok (counts_of (counts 0 0 0 0) word_lines)
   unfolding order_of word_lines
   text-order = accepts-order start (counts 0 0 0 0) 1 0 word_lines refl lines-and_records.0 known.accepted
 
-  text-again : again_of (texts_of word_lines) ≡ Nowhere
+  text-again : again_of (texts_of word_lines) ≡ None
   unfolding again_of
   text-again =
       again-nowhere [] 1 word_lines lines-and_records.0
@@ -521,7 +511,7 @@ module _ (words : List ℕ) (small : Words32 words) (known : Dictionary words) w
   unfolding word_lines
   text-short = omega (arith, accepts-length start 1 0 word_lines lines-and_records.0 (omega arith) known.accepted)
 
-  text-accepted : dictionary_text_of (texts_of word_lines) ≡ Accepted (counts_of (counts 0 0 0 0) word_lines)
+  text-accepted : dictionary_text_of (texts_of word_lines) ≡ Ok (counts_of (counts 0 0 0 0) word_lines)
   unfolding dictionary_text_of
   text-accepted = rw (le-ltb 65536 (length (texts_of word_lines)) text-short, text-again, text-order)
 

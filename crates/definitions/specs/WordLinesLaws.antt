@@ -2,7 +2,7 @@
 -- is the place of its line, and words that pass the check begin, after their first four, with the records of these lines. Assumes nothing.
 --
 --   placed_at lines place   the place, or Nothing where it is after the last line
-use Rattle.std.specs.Prelude.{◌≡◌, ℕ, zero, suc, ◌+◌, ◌*◌, ◌≤◌, ◌<◌, Bool, ◌&&◌, ◌||◌, cond, ltb, eqb, take, drop, if◌then◌else◌}
+use Rattle.std.specs.Prelude.{◌≡◌, ℕ, zero, suc, ◌+◌, ◌*◌, ◌≤◌, ◌<◌, Bool, ◌&&◌, ◌||◌, cond, ltb, eqb, take, drop, if◌then◌else◌, Option, Some, None, Ok}
 use Rattle.std.proofs.Math.Path.{refl, sym, ap}
 use Rattle.std.proofs.Common.{◌∙◌, arith, length-drop, take-append-drop, drop-drop, get_or-take, get_or-drop, get_or-append-add, take-take, ltb-true, ltb-false, lt-ltb, le-ltb, eqb-true}
 use Rattle.std.proofs.Math.Bool.{true, false}
@@ -11,8 +11,6 @@ use Rattle.std.proofs.Math.ListN.{length, get_or, get_or-map}
 use Rattle.std.proofs.lemmas.List.{length-map}
 use Rattle.std.proofs.Math.Seq.{take-append_seam}
 use Rattle.ascii.specs.Notation.{◌<ᵇ◌}
-use Rattle.ascending.specs.declared.search.Found.{Found}
-use Rattle.ascending.specs.declared.search.Found.TheVariants.{At, Nothing}
 use Rattle.ascending.specs.Sort.{sorted, is_in}
 use Rattle.ascending.specs.SortLaws.{sorted-length, is_in-sorted}
 use Rattle.ascending.specs.Search.{rank_from, rank_in, is_found}
@@ -21,7 +19,6 @@ use Rattle.line_forms.specs.declared.line.Line.{Line}
 use Rattle.line_forms.specs.declared.line.Line.TheVariants.{Unknown}
 use Rattle.lines.specs.Lines.{lines_of}
 use Rattle.texts.specs.declared.dictionary_text.Counts.{Counts}
-use Rattle.texts.specs.declared.dictionary_text.TextOutcome.TheVariants.{Accepted}
 use Rattle.dictionary_order.specs.DictionaryOrder.{start}
 use Rattle.texts.specs.DictionaryText.{dictionary_text_of}
 use Rattle.records.specs.Records.{record_of, line_from, lines_from, Words32}
@@ -85,13 +82,13 @@ unfolding names_of place_of
 place-named kind name [] = unfold is_in in refl
 place-named kind name (line ∷ rest) = place-named_by kind name line rest (is_of kind line) (eqb (name_of line) name) (place-named kind name rest) refl
 
-abbrev pub placed_at : List Line → ℕ → Found
-placed_at lines place = if place <ᵇ length lines then At place else Nothing
+abbrev pub placed_at : List Line → ℕ → Option ℕ
+placed_at lines place = if place <ᵇ length lines then Some place else None
 
 rank_holds_by : (index : ℕ) (word : ℕ) (rest : List ℕ) (tag rank : ℕ) (test : Bool)
     → eqb word tag ≡ test
-    → (rank_from (index + 1) rest tag ≡ At rank → (other : ℕ) × ((rank ≡ index + 1 + other) × ((other < length rest) × (get_or rest other 0 ≡ tag))))
-    → cond test (At index) (rank_from (index + 1) rest tag) ≡ At rank
+    → (rank_from (index + 1) rest tag ≡ Some rank → (other : ℕ) × ((rank ≡ index + 1 + other) × ((other < length rest) × (get_or rest other 0 ≡ tag))))
+    → cond test (Some index) (rank_from (index + 1) rest tag) ≡ Some rank
     → (other : ℕ) × ((rank ≡ index + other) × ((other < suc (length rest)) × (get_or (word ∷ rest) other 0 ≡ tag)))
 rank_holds_by index word rest tag rank true test behind there = let same : index ≡ rank = cc in (0, (omega arith, (omega arith, eqb-true word tag test)))
 rank_holds_by index word rest tag rank false test behind there =
@@ -99,7 +96,7 @@ rank_holds_by index word rest tag rank false test behind there =
     (suc deeper.0, (omega (arith, deeper.1.0), (omega (arith, deeper.1.1.0), deeper.1.1.1)))
 
 rank_holds : (index : ℕ) (words : List ℕ) (tag rank : ℕ)
-    → rank_from index words tag ≡ At rank
+    → rank_from index words tag ≡ Some rank
     → (other : ℕ) × ((rank ≡ index + other) × ((other < length words) × (get_or words other 0 ≡ tag)))
 unfolding rank_from
 rank_holds index [] tag rank there = let never : ◌≡◌ {A = ℕ} 0 1 = cc in absurd (omega arith)
@@ -146,18 +143,18 @@ module _ (words : List ℕ) (lines : List Line) (counted : get_or words 0 0 ≡ 
     unfolding names
     named = is_in-sorted name (names_of kind lines) ∙ place-named kind name lines
 
-    record_in-by : (found : Found)
+    record_in-by : (found : Option ℕ)
         → rank_in names name ≡ found
         → Words.number_at (at + count) words found ≡ placed_at lines (place_of kind name lines)
     unfolding rank_in is_found
-    record_in-by (At rank) there =
+    record_in-by (Some rank) there =
         let stands = rank_holds 0 names name rank there in
         let inside : rank < count = omega (arith, stands.1.0, stands.1.1.0, names-counted) in
         let same : stands.0 ≡ rank = omega (arith, stands.1.0) in
         let here : get_or names rank 0 ≡ name = ap (λ (place : ℕ). get_or names place 0) (sym same) ∙ stands.1.1.1 in
         let found : (place_of kind name lines <ᵇ length lines) ≡ true = sym named ∙ sym (is_found-rank names name) ∙ ap is_found there in
-        rw found (ap At (number_of rank inside ∙ ap (λ (each : ℕ). place_of kind each lines) here))
-    record_in-by Nothing missing =
+        rw found (ap Some (number_of rank inside ∙ ap (λ (each : ℕ). place_of kind each lines) here))
+    record_in-by None missing =
         let none : (place_of kind name lines <ᵇ length lines) ≡ false = sym named ∙ sym (is_found-rank names name) ∙ ap is_found missing in
         rw none refl
 
@@ -231,7 +228,7 @@ module _ (words : List ℕ) (small : Words32 words) (passes : is_dictionary word
 -- ---- words and texts
 
 -- the words of an accepted text tell its lines, whatever follows them
-pub word_lines-arranged : (text : List ℕ) (outcome : Counts) → dictionary_text_of text ≡ Accepted outcome → (more : List ℕ)
+pub word_lines-arranged : (text : List ℕ) (outcome : Counts) → dictionary_text_of text ≡ Ok outcome → (more : List ℕ)
     → word_lines (dictionary_words (lines_in (lines_of text)) ++ more) ≡ lines_in (lines_of text)
 unfolding dictionary_words
 word_lines-arranged text outcome accepted more =

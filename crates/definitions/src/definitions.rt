@@ -5,49 +5,46 @@ ghost use Rattle.definitions.specs.Definitions.{record_in, definition_of, compon
 ghost use Rattle.definitions.specs.DefinitionsLaws.{Below};
 ghost use Rattle.records.specs.Records.{admitted_from};
 
-use ascending::search::{Found, binary_search};
-use lines::line_parts::{Admitted, MessageType, ValueText, parse_message_type, parse_value};
+use ascending::search::binary_search;
+use lines::line_parts::{Admitted, parse_message_type, parse_value};
 
-// The definition of a tag.
+// The definition of a tag: the place of its TYPE among the names of FieldType, and the number of its
+// record; its admitted values are the records after it.
 #[derive(Clone, Copy)]
-pub enum Definition {
-    // the place of its TYPE among the names of FieldType, and the number of its record; its admitted values are the records behind it
-    Defined(u32, usize),
-    Undefined,
+pub struct Definition {
+    pub type_place: u32,
+    pub number: usize,
 }
 
 // The number of the record that the index at this place gives the name.
-fn record_in(words: &[u32], kind: u32, at: usize, count: usize, name: u32) -> Found
+fn record_in(words: &[u32], kind: u32, at: usize, count: usize, name: u32) -> Option<usize>
     requires { (at + 2 * count ≤ length words.now) × (is_index kind at count words.now ≡ true) }
     ensures found { result ≡ record_in at count name words.now }
     ensures inside { Below (get_or words.now 0 0) result }
 {
     let past = at + count;
-    match binary_search(&words[at..past], name) {
-        Found::At(rank) => Found::At(words[past + rank] as usize),
-        Found::Nothing => Found::Nothing,
-    }
+    let rank = binary_search(&words[at..past], name)?;
+    Some(words[past + rank] as usize)
 }
 
 // The definition of the tag.
-pub fn definition_of(words: &[u32], tag: u32) -> Definition
+pub fn definition_of(words: &[u32], tag: u32) -> Option<Definition>
     requires { is_dictionary words.now ≡ true }
     ensures { result ≡ definition_of words.now tag }
 {
     let lines = words[0] as usize;
     let count = words[1] as usize;
     let at = 4 + 10 * lines;
-    match record_in(words, 1, at, count, tag) {
-        Found::At(number) => {
-            let place = 4 + 10 * number + 2;
-            Definition::Defined(words[place], number)
-        }
-        Found::Nothing => Definition::Undefined,
-    }
+    let number = record_in(words, 1, at, count, tag)?;
+    let place = 4 + 10 * number + 2;
+    Some(Definition {
+        type_place: words[place],
+        number,
+    })
 }
 
 // The number of the record of component N.
-pub fn component_of(words: &[u32], name: u32) -> Found
+pub fn component_of(words: &[u32], name: u32) -> Option<usize>
     requires { is_dictionary words.now ≡ true }
     ensures found { result ≡ component_of words.now name }
     ensures inside { Below (get_or words.now 0 0) result }
@@ -60,7 +57,7 @@ pub fn component_of(words: &[u32], name: u32) -> Found
 }
 
 // The number of the record of the message whose type is these letters.
-fn message_named(words: &[u32], letters: u32) -> Found
+fn message_named(words: &[u32], letters: u32) -> Option<usize>
     requires { is_dictionary words.now ≡ true }
     ensures found { result ≡ record_in (messages_at words.now) (get_or words.now 3 0) letters words.now }
     ensures inside { Below (get_or words.now 0 0) result }
@@ -74,15 +71,13 @@ fn message_named(words: &[u32], letters: u32) -> Found
 }
 
 // The number of the record of the message of this type.
-pub fn message_of(words: &[u32], value: &[u8]) -> Found
+pub fn message_of(words: &[u32], value: &[u8]) -> Option<usize>
     requires { is_dictionary words.now ≡ true }
     ensures found { result ≡ message_of words.now value.now }
     ensures inside { Below (get_or words.now 0 0) result }
 {
-    match parse_message_type(value) {
-        MessageType::Letters(letters) => message_named(words, letters),
-        MessageType::NoLetters => Found::Nothing,
-    }
+    let letters = parse_message_type(value)?;
+    message_named(words, letters)
 }
 
 // The value is that of the record. Most records differ from it in their first words, and no other is read.
@@ -166,7 +161,7 @@ pub fn admits(words: &[u32], number: usize, value: &[u8]) -> bool
         return true;
     }
     match parse_value(value) {
-        ValueText::Bytes(admitted) => is_among(words, at, left, admitted),
-        ValueText::NoBytes => false,
+        Some(admitted) => is_among(words, at, left, admitted),
+        None => false,
     }
 }

@@ -1,8 +1,6 @@
 -- Laws of `LineOrder.antt`: only a group block that opens changes the count tags. Assumes nothing.
-use Rattle.std.specs.Prelude.{◌≡◌, refl, ℕ, ◌-◌, Bool, true, false, cond, ◌&&◌, ◌||◌, List, eqb, ltb, leb, get_or}
+use Rattle.std.specs.Prelude.{◌≡◌, refl, ℕ, ◌-◌, Bool, true, false, cond, ◌&&◌, ◌||◌, List, eqb, ltb, leb, get_or, Option}
 use Rattle.ascii.specs.Notation.{is_between}
-use Rattle.lines.specs.declared.line_parts.Number32.{Number32}
-use Rattle.lines.specs.declared.line_parts.MessageType.{MessageType}
 use Rattle.dictionary_order.specs.declared.dictionary_order.State.{State}
 use Rattle.dictionary_order.specs.declared.dictionary_order.Step.{Step}
 use Rattle.dictionary_order.specs.DictionaryOrder as order
@@ -39,16 +37,16 @@ module _ (state : State) (number : ℕ) where
   use_counts =
       counts-either (leb state.part order.uses && (ltb 0 state.depth || leb order.component state.stage)) (taken (used_in state)) (not_allowed state number) state.counts refl refl
 
-  group-closed : (name : Number32) → (close_group name state number).next.counts ≡ state.counts
+  group-closed : (name : Option ℕ) → (close_group name state number).next.counts ≡ state.counts
   group-closed name = counts-either (is_number (get_or state.counts (state.depth - 1) 0) name) _ (not_allowed state number) state.counts refl refl
 
-  component-closed : (name : Number32) → (close_component name state number).next.counts ≡ state.counts
+  component-closed : (name : Option ℕ) → (close_component name state number).next.counts ≡ state.counts
   component-closed name = counts-either (is_number state.name name) _ (not_allowed state number) state.counts refl refl
 
-  message-closed : (letters : MessageType) → (close_message letters state number).next.counts ≡ state.counts
+  message-closed : (letters : Option ℕ) → (close_message letters state number).next.counts ≡ state.counts
   message-closed letters = counts-either (is_letters state.name letters) _ (not_allowed state number) state.counts refl refl
 
-  pub end-counts : (name : Number32) (letters : MessageType) → (end_step name letters state number).next.counts ≡ state.counts
+  pub end-counts : (name : Option ℕ) (letters : Option ℕ) → (end_step name letters state number).next.counts ≡ state.counts
   end-counts name letters =
       counts-either (ltb 0 state.depth) (close_group name state number) _ state.counts (group-closed name)
       (counts-either (eqb state.stage order.component) (close_component name state number) _ state.counts (component-closed name)

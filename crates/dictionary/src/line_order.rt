@@ -8,7 +8,6 @@ use dictionary_order::dictionary_order::{
     GROUPS, HEADER, MESSAGE, NO_BODY, TRAILER, USES, is_number,
 };
 use line_forms::line::Line;
-use lines::line_parts::{MessageType, Number32};
 
 // Whether a line was taken, and the state behind it without the count tags of the open group blocks: see State in texts.
 #[derive(Clone, Copy)]
@@ -83,12 +82,12 @@ fn used(standing: Standing) -> Standing
     }
 }
 
-fn is_letters(name: u32, letters: MessageType) -> bool
+fn is_letters(name: u32, letters: Option<u32>) -> bool
     ensures { result ≡ is_letters name letters }
 {
     match letters {
-        MessageType::Letters(value) => value == name,
-        MessageType::NoLetters => false,
+        Some(value) => value == name,
+        None => false,
     }
 }
 
@@ -184,8 +183,8 @@ fn group_step(standing: Standing, counts: &mut [u32; 40], count: u32) -> Standin
 fn end_step(
     standing: Standing,
     counts: &[u32; 40],
-    name: Number32,
-    letters: MessageType,
+    name: Option<u32>,
+    letters: Option<u32>,
 ) -> Standing
     requires { standing.depth ≤ 40 }
     ensures { (number : ℕ) → result ≡ standing_of (end_step name letters (state_of standing counts.now) number) }

@@ -2,18 +2,13 @@
 -- the gate says no'. Assumes nothing.
 --
 --   step_of state number line   what the line of this number does in this state: its fault, or the state behind it
-use Rattle.std.specs.Prelude.{ℕ, ◌+◌, ◌-◌, Bool, false, ◌&&◌, ◌||◌, List, get_or, set, replicate, if◌then◌else◌}
+use Rattle.std.specs.Prelude.{ℕ, ◌+◌, ◌-◌, Bool, false, ◌&&◌, ◌||◌, List, get_or, set, replicate, if◌then◌else◌, Option, Some, None}
 use Rattle.ascii.specs.Notation.{◌≤ᵇ◌, ◌<ᵇ◌, ◌≡ᵇ◌, is_between}
 use Rattle.refusals.specs.declared.refusal.Refusal.{Refusal}
 use Rattle.refusals.specs.declared.refusal.Refusal.TheVariants.{UnknownForm, NotAllowed, TooManyOpen}
 use Rattle.line_forms.specs.declared.line.Line.{Line}
 use Rattle.line_forms.specs.declared.line.Line.TheVariants.{Def, Value, BeginHeader, BeginTrailer, EndHeader, EndTrailer, Component, Message, Field, Group, Use, End, Member, RequiredTag, Unknown}
-use Rattle.lines.specs.declared.line_parts.Number32.{Number32}
-use Rattle.lines.specs.declared.line_parts.Number32.TheVariants.{Number, NoNumber}
-use Rattle.lines.specs.declared.line_parts.MessageType.{MessageType}
-use Rattle.lines.specs.declared.line_parts.MessageType.TheVariants.{Letters, NoLetters}
 use Rattle.dictionary_order.specs.declared.dictionary_order.State.{State}
-use Rattle.dictionary_order.specs.declared.dictionary_order.Fault.TheVariants.{NoFault, Faulty}
 use Rattle.dictionary_order.specs.declared.dictionary_order.Step.{Step}
 
 -- ---- the stages of a text: no block open, and what was read last; then the block that is open
@@ -80,10 +75,10 @@ abbrev pub used_in : State → State
 used_in state = standing state.stage uses state.name state.depth state.counts
 
 abbrev pub taken : State → Step
-taken next = record { fault = NoFault; next = next }
+taken next = record { fault = None; next = next }
 
 abbrev pub refused : State → Refusal → Step
-refused state refusal = record { fault = Faulty refusal; next = state }
+refused state refusal = record { fault = Some refusal; next = state }
 
 -- row 3: "line not allowed there"
 abbrev pub not_allowed : State → ℕ → Step
@@ -149,36 +144,36 @@ use_step state number =
 
 -- ---- ends: an end line closes the innermost open block
 
-abbrev pub is_number : ℕ → Number32 → Bool
-is_number name (Number number) = number ≡ᵇ name
-is_number name NoNumber = false
+abbrev pub is_number : ℕ → Option ℕ → Bool
+is_number name (Some number) = number ≡ᵇ name
+is_number name None = false
 
-abbrev pub is_letters : ℕ → MessageType → Bool
-is_letters name (Letters letters) = letters ≡ᵇ name
-is_letters name NoLetters = false
+abbrev pub is_letters : ℕ → Option ℕ → Bool
+is_letters name (Some letters) = letters ≡ᵇ name
+is_letters name None = false
 
 -- `end=COUNT`
-abbrev pub close_group : Number32 → State → ℕ → Step
+abbrev pub close_group : Option ℕ → State → ℕ → Step
 close_group name state number =
     if is_number (get_or state.counts (state.depth - 1) 0) name
     then taken (standing state.stage groups state.name (state.depth - 1) state.counts)
     else not_allowed state number
 
 -- `end=N`
-abbrev pub close_component : Number32 → State → ℕ → Step
+abbrev pub close_component : Option ℕ → State → ℕ → Step
 close_component name state number =
     if is_number state.name name
     then taken (closed_block behind_trailer state)
     else not_allowed state number
 
 -- `end=T`
-abbrev pub close_message : MessageType → State → ℕ → Step
+abbrev pub close_message : Option ℕ → State → ℕ → Step
 close_message letters state number =
     if is_letters state.name letters
     then taken (closed_block behind_message state)
     else not_allowed state number
 
-abbrev pub end_step : Number32 → MessageType → State → ℕ → Step
+abbrev pub end_step : Option ℕ → Option ℕ → State → ℕ → Step
 end_step name letters state number =
     if 0 <ᵇ state.depth then close_group name state number
     else if state.stage ≡ᵇ component then close_component name state number

@@ -3,7 +3,6 @@ ghost use Rattle.std.specs.Prelude.{◌≡◌, ◌≤◌, ◌<◌};
 ghost use Rattle.dictionary_order.specs.DictionaryOrder.{taken, refused, not_allowed, opened_block, closed_block, used_in, is_number, is_letters, def_step, value_step, open_block, close_block, field_step, open_group, group_step, use_step, close_group, end_step, step_of};
 
 use line_forms::line::Line;
-use lines::line_parts::{MessageType, Number32};
 use refusals::refusal::Refusal;
 
 // Which part of the text is being read: no block is open, and what stands before is ..
@@ -47,33 +46,24 @@ pub struct State {
     pub counts: [u32; 40],
 }
 
-#[derive(Clone, Copy)]
-pub enum Fault {
-    NoFault,
-    Faulty(Refusal),
-}
-
 // What a line does: its fault, or the state behind it.
 #[derive(Clone, Copy)]
 pub struct Step {
-    pub fault: Fault,
+    pub fault: Option<Refusal>,
     pub next: State,
 }
 
 fn take(next: State) -> Step
     ensures { result ≡ taken next }
 {
-    Step {
-        fault: Fault::NoFault,
-        next,
-    }
+    Step { fault: None, next }
 }
 
 fn refuse(state: State, refusal: Refusal) -> Step
     ensures { result ≡ refused state refusal }
 {
     Step {
-        fault: Fault::Faulty(refusal),
+        fault: Some(refusal),
         next: state,
     }
 }
@@ -126,21 +116,21 @@ fn used(state: State) -> State
     }
 }
 
-pub fn is_number(name: u32, number: Number32) -> bool
+pub fn is_number(name: u32, number: Option<u32>) -> bool
     ensures { result ≡ is_number name number }
 {
     match number {
-        Number32::Number(value) => value == name,
-        Number32::NoNumber => false,
+        Some(value) => value == name,
+        None => false,
     }
 }
 
-fn is_letters(name: u32, letters: MessageType) -> bool
+fn is_letters(name: u32, letters: Option<u32>) -> bool
     ensures { result ≡ is_letters name letters }
 {
     match letters {
-        MessageType::Letters(value) => value == name,
-        MessageType::NoLetters => false,
+        Some(value) => value == name,
+        None => false,
     }
 }
 
@@ -239,7 +229,7 @@ fn use_step(state: State, number: u64) -> Step
     not_allowed(state, number)
 }
 
-fn close_group(state: State, number: u64, name: Number32) -> Step
+fn close_group(state: State, number: u64, name: Option<u32>) -> Step
     requires { (0 < state.depth) × (state.depth ≤ 40) }
     ensures { result ≡ close_group name state number }
 {
@@ -257,7 +247,7 @@ fn close_group(state: State, number: u64, name: Number32) -> Step
     not_allowed(state, number)
 }
 
-fn end_step(state: State, number: u64, name: Number32, letters: MessageType) -> Step
+fn end_step(state: State, number: u64, name: Option<u32>, letters: Option<u32>) -> Step
     requires { state.depth ≤ 40 }
     ensures { result ≡ end_step name letters state number }
 {

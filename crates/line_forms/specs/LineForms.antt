@@ -9,38 +9,29 @@
 -- texts, `LayoutText.antt` of layout_text). An `end` line may name a component, a group and a message at once: it carries its name as a number and as a message type. Assumes nothing.
 --
 --   line_of bytes   the form of a line, given without its line feed
-use Rattle.std.specs.Prelude.{ℕ, Bool, true, false, List, drop, if◌then◌else◌}
+use Rattle.std.specs.Prelude.{ℕ, Bool, true, false, List, drop, if◌then◌else◌, Option, Some, None}
 use Rattle.ascii.specs.Bytes.{ascii}
 use Rattle.line_forms.specs.declared.line.Line.{Line}
 use Rattle.line_forms.specs.declared.line.Line.TheVariants.{Def, Value, BeginHeader, BeginTrailer, EndHeader, EndTrailer, Component, Message, Field, Group, Use, End, Member, RequiredTag, Unknown}
-use Rattle.lines.specs.declared.line_parts.Number32.{Number32}
-use Rattle.lines.specs.declared.line_parts.Number32.TheVariants.{Number, NoNumber}
-use Rattle.lines.specs.declared.line_parts.Flag.{Flag}
-use Rattle.lines.specs.declared.line_parts.Flag.TheVariants.{Required, Optional, NoFlag}
-use Rattle.lines.specs.declared.line_parts.TypeName.{TypeName}
-use Rattle.lines.specs.declared.line_parts.TypeName.TheVariants.{TypeAt, NoType}
-use Rattle.lines.specs.declared.line_parts.MessageType.{MessageType}
-use Rattle.lines.specs.declared.line_parts.MessageType.TheVariants.{Letters, NoLetters}
-use Rattle.lines.specs.declared.line_parts.ValueText.{ValueText}
-use Rattle.lines.specs.declared.line_parts.ValueText.TheVariants.{Bytes, NoBytes}
 use Rattle.lines.specs.Lines.{before, behind, starts_with, is_same, comma}
 use Rattle.lines.specs.LineParts.{number_of, flag_of, type_of, message_type_of, value_of}
+use Rattle.lines.specs.declared.line_parts.Admitted.{Admitted}
 
 -- ---- def=TAG,TYPE
 
-abbrev pub def_with : Number32 → TypeName → Line
-def_with (Number tag) (TypeAt place) = Def tag place
-def_with (Number tag) NoType = Unknown
-def_with NoNumber name = Unknown
+abbrev pub def_with : Option ℕ → Option ℕ → Line
+def_with (Some tag) (Some place) = Def tag place
+def_with (Some tag) None = Unknown
+def_with None name = Unknown
 
 unfoldable pub def_of : List ℕ → Line
 def_of rest = def_with (number_of (before comma rest)) (type_of (behind comma rest))
 
 -- ---- value=V
 
-abbrev pub value_with : ValueText → Line
-value_with (Bytes admitted) = Value admitted
-value_with NoBytes = Unknown
+abbrev pub value_with : Option Admitted → Line
+value_with (Some admitted) = Value admitted
+value_with None = Unknown
 
 -- ---- begin=header, begin=trailer
 
@@ -52,15 +43,15 @@ begin_of rest =
 
 -- ---- component=N
 
-abbrev pub component_with : Number32 → Line
-component_with (Number name) = Component name
-component_with NoNumber = Unknown
+abbrev pub component_with : Option ℕ → Line
+component_with (Some name) = Component name
+component_with None = Unknown
 
 -- ---- message=T,app, message=T,admin
 
-abbrev pub message_with : MessageType → Bool → Line
-message_with (Letters letters) app = Message letters app
-message_with NoLetters app = Unknown
+abbrev pub message_with : Option ℕ → Bool → Line
+message_with (Some letters) app = Message letters app
+message_with None app = Unknown
 
 unfoldable pub message_of : List ℕ → Line
 message_of rest =
@@ -70,25 +61,23 @@ message_of rest =
 
 -- ---- field=TAG,R
 
-abbrev pub field_with : Number32 → Flag → Line
-field_with (Number tag) Required = Field tag true
-field_with (Number tag) Optional = Field tag false
-field_with (Number tag) NoFlag = Unknown
-field_with NoNumber flag = Unknown
+abbrev pub field_with : Option ℕ → Option Bool → Line
+field_with (Some tag) (Some required) = Field tag required
+field_with (Some tag) None = Unknown
+field_with None flag = Unknown
 
 unfoldable pub field_of : List ℕ → Line
 field_of rest = field_with (number_of (before comma rest)) (flag_of (behind comma rest))
 
 -- ---- group=COUNT,DELIMITER,R
 
-abbrev pub group_with : Number32 → Number32 → Flag → Line
-group_with (Number count) (Number delimiter) Required = Group count delimiter true
-group_with (Number count) (Number delimiter) Optional = Group count delimiter false
-group_with (Number count) (Number delimiter) NoFlag = Unknown
-group_with (Number count) NoNumber flag = Unknown
-group_with NoNumber delimiter flag = Unknown
+abbrev pub group_with : Option ℕ → Option ℕ → Option Bool → Line
+group_with (Some count) (Some delimiter) (Some required) = Group count delimiter required
+group_with (Some count) (Some delimiter) None = Unknown
+group_with (Some count) None flag = Unknown
+group_with None delimiter flag = Unknown
 
-unfoldable pub group_rest : Number32 → List ℕ → Line
+unfoldable pub group_rest : Option ℕ → List ℕ → Line
 group_rest count rest = group_with count (number_of (before comma rest)) (flag_of (behind comma rest))
 
 unfoldable pub group_of : List ℕ → Line
@@ -96,21 +85,20 @@ group_of rest = group_rest (number_of (before comma rest)) (behind comma rest)
 
 -- ---- use=N,R
 
-abbrev pub use_with : Number32 → Flag → Line
-use_with (Number name) Required = Use name true
-use_with (Number name) Optional = Use name false
-use_with (Number name) NoFlag = Unknown
-use_with NoNumber flag = Unknown
+abbrev pub use_with : Option ℕ → Option Bool → Line
+use_with (Some name) (Some required) = Use name required
+use_with (Some name) None = Unknown
+use_with None flag = Unknown
 
 unfoldable pub use_of : List ℕ → Line
 use_of rest = use_with (number_of (before comma rest)) (flag_of (behind comma rest))
 
 -- ---- end=header, end=trailer, end=N, end=COUNT, end=T
 
-abbrev pub end_with : Number32 → MessageType → Line
-end_with (Number number) name = End (Number number) name
-end_with NoNumber (Letters letters) = End NoNumber (Letters letters)
-end_with NoNumber NoLetters = Unknown
+abbrev pub end_with : Option ℕ → Option ℕ → Line
+end_with (Some number) name = End (Some number) name
+end_with None (Some letters) = End None (Some letters)
+end_with None None = Unknown
 
 unfoldable pub end_of : List ℕ → Line
 end_of rest =
@@ -120,13 +108,13 @@ end_of rest =
 
 -- ---- member=TAG, required=TAG
 
-abbrev pub member_with : Number32 → Line
-member_with (Number tag) = Member tag
-member_with NoNumber = Unknown
+abbrev pub member_with : Option ℕ → Line
+member_with (Some tag) = Member tag
+member_with None = Unknown
 
-abbrev pub required_with : Number32 → Line
-required_with (Number tag) = RequiredTag tag
-required_with NoNumber = Unknown
+abbrev pub required_with : Option ℕ → Line
+required_with (Some tag) = RequiredTag tag
+required_with None = Unknown
 
 -- ---- a line
 

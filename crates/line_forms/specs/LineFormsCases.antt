@@ -1,11 +1,9 @@
 -- Lines, read by the definitions of `LineForms.antt`. Assumes nothing.
-use Rattle.std.specs.Prelude.{◌≡◌, refl, true, false}
+use Rattle.std.specs.Prelude.{◌≡◌, refl, true, false, Some, None}
 use Rattle.ascii.specs.Notation.{is_between}
 use Rattle.ascii.specs.Bytes.{ascii, non_empty, every}
 use Rattle.ascii.specs.Digits.{is_digits, decimal_from}
 use Rattle.line_forms.specs.declared.line.Line.TheVariants.{Def, Value, BeginHeader, EndTrailer, Component, Message, Field, Group, Use, End, Member, RequiredTag, Unknown}
-use Rattle.lines.specs.declared.line_parts.Number32.TheVariants.{Number, NoNumber}
-use Rattle.lines.specs.declared.line_parts.MessageType.TheVariants.{Letters, NoLetters}
 use Rattle.lines.specs.Lines.{position_of, starts_with, is_same, longer, cut}
 use Rattle.lines.specs.LineParts.{no_leading_zero, number_of, flag_of, type_in, type_of, word_at, is_alphanumeric, message_type_of, admitted_bytes, value_of}
 use Rattle.line_forms.specs.LineForms.{def_of, begin_of, message_of, field_of, group_rest, group_of, use_of, end_of, block_line_of, definition_line_of, line_of}
@@ -30,9 +28,9 @@ pub record LineCases : Type 0 where
   pub group_line : line_of (ascii "group=453,448,0") ≡ Group 453 448 false
   pub group_short : line_of (ascii "group=1,2") ≡ Unknown
   pub use_line : line_of (ascii "use=5,1") ≡ Use 5 true
-  pub end_of_four : line_of (ascii "end=0453") ≡ End NoNumber (Letters 808727859)
-  pub end_of_both : line_of (ascii "end=453") ≡ End (Number 453) (Letters 875901696)
-  pub end_of_five : line_of (ascii "end=99999") ≡ End (Number 99999) NoLetters
+  pub end_of_four : line_of (ascii "end=0453") ≡ End None (Some 808727859)
+  pub end_of_both : line_of (ascii "end=453") ≡ End (Some 453) (Some 875901696)
+  pub end_of_five : line_of (ascii "end=99999") ≡ End (Some 99999) None
   pub end_zeros : line_of (ascii "end=00453") ≡ Unknown
   pub end_headers : line_of (ascii "end=headers") ≡ Unknown
   pub member_line : line_of (ascii "member=5") ≡ Member 5

@@ -3,8 +3,7 @@ ghost use Rattle.std.specs.Prelude.{◌≡◌};
 ghost use Rattle.line_forms.specs.LineForms.{def_with, def_of, value_with, begin_of, component_with, message_with, message_of, field_with, field_of, group_with, group_rest, group_of, use_with, use_of, end_with, end_of, member_with, required_with, line_of, definition_line_of, block_line_of};
 
 use lines::line_parts::{
-    Admitted, Flag, MessageType, Number32, TypeName, ValueText, parse_flag, parse_message_type,
-    parse_number, parse_type, parse_value,
+    Admitted, parse_flag, parse_message_type, parse_number, parse_type, parse_value,
 };
 use lines::lines::{before, behind, is_same, starts_with};
 
@@ -33,7 +32,7 @@ pub enum Line {
     // use=N,R
     Use(u32, bool),
     // end=N, end=COUNT, end=T: what stands there as a number, and as a message type
-    End(Number32, MessageType),
+    End(Option<u32>, Option<u32>),
     // member=TAG
     Member(u32),
     // required=TAG
@@ -42,15 +41,12 @@ pub enum Line {
     Unknown,
 }
 
-fn def_with(tag: Number32, name: TypeName) -> Line
-    ensures { result ≡ def_with tag name }
+fn def_with(tag: Option<u32>, place: Option<u32>) -> Line
+    ensures { result ≡ def_with tag place }
 {
-    let Number32::Number(number) = tag else {
-        return Line::Unknown;
-    };
-    match name {
-        TypeName::TypeAt(place) => Line::Def(number, place),
-        TypeName::NoType => Line::Unknown,
+    match (tag, place) {
+        (Some(number), Some(name)) => Line::Def(number, name),
+        _ => Line::Unknown,
     }
 }
 
@@ -63,12 +59,12 @@ fn def_line(rest: &[u8]) -> Line
     def_with(tag, name)
 }
 
-fn value_with(value: ValueText) -> Line
+fn value_with(value: Option<Admitted>) -> Line
     ensures { result ≡ value_with value }
 {
     match value {
-        ValueText::Bytes(admitted) => Line::Value(admitted),
-        ValueText::NoBytes => Line::Unknown,
+        Some(admitted) => Line::Value(admitted),
+        None => Line::Unknown,
     }
 }
 
@@ -84,21 +80,21 @@ fn begin_line(rest: &[u8]) -> Line
     Line::Unknown
 }
 
-fn component_with(name: Number32) -> Line
+fn component_with(name: Option<u32>) -> Line
     ensures { result ≡ component_with name }
 {
     match name {
-        Number32::Number(number) => Line::Component(number),
-        Number32::NoNumber => Line::Unknown,
+        Some(number) => Line::Component(number),
+        None => Line::Unknown,
     }
 }
 
-fn message_with(name: MessageType, app: bool) -> Line
+fn message_with(name: Option<u32>, app: bool) -> Line
     ensures { result ≡ message_with name app }
 {
     match name {
-        MessageType::Letters(letters) => Line::Message(letters, app),
-        MessageType::NoLetters => Line::Unknown,
+        Some(letters) => Line::Message(letters, app),
+        None => Line::Unknown,
     }
 }
 
@@ -117,16 +113,12 @@ fn message_line(rest: &[u8]) -> Line
     Line::Unknown
 }
 
-fn field_with(tag: Number32, flag: Flag) -> Line
+fn field_with(tag: Option<u32>, flag: Option<bool>) -> Line
     ensures { result ≡ field_with tag flag }
 {
-    let Number32::Number(number) = tag else {
-        return Line::Unknown;
-    };
-    match flag {
-        Flag::Required => Line::Field(number, true),
-        Flag::Optional => Line::Field(number, false),
-        Flag::NoFlag => Line::Unknown,
+    match (tag, flag) {
+        (Some(number), Some(required)) => Line::Field(number, required),
+        _ => Line::Unknown,
     }
 }
 
@@ -139,24 +131,19 @@ fn field_line(rest: &[u8]) -> Line
     field_with(tag, flag)
 }
 
-fn group_with(count: Number32, delimiter: Number32, flag: Flag) -> Line
+fn group_with(count: Option<u32>, delimiter: Option<u32>, flag: Option<bool>) -> Line
     ensures { result ≡ group_with count delimiter flag }
 {
-    let Number32::Number(count_tag) = count else {
-        return Line::Unknown;
-    };
-    let Number32::Number(delimiter_tag) = delimiter else {
-        return Line::Unknown;
-    };
-    match flag {
-        Flag::Required => Line::Group(count_tag, delimiter_tag, true),
-        Flag::Optional => Line::Group(count_tag, delimiter_tag, false),
-        Flag::NoFlag => Line::Unknown,
+    match (count, delimiter, flag) {
+        (Some(count_tag), Some(delimiter_tag), Some(required)) => {
+            Line::Group(count_tag, delimiter_tag, required)
+        }
+        _ => Line::Unknown,
     }
 }
 
 // DELIMITER,R behind a COUNT
-fn group_rest(count: Number32, rest: &[u8]) -> Line
+fn group_rest(count: Option<u32>, rest: &[u8]) -> Line
     ensures { result ≡ group_rest count rest.now }
 {
     let delimiter = parse_number(before(rest, b','));
@@ -172,16 +159,12 @@ fn group_line(rest: &[u8]) -> Line
     group_rest(count, behind(rest, b','))
 }
 
-fn use_with(name: Number32, flag: Flag) -> Line
+fn use_with(name: Option<u32>, flag: Option<bool>) -> Line
     ensures { result ≡ use_with name flag }
 {
-    let Number32::Number(number) = name else {
-        return Line::Unknown;
-    };
-    match flag {
-        Flag::Required => Line::Use(number, true),
-        Flag::Optional => Line::Use(number, false),
-        Flag::NoFlag => Line::Unknown,
+    match (name, flag) {
+        (Some(number), Some(required)) => Line::Use(number, required),
+        _ => Line::Unknown,
     }
 }
 
@@ -194,16 +177,13 @@ fn use_line(rest: &[u8]) -> Line
     use_with(name, flag)
 }
 
-fn end_with(number: Number32, name: MessageType) -> Line
+fn end_with(number: Option<u32>, name: Option<u32>) -> Line
     ensures { result ≡ end_with number name }
 {
-    match number {
-        Number32::Number(_) => Line::End(number, name),
-        Number32::NoNumber => match name {
-            MessageType::Letters(_) => Line::End(number, name),
-            MessageType::NoLetters => Line::Unknown,
-        },
+    if number.is_none() && name.is_none() {
+        return Line::Unknown;
     }
+    Line::End(number, name)
 }
 
 // header, trailer, N, COUNT or T
@@ -221,21 +201,21 @@ fn end_line(rest: &[u8]) -> Line
     end_with(number, name)
 }
 
-fn member_with(tag: Number32) -> Line
+fn member_with(tag: Option<u32>) -> Line
     ensures { result ≡ member_with tag }
 {
     match tag {
-        Number32::Number(number) => Line::Member(number),
-        Number32::NoNumber => Line::Unknown,
+        Some(number) => Line::Member(number),
+        None => Line::Unknown,
     }
 }
 
-fn required_with(tag: Number32) -> Line
+fn required_with(tag: Option<u32>) -> Line
     ensures { result ≡ required_with tag }
 {
     match tag {
-        Number32::Number(number) => Line::RequiredTag(number),
-        Number32::NoNumber => Line::Unknown,
+        Some(number) => Line::RequiredTag(number),
+        None => Line::Unknown,
     }
 }
 

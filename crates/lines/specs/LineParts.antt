@@ -8,22 +8,12 @@
 --   word_at first bytes    four bytes from `first` on as one number, the first highest, with 0 for a byte behind the last
 --   message_type_of bytes   .. where T stands
 --   value_of bytes         .. where V stands
-use Rattle.std.specs.Prelude.{ℕ, ◌+◌, ◌*◌, ◌^◌, Bool, true, ◌&&◌, ◌||◌, not, List, [], ◌∷◌, length, get_or, if◌then◌else◌}
+use Rattle.std.specs.Prelude.{ℕ, ◌+◌, ◌*◌, ◌^◌, Bool, true, ◌&&◌, ◌||◌, not, List, [], ◌∷◌, length, get_or, if◌then◌else◌, Option, Some, None, false}
 use Prim.Native.Char.{code}
 use Rattle.ascii.specs.Notation.{◌<ᵇ◌, ◌≡ᵇ◌, is_between}
 use Rattle.ascii.specs.Bytes.{ascii, every}
 use Rattle.ascii.specs.Digits.{is_digits, decimal}
-use Rattle.lines.specs.declared.line_parts.Number32.{Number32}
-use Rattle.lines.specs.declared.line_parts.Number32.TheVariants.{Number, NoNumber}
-use Rattle.lines.specs.declared.line_parts.Flag.{Flag}
-use Rattle.lines.specs.declared.line_parts.Flag.TheVariants.{Required, Optional, NoFlag}
-use Rattle.lines.specs.declared.line_parts.TypeName.{TypeName}
-use Rattle.lines.specs.declared.line_parts.TypeName.TheVariants.{TypeAt, NoType}
-use Rattle.lines.specs.declared.line_parts.MessageType.{MessageType}
-use Rattle.lines.specs.declared.line_parts.MessageType.TheVariants.{Letters, NoLetters}
 use Rattle.lines.specs.declared.line_parts.Admitted.{Admitted}
-use Rattle.lines.specs.declared.line_parts.ValueText.{ValueText}
-use Rattle.lines.specs.declared.line_parts.ValueText.TheVariants.{Bytes, NoBytes}
 use Rattle.lines.specs.Lines.{is_same, Pieces, last, piece, cut, comma}
 
 -- ---- TAG, COUNT, DELIMITER, N
@@ -33,18 +23,18 @@ no_leading_zero [] = true
 no_leading_zero (first ∷ []) = true
 no_leading_zero (first ∷ second ∷ rest) = not (first ≡ᵇ code "0")
 
-unfoldable pub number_of : List ℕ → Number32
+unfoldable pub number_of : List ℕ → Option ℕ
 number_of bytes =
     if no_leading_zero bytes && (is_digits bytes && decimal bytes <ᵇ 2 ^ 32)
-    then Number (decimal bytes)
-    else NoNumber
+    then Some (decimal bytes)
+    else None
 
 -- ---- R
 
-unfoldable pub flag_of : List ℕ → Flag
-flag_of [] = NoFlag
-flag_of (byte ∷ []) = if byte ≡ᵇ code "1" then Required else if byte ≡ᵇ code "0" then Optional else NoFlag
-flag_of (byte ∷ second ∷ rest) = NoFlag
+unfoldable pub flag_of : List ℕ → Option Bool
+flag_of [] = None
+flag_of (byte ∷ []) = if byte ≡ᵇ code "1" then (Some true) else if byte ≡ᵇ code "0" then (Some false) else None
+flag_of (byte ∷ second ∷ rest) = None
 
 -- ---- TYPE
 
@@ -53,11 +43,11 @@ abbrev pub type_names : List ℕ
 type_names = ascii "Int,Length,SeqNum,NumInGroup,TagNum,DayOfMonth,Float,Qty,Price,PriceOffset,Amt,Percentage,Char,Boolean,String,MultipleCharValue,MultipleStringValue,Country,Currency,Exchange,MonthYear,UtcTimestamp,UtcTimeOnly,UtcDateOnly,LocalMktDate,LocalMktTime,TzTimeOnly,TzTimestamp,Data,XmlData,Language,Pattern,Tenor,Reserved"
 
 -- the place of the name among names of which the first has this number
-unfoldable pub type_in : List ℕ → ℕ → Pieces → TypeName
-type_in name number (last bytes) = if is_same name bytes then TypeAt number else NoType
-type_in name number (piece bytes others) = if is_same name bytes then TypeAt number else type_in name (number + 1) others
+unfoldable pub type_in : List ℕ → ℕ → Pieces → Option ℕ
+type_in name number (last bytes) = if is_same name bytes then Some number else None
+type_in name number (piece bytes others) = if is_same name bytes then Some number else type_in name (number + 1) others
 
-unfoldable pub type_of : List ℕ → TypeName
+unfoldable pub type_of : List ℕ → Option ℕ
 type_of name = type_in name 0 (cut comma type_names)
 
 -- ---- T
@@ -69,11 +59,11 @@ word_at first bytes =
 unfoldable pub is_alphanumeric : ℕ → Bool
 is_alphanumeric byte = is_between (code "0") (code "9") byte || (is_between (code "A") (code "Z") byte || is_between (code "a") (code "z") byte)
 
-unfoldable pub message_type_of : List ℕ → MessageType
+unfoldable pub message_type_of : List ℕ → Option ℕ
 message_type_of bytes =
     if is_between 1 4 (length bytes) && every is_alphanumeric bytes
-    then Letters (word_at 0 bytes)
-    else NoLetters
+    then Some (word_at 0 bytes)
+    else None
 
 -- ---- V
 
@@ -93,8 +83,8 @@ admitted_bytes bytes = record {
   word7 = word_at 28 bytes;
 }
 
-unfoldable pub value_of : List ℕ → ValueText
+unfoldable pub value_of : List ℕ → Option Admitted
 value_of bytes =
     if is_between 1 32 (length bytes) && every is_visible bytes
-    then Bytes (admitted_bytes bytes)
-    else NoBytes
+    then Some (admitted_bytes bytes)
+    else None

@@ -1,22 +1,14 @@
 -- Laws of `LineParts.antt`, in its order. Assumes nothing.
-use Rattle.std.specs.Prelude.{◌≡◌, refl, ℕ, ◌+◌, ◌-◌, ◌^◌, ◌≤◌, ◌<◌, Bool, ◌&&◌, not, cond, List, [], ◌∷◌, leb, ltb, eqb, length, get_or, take, drop}
+use Rattle.std.specs.Prelude.{◌≡◌, refl, ℕ, ◌+◌, ◌-◌, ◌^◌, ◌≤◌, ◌<◌, Bool, ◌&&◌, not, cond, List, [], ◌∷◌, leb, ltb, eqb, length, get_or, take, drop, Option, Some, None}
 use Rattle.std.proofs.Math.Path.{sym}
 use Rattle.std.proofs.Common.{ap, ◌∙◌, arith, length-drop, take_all, le-ltb, ltb-false, eqb-true, le-leb}
 use Rattle.std.proofs.Math.Bool.{true, false}
 use Rattle.std.proofs.lemmas.Bool.{eqb-false, lt-leb}
-use Rattle.counts.specs.declared.count.Count.{Count}
-use Rattle.counts.specs.declared.count.Count.TheVariants as counted
 use Rattle.ascii.specs.Notation.{is_between}
 use Rattle.ascii.specs.NotationLaws.{and-false, is_between-below}
 use Rattle.ascii.specs.Bytes.{every}
 use Rattle.ascii.specs.Digits.{is_digits, decimal}
 use Rattle.counts.specs.Count.{count_of}
-use Rattle.lines.specs.declared.line_parts.Number32.{Number32}
-use Rattle.lines.specs.declared.line_parts.Number32.TheVariants.{Number, NoNumber}
-use Rattle.lines.specs.declared.line_parts.Flag.TheVariants.{Required, Optional, NoFlag}
-use Rattle.lines.specs.declared.line_parts.TypeName.TheVariants.{TypeAt, NoType}
-use Rattle.lines.specs.declared.line_parts.MessageType.TheVariants.{Letters, NoLetters}
-use Rattle.lines.specs.declared.line_parts.ValueText.TheVariants.{Bytes, NoBytes}
 use Rattle.lines.specs.Lines.{position_of, is_same, cut, comma}
 use Rattle.lines.specs.LinesLaws.{cut-at_piece, cut-at_last}
 use Rattle.lines.specs.LineParts.{no_leading_zero, number_of, flag_of, type_in, word_at, is_alphanumeric, message_type_of, is_visible, admitted_bytes, value_of}
@@ -37,30 +29,30 @@ no_leading_zero-long (first ∷ second ∷ rest) long = refl
 
 -- ---- number_of
 
-pub number_of_leading_zero : (bytes : List ℕ) → no_leading_zero bytes ≡ false → number_of bytes ≡ NoNumber
+pub number_of_leading_zero : (bytes : List ℕ) → no_leading_zero bytes ≡ false → number_of bytes ≡ None
 unfolding number_of
 number_of_leading_zero bytes zero-first = rw zero-first
 
 -- what a count says of a number of 32 bits
-abbrev pub number_from : Count → Number32
-number_from (counted.Number count) = cond (ltb count (2 ^ 32)) (Number count) NoNumber
-number_from counted.Nothing = NoNumber
+abbrev pub number_from : Option ℕ → Option ℕ
+number_from (Some count) = cond (ltb count (2 ^ 32)) (Some count) None
+number_from None = None
 
-below-count : (n : ℕ) (fits : Bool) → ltb n (2 ^ 64) ≡ fits → cond (ltb n (2 ^ 32)) (Number n) NoNumber ≡ number_from (cond fits (counted.Number n) counted.Nothing)
+below-count : (n : ℕ) (fits : Bool) → ltb n (2 ^ 64) ≡ fits → cond (ltb n (2 ^ 32)) (Some n) None ≡ number_from (cond fits (Some n) None)
 below-count n true test = refl
 below-count n false test = rw (le-ltb n (2 ^ 32) (omega (arith, ltb-false n (2 ^ 64) test)))
 
-by_digits : (digits : Bool) (n : ℕ) → cond (digits && ltb n (2 ^ 32)) (Number n) NoNumber ≡ number_from (cond (digits && ltb n (2 ^ 64)) (counted.Number n) counted.Nothing)
+by_digits : (digits : Bool) (n : ℕ) → cond (digits && ltb n (2 ^ 32)) (Some n) None ≡ number_from (cond (digits && ltb n (2 ^ 64)) (Some n) None)
 by_digits true n = below-count n (ltb n (2 ^ 64)) refl
 by_digits false n = refl
 
 pub number_of_count : (bytes : List ℕ) → no_leading_zero bytes ≡ true → number_of bytes ≡ number_from (count_of bytes)
-unfolding number_of count_of
+unfolding number_of
 number_of_count bytes good = rw good (by_digits (is_digits bytes) (decimal bytes))
 
 -- ---- flag_of
 
-pub flag_of-other_length : (bytes : List ℕ) → (length bytes ≡ 1 → ⊥) → flag_of bytes ≡ NoFlag
+pub flag_of-other_length : (bytes : List ℕ) → (length bytes ≡ 1 → ⊥) → flag_of bytes ≡ None
 unfolding flag_of
 flag_of-other_length [] other = refl
 flag_of-other_length (byte ∷ []) other = absurd (other refl)
@@ -68,7 +60,7 @@ flag_of-other_length (byte ∷ second ∷ rest) other = refl
 
 pub flag_of-one_byte : (bytes : List ℕ)
     → length bytes ≡ 1
-    → flag_of bytes ≡ cond (eqb (get_or bytes 0 0) 49) Required (cond (eqb (get_or bytes 0 0) 48) Optional NoFlag)
+    → flag_of bytes ≡ cond (eqb (get_or bytes 0 0) 49) (Some true) (cond (eqb (get_or bytes 0 0) 48) (Some false) None)
 unfolding flag_of
 flag_of-one_byte [] one = absurd (omega arith)
 flag_of-one_byte (byte ∷ []) one = refl
@@ -84,16 +76,16 @@ module _ (name : List ℕ) (number : ℕ) (names : List ℕ) (first past : ℕ) 
   type-here_by : (at-end : Bool)
       → eqb past (length names) ≡ at-end
       → is_same name (take (past - first) (drop first names)) ≡ true
-      → type_in name number (cut comma (drop first names)) ≡ TypeAt number
+      → type_in name number (cut comma (drop first names)) ≡ Some number
   unfolding type_in
   type-here_by true test same = rw (cut-at_last comma names first past within found (eqb-true _ _ test), sym (ap (is_same name) (to_the_end (eqb-true _ _ test))) ∙ same)
   type-here_by false test same = rw (cut-at_piece comma names first past within found (eqb-false _ _ test), same)
 
-  pub type-here : is_same name (take (past - first) (drop first names)) ≡ true → type_in name number (cut comma (drop first names)) ≡ TypeAt number
+  pub type-here : is_same name (take (past - first) (drop first names)) ≡ true → type_in name number (cut comma (drop first names)) ≡ Some number
   type-here same = type-here_by (eqb past (length names)) refl same
 
   module _ (other : is_same name (take (past - first) (drop first names)) ≡ false) where
-    pub type-nowhere : past ≡ length names → type_in name number (cut comma (drop first names)) ≡ NoType
+    pub type-nowhere : past ≡ length names → type_in name number (cut comma (drop first names)) ≡ None
     unfolding type_in
     type-nowhere at-end = rw (cut-at_last comma names first past within found at-end, sym (ap (is_same name) (to_the_end at-end)) ∙ other)
 
@@ -128,38 +120,38 @@ is_between-inside low high n from to = rw (le-leb low n from, le-leb n high to)
 -- ---- message_type_of
 
 module _ (bytes : List ℕ) where
-  pub message_type_of-empty : length bytes < 1 → message_type_of bytes ≡ NoLetters
+  pub message_type_of-empty : length bytes < 1 → message_type_of bytes ≡ None
   unfolding message_type_of
   message_type_of-empty empty = rw (is_between-below 1 4 (length bytes) empty)
 
-  pub message_type_of-long : 4 < length bytes → message_type_of bytes ≡ NoLetters
+  pub message_type_of-long : 4 < length bytes → message_type_of bytes ≡ None
   unfolding message_type_of
   message_type_of-long long = rw (is_between-above 1 4 (length bytes) long)
 
   module _ (from : 1 ≤ length bytes) (to : length bytes ≤ 4) where
-    pub message_type_of-other : every is_alphanumeric bytes ≡ false → message_type_of bytes ≡ NoLetters
+    pub message_type_of-other : every is_alphanumeric bytes ≡ false → message_type_of bytes ≡ None
     unfolding message_type_of
     message_type_of-other other = rw (is_between-inside 1 4 (length bytes) from to, other)
 
-    pub message_type_of-letters : every is_alphanumeric bytes ≡ true → message_type_of bytes ≡ Letters (word_at 0 bytes)
+    pub message_type_of-letters : every is_alphanumeric bytes ≡ true → message_type_of bytes ≡ Some (word_at 0 bytes)
     unfolding message_type_of
     message_type_of-letters letters = rw (is_between-inside 1 4 (length bytes) from to, letters)
 
   -- ---- value_of
 
-  pub value_of_empty : length bytes < 1 → value_of bytes ≡ NoBytes
+  pub value_of_empty : length bytes < 1 → value_of bytes ≡ None
   unfolding value_of
   value_of_empty empty = rw (is_between-below 1 32 (length bytes) empty)
 
-  pub value_of_long : 32 < length bytes → value_of bytes ≡ NoBytes
+  pub value_of_long : 32 < length bytes → value_of bytes ≡ None
   unfolding value_of
   value_of_long long = rw (is_between-above 1 32 (length bytes) long)
 
   module _ (from : 1 ≤ length bytes) (to : length bytes ≤ 32) where
-    pub value_of_other : every is_visible bytes ≡ false → value_of bytes ≡ NoBytes
+    pub value_of_other : every is_visible bytes ≡ false → value_of bytes ≡ None
     unfolding value_of
     value_of_other other = rw (is_between-inside 1 32 (length bytes) from to, other)
 
-    pub value_of_bytes : every is_visible bytes ≡ true → value_of bytes ≡ Bytes (admitted_bytes bytes)
+    pub value_of_bytes : every is_visible bytes ≡ true → value_of bytes ≡ Some (admitted_bytes bytes)
     unfolding value_of
     value_of_bytes visible = rw (is_between-inside 1 32 (length bytes) from to, visible)

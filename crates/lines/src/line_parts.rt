@@ -6,36 +6,7 @@ ghost use Rattle.lines.specs.Lines.{cut, comma};
 ghost use Rattle.lines.specs.LineParts.{no_leading_zero, number_of, flag_of, type_in, type_of, word_at, is_alphanumeric, message_type_of, is_visible, admitted_bytes, value_of};
 
 use crate::lines::{is_same, position_of};
-use counts::count::{Count, parse_count};
-
-// What stands for TAG, COUNT, DELIMITER or N.
-#[derive(Clone, Copy)]
-pub enum Number32 {
-    Number(u32),
-    NoNumber,
-}
-
-// What stands for R.
-#[derive(Clone, Copy)]
-pub enum Flag {
-    Required,
-    Optional,
-    NoFlag,
-}
-
-// What stands for TYPE: the place of its name among the names of FieldType (schema.rs), from 0.
-#[derive(Clone, Copy)]
-pub enum TypeName {
-    TypeAt(u32),
-    NoType,
-}
-
-// What stands for T: its letters or digits as the bytes of a number, the first highest, 0 behind the last.
-#[derive(Clone, Copy)]
-pub enum MessageType {
-    Letters(u32),
-    NoLetters,
-}
+use counts::count::parse_count;
 
 // An admitted value V: how many bytes it has, and its bytes, four to a word, the first highest, 0 behind the last.
 #[derive(Clone, Copy)]
@@ -49,13 +20,6 @@ pub struct Admitted {
     pub word5: u32,
     pub word6: u32,
     pub word7: u32,
-}
-
-// What stands for V.
-#[derive(Clone, Copy)]
-pub enum ValueText {
-    Bytes(Admitted),
-    NoBytes,
 }
 
 fn is_between(low: u8, high: u8, byte: u8) -> bool
@@ -74,42 +38,37 @@ fn has_no_leading_zero(bytes: &[u8]) -> bool
 }
 
 // TAG, COUNT, DELIMITER, N: 32-bit, without leading zeros; 0 is allowed.
-pub fn parse_number(bytes: &[u8]) -> Number32
+pub fn parse_number(bytes: &[u8]) -> Option<u32>
     ensures { result ≡ number_of bytes.now }
 {
     if !has_no_leading_zero(bytes) {
-        return Number32::NoNumber;
+        return None;
     }
-    match parse_count(bytes) {
-        Count::Number(count) => {
-            if count < 0x1_0000_0000 {
-                Number32::Number(count as u32)
-            } else {
-                Number32::NoNumber
-            }
-        }
-        Count::Nothing => Number32::NoNumber,
+    let count = parse_count(bytes)?;
+    if count < 0x1_0000_0000 {
+        return Some(count as u32);
     }
+    None
 }
 
 // R: 1 for required, else 0.
-pub fn parse_flag(bytes: &[u8]) -> Flag
+pub fn parse_flag(bytes: &[u8]) -> Option<bool>
     ensures { result ≡ flag_of bytes.now }
 {
     if bytes.len() != 1 {
-        return Flag::NoFlag;
+        return None;
     }
     if bytes[0] == b'1' {
-        return Flag::Required;
+        return Some(true);
     }
     if bytes[0] == b'0' {
-        return Flag::Optional;
+        return Some(false);
     }
-    Flag::NoFlag
+    None
 }
 
 // The place of the name among the names, which commas part.
-fn type_in(names: &[u8], name: &[u8]) -> TypeName
+fn type_in(names: &[u8], name: &[u8]) -> Option<u32>
     requires { length names.now < 1000 }
     ensures { result ≡ type_in name.now 0 (cut comma names.now) }
 {
@@ -118,10 +77,10 @@ fn type_in(names: &[u8], name: &[u8]) -> TypeName
     loop {
         let past = position_of(names, first, b',');
         if is_same(&names[first..past], name) {
-            return TypeName::TypeAt(number);
+            return Some(number);
         }
         if past == names.len() {
-            return TypeName::NoType;
+            return None;
         }
         number += 1;
         first = past + 1;
@@ -129,7 +88,7 @@ fn type_in(names: &[u8], name: &[u8]) -> TypeName
 }
 
 // TYPE: spelled as a FieldType.
-pub fn parse_type(name: &[u8]) -> TypeName
+pub fn parse_type(name: &[u8]) -> Option<u32>
     ensures { result ≡ type_of name.now }
 {
     type_in(
@@ -190,19 +149,19 @@ fn all_alphanumeric(bytes: &[u8]) -> bool
 }
 
 // T: 1 to 4 letters or digits.
-pub fn parse_message_type(bytes: &[u8]) -> MessageType
+pub fn parse_message_type(bytes: &[u8]) -> Option<u32>
     ensures { result ≡ message_type_of bytes.now }
 {
     if bytes.len() < 1 {
-        return MessageType::NoLetters;
+        return None;
     }
     if 4 < bytes.len() {
-        return MessageType::NoLetters;
+        return None;
     }
     if !all_alphanumeric(bytes) {
-        return MessageType::NoLetters;
+        return None;
     }
-    MessageType::Letters(word_at(bytes, 0))
+    Some(word_at(bytes, 0))
 }
 
 fn is_visible(byte: u8) -> bool
@@ -243,17 +202,17 @@ fn admitted_of(bytes: &[u8]) -> Admitted
 }
 
 // V: 1 to 32 bytes, 21 to 7E hexadecimal.
-pub fn parse_value(bytes: &[u8]) -> ValueText
+pub fn parse_value(bytes: &[u8]) -> Option<Admitted>
     ensures { result ≡ value_of bytes.now }
 {
     if bytes.len() < 1 {
-        return ValueText::NoBytes;
+        return None;
     }
     if 32 < bytes.len() {
-        return ValueText::NoBytes;
+        return None;
     }
     if !all_visible(bytes) {
-        return ValueText::NoBytes;
+        return None;
     }
-    ValueText::Bytes(admitted_of(bytes))
+    Some(admitted_of(bytes))
 }

@@ -1,5 +1,5 @@
 -- What `read_dictionary` answers and leaves for small texts, by computation. `small_words` are the words of the first one (`DictionaryCases.antt`). Assumes nothing.
-use Rattle.std.specs.Prelude.{◌≡◌, refl, ℕ, List, [], ◌∷◌, ◌++◌, replicate}
+use Rattle.std.specs.Prelude.{◌≡◌, refl, ℕ, List, [], ◌∷◌, ◌++◌, replicate, Ok, Err}
 use Rattle.ascii.specs.Notation.{is_between}
 use Rattle.ascii.specs.Bytes.{ascii, non_empty, every}
 use Rattle.ascii.specs.Digits.{is_digits, decimal_from}
@@ -10,7 +10,6 @@ use Rattle.lines.specs.LineParts.{no_leading_zero, number_of, flag_of, type_in, 
 use Rattle.line_forms.specs.LineForms.{def_of, begin_of, message_of, field_of, group_rest, group_of, use_of, end_of, block_line_of, definition_line_of, line_of}
 use Rattle.dictionary_order.specs.DictionaryOrder.{step_of}
 use Rattle.texts.specs.DictionaryText.{order_from, order_of, is_in, again_from, again_of, dictionary_text_of}
-use Rattle.read_dictionary.specs.declared.read_dictionary.Read.TheVariants.{Written, Refused}
 use Rattle.records.specs.Records.{record_of}
 use Rattle.dictionary.specs.DictionaryWords.{is_of, name_of, names_of, place_of, records_of, index_of, dictionary_words, lines_in}
 use Rattle.definitions.specs.DictionaryCases.{four, small_words}
@@ -30,14 +29,14 @@ unsorted_words =
     ++ (four 1 35 0 0 ++ (four 3 0 0 0 ++ (four 10 0 0 0 ++ (four 4 0 0 0 ++ (four 11 0 0 0 ++ (35 ∷ 448 ∷ 1 ∷ 0 ∷ [])))))))
 
 pub record ReadDictionaryCases : Type 0 where
-  pub written : read_of small_text 88 ≡ Written 88
+  pub written : read_of small_text 88 ≡ Ok 88
   pub words_written : read_in small_text (replicate 90 5) ≡ small_words ++ (5 ∷ 5 ∷ [])
-  pub space_short : read_of small_text 87 ≡ Refused (SpaceShort 88)
+  pub space_short : read_of small_text 87 ≡ Err (SpaceShort 88)
   pub short_kept : read_in small_text (replicate 87 5) ≡ replicate 87 5
-  pub no_space : read_of small_text 0 ≡ Refused (SpaceShort 88)
+  pub no_space : read_of small_text 0 ≡ Err (SpaceShort 88)
   pub index_sorted : read_in unsorted_text (replicate 68 5) ≡ unsorted_words
-  pub refused : read_of (ascii "def=35,Int\ndef=35,Int\n") 100 ≡ Refused (DefinedAgain 2)
-  pub refused_before_short : read_of (ascii "") 0 ≡ Refused (NotAllowed 1)
+  pub refused : read_of (ascii "def=35,Int\ndef=35,Int\n") 100 ≡ Err (DefinedAgain 2)
+  pub refused_before_short : read_of (ascii "") 0 ≡ Err (NotAllowed 1)
   pub refused_kept : read_in (ascii "") (replicate 9 5) ≡ replicate 9 5
 
 pub read-dictionary_cases : ReadDictionaryCases

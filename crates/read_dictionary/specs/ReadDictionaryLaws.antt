@@ -1,7 +1,7 @@
 -- Laws of `ReadDictionary.antt`: the counts of an accepted text are those of its lines; the loop of `put_records`, turn by turn; the parts of a dictionary,
 -- written one behind the other; and what the call answers. `written-passes`: what `read_dictionary` wrote passes the check of lent words. `written-size`: it
 -- wrote at most 131,068 words. Assumes nothing.
-use Rattle.std.specs.Prelude.{◌≡◌, refl, ℕ, ◌+◌, ◌*◌, ◌-◌, ◌≤◌, ◌<◌, Bool, true, false, cond, leb, take, drop}
+use Rattle.std.specs.Prelude.{◌≡◌, refl, ℕ, ◌+◌, ◌*◌, ◌-◌, ◌≤◌, ◌<◌, Bool, true, false, cond, leb, take, drop, Result, Ok, Err}
 use Rattle.std.proofs.Math.Path.{sym}
 use Rattle.std.proofs.Common.{ap, ◌∙◌, take_at, le-leb}
 use mathlib.Core.List.{List, [], ◌∷◌, ◌++◌, append_assoc}
@@ -20,15 +20,11 @@ use Rattle.dictionary_order.specs.declared.dictionary_order.State.{State}
 use Rattle.texts.specs.declared.dictionary_text.Counts.{Counts}
 use Rattle.texts.specs.declared.dictionary_text.Defined.{Defined}
 use Rattle.texts.specs.declared.dictionary_text.Defined.TheVariants.{Tag, ComponentName, MessageName, Nothing}
-use Rattle.texts.specs.declared.dictionary_text.TextOutcome.{TextOutcome}
-use Rattle.texts.specs.declared.dictionary_text.TextOutcome.TheVariants as text
 use Rattle.lines.specs.Lines.{Pieces, last, piece, position_of, lines_of, line_feed}
 use Rattle.lines.specs.LinesLaws.{found_within, cut-at_piece, cut-at_last, cut-nothing}
 use Rattle.line_forms.specs.LineForms.{line_of}
 use Rattle.dictionary_order.specs.DictionaryOrder.{start, step_of, behind_trailer, behind_message}
 use Rattle.texts.specs.DictionaryText.{counts, counted, defined_by, order_from, order_of, dictionary_text_of}
-use Rattle.read_dictionary.specs.declared.read_dictionary.Read.{Read}
-use Rattle.read_dictionary.specs.declared.read_dictionary.Read.TheVariants.{Written, Refused}
 use Rattle.records.specs.Records.{record_of}
 use Rattle.records.specs.RecordsLaws.{record_of-length}
 use Rattle.dictionary.specs.DictionaryWords.{names_of, records_of, index_of, dictionary_words, lines_in}
@@ -58,13 +54,13 @@ counted-more before (MessageName letters) = (omega arith, (omega arith, (omega a
 counted-more before Nothing = (omega arith, (omega arith, (omega arith, omega arith)))
 
 counts-end_by : (some ends : Bool) (read outcome : Counts) (one two : Refusal)
-    → cond some (text.Refused one) (cond ends (text.Accepted read) (text.Refused two)) ≡ text.Accepted outcome
+    → cond some (Err one) (cond ends (Ok read) (Err two)) ≡ Ok outcome
     → outcome ≡ read
 counts-end_by true ends read outcome one two same = let never : ◌≡◌ {A = ℕ} 0 1 = cc in absurd (omega arith)
 counts-end_by false true read outcome one two same = cc
 counts-end_by false false read outcome one two same = let never : ◌≡◌ {A = ℕ} 0 1 = cc in absurd (omega arith)
 
-order-counts : (state : State) (read : Counts) (pieces : Pieces) (outcome : Counts) → order_from state read pieces ≡ text.Accepted outcome → CountsBehind read outcome (lines_in pieces)
+order-counts : (state : State) (read : Counts) (pieces : Pieces) (outcome : Counts) → order_from state read pieces ≡ Ok outcome → CountsBehind read outcome (lines_in pieces)
 unfolding order_from lines_in
 order-counts state read (last bytes) outcome accepted =
     let same =
@@ -93,7 +89,7 @@ pub record CountsOfLines (read : Counts) (lines : List Line) : Type 0 where
   pub components_are : read.components ≡ length (names_of 5 lines)
   pub messages_are : read.messages ≡ length (names_of 6 lines)
 
-module _ (bytes : List ℕ) (read : Counts) (accepted : dictionary_text_of bytes ≡ text.Accepted read) where
+module _ (bytes : List ℕ) (read : Counts) (accepted : dictionary_text_of bytes ≡ Ok read) where
   pub accepted-counts : CountsOfLines read (text_lines bytes)
   unfolding order_of
   accepted-counts =
@@ -168,7 +164,7 @@ module _ (bytes before : List ℕ) (first : ℕ) (words : List ℕ) (at : ℕ) (
 front-stored : (words new : List ℕ) → length new ≤ length words → sets words 0 new ≡ new ++ drop (length new) words
 front-stored words new fits = let same : 0 + length new ≡ length new = omega arith in sets-eq new words 0 (omega arith) ∙ rw same
 
-module _ (bytes : List ℕ) (read : Counts) (accepted : dictionary_text_of bytes ≡ text.Accepted read) (words : List ℕ) (fits : needed_for read ≤ length words)
+module _ (bytes : List ℕ) (read : Counts) (accepted : dictionary_text_of bytes ≡ Ok read) (words : List ℕ) (fits : needed_for read ≤ length words)
     (headed : List ℕ) (heads : headed ≡ sets words 0 (read.lines ∷ read.tags ∷ read.components ∷ read.messages ∷ [])) where
   pub records-fit : 4 + 10 * length (text_lines bytes) ≤ length headed
   records-fit =
@@ -286,23 +282,23 @@ module _ (bytes : List ℕ) (read : Counts) (accepted : dictionary_text_of bytes
 
 -- where the words are enough, and where not
 module _ (dictionary words : List ℕ) (needed : ℕ) (needs : needed ≡ length dictionary) where
-  pub space_short : length words < needed → (Refused (SpaceShort needed) ≡ space_answer dictionary (length words)) × (words ≡ space_with dictionary words)
+  pub space_short : length words < needed → (Err (SpaceShort needed) ≡ space_answer dictionary (length words)) × (words ≡ space_with dictionary words)
   space_short short =
       let fails = lt-leb (length dictionary) (length words) (omega arith) in
       (rw (needs, fails), rw fails)
 
   pub space-holds : needed ≤ length words → (written : List ℕ) → written ≡ sets words 0 dictionary
-      → (Written needed ≡ space_answer dictionary (length words)) × (written ≡ space_with dictionary words)
+      → (Ok needed ≡ space_answer dictionary (length words)) × (written ≡ space_with dictionary words)
   space-holds fits written puts =
       let holds = le-leb (length dictionary) (length words) (omega arith) in
       (rw (needs, holds), rw holds (puts ∙ front-stored words dictionary (omega arith)))
 
 module _ (bytes words : List ℕ) where
-  pub text-refused : (refusal : Refusal) → dictionary_text_of bytes ≡ text.Refused refusal → (Refused refusal ≡ read_of bytes (length words)) × (words ≡ read_in bytes words)
+  pub text-refused : (refusal : Refusal) → dictionary_text_of bytes ≡ Err refusal → (Err refusal ≡ read_of bytes (length words)) × (words ≡ read_in bytes words)
   unfolding read_of read_in
   text-refused refusal refused = (rw refused, rw refused)
 
-  pub text-accepted : (read : Counts) → dictionary_text_of bytes ≡ text.Accepted read → (answer : Read) (left : List ℕ)
+  pub text-accepted : (read : Counts) → dictionary_text_of bytes ≡ Ok read → (answer : Result ℕ Refusal) (left : List ℕ)
       → answer ≡ space_answer (dictionary_words (text_lines bytes)) (length words)
       → left ≡ space_with (dictionary_words (text_lines bytes)) words
       → (answer ≡ read_of bytes (length words)) × (left ≡ read_in bytes words)
@@ -311,18 +307,18 @@ module _ (bytes words : List ℕ) where
 
 -- ---- what is written is a dictionary
 
-answer-by : (test : Bool) (needed count : ℕ) → cond test (Written needed) (Refused (SpaceShort needed)) ≡ Written count → (test ≡ true) × (count ≡ needed)
+answer-by : (test : Bool) (needed count : ℕ) → cond test (Ok needed) (Err (SpaceShort needed)) ≡ Ok count → (test ≡ true) × (count ≡ needed)
 answer-by true needed count same = (refl, let equal : needed ≡ count = cc in sym equal)
 answer-by false needed count same = let never : ◌≡◌ {A = ℕ} 0 1 = cc in absurd (omega arith)
 
 -- a text whose dictionary was written is accepted
-written-by : (outcome : TextOutcome) (dictionary : List ℕ) (space count : ℕ) → text_answer outcome dictionary space ≡ Written count
-    → ((read : Counts) × (outcome ≡ text.Accepted read)) × ((leb (length dictionary) space ≡ true) × (count ≡ length dictionary))
-written-by (text.Accepted read) dictionary space count written = ((read, refl), answer-by (leb (length dictionary) space) (length dictionary) count written)
-written-by (text.Refused refusal) dictionary space count written = let never : ◌≡◌ {A = ℕ} 0 1 = cc in absurd (omega arith)
+written-by : (outcome : Result Counts Refusal) (dictionary : List ℕ) (space count : ℕ) → text_answer outcome dictionary space ≡ Ok count
+    → ((read : Counts) × (outcome ≡ Ok read)) × ((leb (length dictionary) space ≡ true) × (count ≡ length dictionary))
+written-by (Ok read) dictionary space count written = ((read, refl), answer-by (leb (length dictionary) space) (length dictionary) count written)
+written-by (Err refusal) dictionary space count written = let never : ◌≡◌ {A = ℕ} 0 1 = cc in absurd (omega arith)
 
-module _ (bytes words : List ℕ) (count : ℕ) (written : read_of bytes (length words) ≡ Written count) where
-  written-parts : ((read : Counts) × (dictionary_text_of bytes ≡ text.Accepted read))
+module _ (bytes words : List ℕ) (count : ℕ) (written : read_of bytes (length words) ≡ Ok count) where
+  written-parts : ((read : Counts) × (dictionary_text_of bytes ≡ Ok read))
       × ((leb (length (dictionary_words (text_lines bytes))) (length words) ≡ true) × (count ≡ length (dictionary_words (text_lines bytes))))
   unfolding read_of
   written-parts = written-by (dictionary_text_of bytes) (dictionary_words (text_lines bytes)) (length words) count written

@@ -1,5 +1,5 @@
 -- Laws of `TextCheck.antt`: the loop of `read_lines`, turn by turn, and what its end says of row 5. Assumes nothing.
-use Rattle.std.specs.Prelude.{◌≡◌, ℕ, ◌+◌, ◌*◌, ◌-◌, ◌≤◌, ◌<◌, Bool, true, false, cond, ◌&&◌, ◌||◌, List, [], ◌∷◌, ◌++◌, ltb, get_or, set, take, drop}
+use Rattle.std.specs.Prelude.{◌≡◌, ℕ, ◌+◌, ◌*◌, ◌-◌, ◌≤◌, ◌<◌, Bool, true, false, cond, ◌&&◌, ◌||◌, List, [], ◌∷◌, ◌++◌, ltb, get_or, set, take, drop, Option, Some, None, Err}
 use Rattle.std.proofs.Math.Path.{refl, ap}
 use Rattle.std.proofs.Common.{sym, ◌∙◌, append-nil, arith, length-append, length-drop, take_at, length-take-le, le-ltb}
 use Rattle.std.proofs.Math.Dec.{eqb, leb}
@@ -9,37 +9,28 @@ use Rattle.std.proofs.Math.Seq.{length-sets}
 use Rattle.ascii.specs.Notation.{is_between}
 use Rattle.ascending.specs.Search.{is_strictly_ascending}
 use Rattle.ascending.specs.SearchLaws.{is_strictly_ascending-true}
-use Rattle.ascending.specs.Sort.{sorted, once, how_often, AsOften}
+use Rattle.ascending.specs.Sort.{sorted, how_often, AsOften}
 use Rattle.ascending.specs.SortLaws.{sorted-as_often}
 use Rattle.refusals.specs.declared.refusal.Refusal.{Refusal}
 use Rattle.refusals.specs.declared.refusal.Refusal.TheVariants.{UnknownForm, NotAllowed, TooManyOpen}
 use Rattle.line_forms.specs.declared.line.Line.{Line}
 use Rattle.line_forms.specs.declared.line.Line.TheVariants.{Def, Value, BeginHeader, BeginTrailer, EndHeader, EndTrailer, Component, Message, Field, Group, Use, End, Member, RequiredTag, Unknown}
-use Rattle.lines.specs.declared.line_parts.Number32.{Number32}
-use Rattle.lines.specs.declared.line_parts.MessageType.{MessageType}
 use Rattle.dictionary_order.specs.declared.dictionary_order.State.{State}
-use Rattle.dictionary_order.specs.declared.dictionary_order.Fault.TheVariants.{NoFault, Faulty}
 use Rattle.dictionary_order.specs.declared.dictionary_order.Step.{Step}
 use Rattle.texts.specs.declared.dictionary_text.Counts.{Counts}
 use Rattle.texts.specs.declared.dictionary_text.Defined.{Defined}
 use Rattle.texts.specs.declared.dictionary_text.Defined.TheVariants.{Tag, ComponentName, MessageName, Nothing}
-use Rattle.texts.specs.declared.dictionary_text.TextOutcome.TheVariants.{Refused}
-use Rattle.texts.specs.declared.dictionary_text.Key.{Key}
-use Rattle.texts.specs.declared.dictionary_text.Key.TheVariants.{Of, NoKey}
-use Rattle.texts.specs.declared.dictionary_text.Again.{Again}
-use Rattle.texts.specs.declared.dictionary_text.Again.TheVariants.{At, Nowhere}
 use Rattle.refusals.specs.Refusal.{refusal_place}
 use Rattle.lines.specs.Lines.{Pieces, last, piece, position_of, lines_of, line_feed}
 use Rattle.lines.specs.LinesLaws.{found_within}
 use Rattle.line_forms.specs.LineForms.{line_of}
 use Rattle.dictionary_order.specs.DictionaryOrder as order
 use Rattle.dictionary_order.specs.DictionaryOrder.{start, step_of, taken, refused, not_allowed, closed_block, opened_block, used_in, is_number, is_letters, close_group, close_component, close_message, open_group, end_step, open_block, close_block}
-use Rattle.texts.specs.DictionaryText.{counts, counted, defined_by, key_of, is_in, on_key, again_from, again_of, order_of, refused_earlier, first_of}
+use Rattle.texts.specs.DictionaryText.{counts, counted, defined_by, key_of, is_in, on_key, again_from, again_of, order_of, first_of}
 use Rattle.texts.specs.DictionaryTextLaws.{OrderSoFar, order-begins, order-faulty, order-turns, again-ends, again-unended, again-no_key, again-new, defines-length}
 use Rattle.records.specs.RecordsLaws.{Held}
 use Rattle.records.specs.LineReadLaws.{line_of_fits}
 use Rattle.dictionary.specs.DictionaryWords.{names_of}
-use Rattle.dictionary.specs.DictionaryCheck.{is_taken}
 use Rattle.definitions.specs.IndexLaws.{strictly_distinct, distinct_often, once-same}
 use Rattle.definitions.specs.PassAccepted.{AllHeld, counted-lines, key_in, keys_of, keys_once, not_seen, how_often-append, tag_in, component_in, message_in, tags-step, components-step, messages-step}
 use Rattle.definitions.specs.AcceptedPass.{usable_held}
@@ -55,7 +46,7 @@ ascending_once names ascends each =
 -- ---- the place of a line's refusal is the line's number
 
 abbrev Placed : ℕ → Step → Type 0
-Placed number step = (refusal : Refusal) → step.fault ≡ Faulty refusal → refusal_place refusal ≡ number
+Placed number step = (refusal : Refusal) → step.fault ≡ Some refusal → refusal_place refusal ≡ number
 
 either-placed : (number : ℕ) (test : Bool) (this that : Step) → Placed number this → Placed number that → Placed number (cond test this that)
 either-placed number true this that one other = one
@@ -77,7 +68,7 @@ module _ (state : State) (number : ℕ) where
       either-placed number (ltb state.depth 40) (taken opened) (refused state (TooManyOpen number)) (taken-placed number opened)
       (refused-placed number state (TooManyOpen number) refl)
 
-  end-placed : (name : Number32) (letters : MessageType) → Placed number (end_step name letters state number)
+  end-placed : (name : Option ℕ) (letters : Option ℕ) → Placed number (end_step name letters state number)
   end-placed name letters =
       either-placed number (ltb 0 state.depth) (close_group name state number) _ (allowed-placed (is_number (get_or state.counts (state.depth - 1) 0) name) _)
       (either-placed number (eqb state.stage order.component) (close_component name state number) _ (allowed-placed (is_number state.name name) _)
@@ -107,21 +98,21 @@ module _ (state : State) (number : ℕ) where
 
 -- ---- row 5 is not met before the line from which it is searched
 
-abbrev NotBefore : ℕ → Again → Type 0
-NotBefore number (At line) = number ≤ line
-NotBefore number Nowhere = Unit
+abbrev NotBefore : ℕ → Option ℕ → Type 0
+NotBefore number (Some line) = number ≤ line
+NotBefore number None = Unit
 
-not-before_next : (number : ℕ) (again : Again) → NotBefore (number + 1) again → NotBefore number again
-not-before_next number (At line) behind = omega arith
-not-before_next number Nowhere behind = tt
+not-before_next : (number : ℕ) (again : Option ℕ) → NotBefore (number + 1) again → NotBefore number again
+not-before_next number (Some line) behind = omega arith
+not-before_next number None behind = tt
 
-key_behind_by : (seen-before : Bool) (number : ℕ) (goes_on : Again) → NotBefore (number + 1) goes_on → NotBefore number (cond seen-before (At number) goes_on)
+key_behind_by : (seen-before : Bool) (number : ℕ) (goes_on : Option ℕ) → NotBefore (number + 1) goes_on → NotBefore number (cond seen-before (Some number) goes_on)
 key_behind_by true number goes_on behind = omega arith
 key_behind_by false number goes_on behind = not-before_next number goes_on behind
 
-key_behind : (key : Key) (seen : List ℕ) (number : ℕ) (goes_on : List ℕ → Again) → ((more : List ℕ) → NotBefore (number + 1) (goes_on more)) → NotBefore number (on_key key seen number goes_on)
-key_behind (Of key) seen number goes_on behind = key_behind_by (is_in key seen) number (goes_on (seen ++ (key ∷ []))) (behind (seen ++ (key ∷ [])))
-key_behind NoKey seen number goes_on behind = not-before_next number (goes_on seen) (behind seen)
+key_behind : (key : Option ℕ) (seen : List ℕ) (number : ℕ) (goes_on : List ℕ → Option ℕ) → ((more : List ℕ) → NotBefore (number + 1) (goes_on more)) → NotBefore number (on_key key seen number goes_on)
+key_behind (Some key) seen number goes_on behind = key_behind_by (is_in key seen) number (goes_on (seen ++ (key ∷ []))) (behind (seen ++ (key ∷ [])))
+key_behind None seen number goes_on behind = not-before_next number (goes_on seen) (behind seen)
 
 again_behind : (seen : List ℕ) (number : ℕ) (pieces : Pieces) → NotBefore number (again_from seen number pieces)
 unfolding again_from
@@ -129,9 +120,9 @@ again_behind seen number (last bytes) = tt
 again_behind seen number (piece bytes others) =
     key_behind (key_of (defined_by (line_of bytes))) seen number (λ (more : List ℕ). again_from more (number + 1) others) (λ more. again_behind more (number + 1) others)
 
-refusal_stands : (number : ℕ) (again : Again) (refusal : Refusal) → refusal_place refusal ≡ number → NotBefore number again → first_of again (Refused refusal) ≡ Refused refusal
-refusal_stands number (At line) refusal at-line behind = rw (le-ltb line (refusal_place refusal) (omega arith))
-refusal_stands number Nowhere refusal at-line behind = refl
+refusal_stands : (number : ℕ) (again : Option ℕ) (refusal : Refusal) → refusal_place refusal ≡ number → NotBefore number again → first_of again (Err refusal) ≡ Err refusal
+refusal_stands number (Some line) refusal at-line behind = rw (le-ltb line (refusal_place refusal) (omega arith))
+refusal_stands number None refusal at-line behind = refl
 
 -- ---- the loop of `read_lines`
 
@@ -206,7 +197,7 @@ kept-often each at words new names more fits parts same =
     rw (front, parts) (omega (arith, how_often-append each (take at words) new, how_often-append each new names))
 
 -- a key that is not there yet is new
-key_turns : (key : Key) (seen keys text : List ℕ) (first number past : ℕ) (line : Line)
+key_turns : (key : Option ℕ) (seen keys text : List ℕ) (first number past : ℕ) (line : Line)
     → key ≡ key_of (defined_by line)
     → first ≤ length text
     → past ≡ first + position_of line_feed (drop first text)
@@ -216,10 +207,10 @@ key_turns : (key : Key) (seen keys text : List ℕ) (first number past : ℕ) (l
     → OnceEach (key_in key ++ keys)
     → again_from seen number (lines_of (drop first text)) ≡ again_from (seen ++ key_in key) (number + 1) (lines_of (drop (past + 1) text))
 unfolding how_often
-key_turns (Of key) seen keys text first number past line defines within found before-end reads same once_each =
+key_turns (Some key) seen keys text first number past line defines within found before-end reads same once_each =
     again-new seen number text first past within found before-end line reads key (sym defines)
     (not_seen key seen (omega (arith, once_each key, once-same key, same key)))
-key_turns NoKey seen keys text first number past line defines within found before-end reads same once_each =
+key_turns None seen keys text first number past line defines within found before-end reads same once_each =
     again-no_key seen number text first past within found before-end line reads (sym defines)
     ∙ ap (λ (more : List ℕ). again_from more (number + 1) (lines_of (drop (past + 1) text))) (sym (append-nil seen))
 
@@ -265,7 +256,7 @@ module _ (text : List ℕ) (first : ℕ) (state : State) (read : Counts) (tags c
 
     module _ (before-end : past ≡ length text → ⊥) (line : Line) (reads : line ≡ line_of (take (past - first) (drop first text)))
         (step : Step) (steps : step ≡ step_of state (read.lines + 1) line) where
-      pub reading-faulty : length text ≤ 65536 → (refusal : Refusal) → step.fault ≡ Faulty refusal → NamesRead text read tags components messages
+      pub reading-faulty : length text ≤ 65536 → (refusal : Refusal) → step.fault ≡ Some refusal → NamesRead text read tags components messages
       reading-faulty few_bytes refusal faulty =
           let refuses = order-faulty text first state read so_far.in_order past found before-end line reads step steps refusal faulty in
           let at-line = step-placed state (read.lines + 1) line refusal (ap (λ (each : Step). each.fault) (sym steps) ∙ faulty) in
@@ -274,7 +265,7 @@ module _ (text : List ℕ) (first : ℕ) (state : State) (read : Counts) (tags c
           (refusal_stands (read.lines + 1) (again_from so_far.names.seen (read.lines + 1) (lines_of (drop first text))) refusal at-line
           (again_behind so_far.names.seen (read.lines + 1) (lines_of (drop first text)))))
 
-      module _ (good : step.fault ≡ NoFault) (next : Counts) (counts-on : next ≡ counted read (defined_by line)) where
+      module _ (good : step.fault ≡ None) (next : Counts) (counts-on : next ≡ counted read (defined_by line)) where
         line-held : Held line
         line-held =
             let usable = (line_of_fits (take (past - first) (drop first text))).0 in
@@ -336,7 +327,7 @@ module _ (text : List ℕ) (first : ℕ) (state : State) (read : Counts) (tags c
             }
 
       -- `defined_by` says what the line defines
-      pub reading-turns : step.fault ≡ NoFault → (defined : Defined) → defined ≡ defined_by line → (next : Counts) → next ≡ counted read defined
+      pub reading-turns : step.fault ≡ None → (defined : Defined) → defined ≡ defined_by line → (next : Counts) → next ≡ counted read defined
           → length text ≤ 65536
           → first < length text
           → (tags-on : List ℕ) → tags-on ≡ sets tags read.tags (tag_in defined)

@@ -4,28 +4,26 @@ ghost use Rattle.std.specs.Prelude.{◌≡◌, ◌≤◌, length};
 ghost use Rattle.std.proofs.lemmas.List.Edits.{sets};
 ghost use Rattle.ascending.specs.Search.{is_strictly_ascending};
 ghost use Rattle.ascending.specs.Sort.{sorted};
-ghost use Rattle.texts.specs.DictionaryText.{counted, at_end, order_of, dictionary_text_of};
+ghost use Rattle.texts.specs.DictionaryText.{counted, order_of, dictionary_text_of};
 ghost use Rattle.definitions.specs.PassAccepted.{tag_in, component_in, message_in};
 ghost use Rattle.read_dictionary.specs.TextCheck.{NamesRoom, NamesRead};
 
 use ascending::search::is_strictly_ascending;
-use dictionary_order::dictionary_order::{
-    BEGINNING, BEHIND_MESSAGE, BEHIND_TRAILER, Fault, NO_BODY, State, take_line,
-};
+use dictionary_order::dictionary_order::{BEGINNING, NO_BODY, State, take_line};
 use line_forms::line::line_of;
 use lines::lines::position_of;
 use refusals::refusal::Refusal;
 use sorting::sort::sort_unstable;
-use texts::dictionary_text::{Counts, Defined, TextOutcome, check_dictionary_text, defined_by};
+use texts::dictionary_text::{Counts, Defined, at_end, check_dictionary_text, defined_by};
 
 // What reading the lines in order gives, and what was counted up to the end or to the line that is refused.
 #[derive(Clone, Copy)]
 pub struct LinesRead {
-    pub outcome: TextOutcome,
+    pub outcome: Result<Counts, Refusal>,
     pub counts: Counts,
 }
 
-// Counts a line, and keeps the name that it defines behind those of its kind.
+// Counts a line, and keeps the name that it defines after those of its kind.
 fn keep_name(
     counts: Counts,
     defined: Defined,
@@ -39,57 +37,34 @@ fn keep_name(
     ensures components { components.new ≡ sets components.old counts.components (component_in defined) }
     ensures messages { messages.new ≡ sets messages.old counts.messages (message_in defined) }
 {
+    let counts = Counts {
+        lines: counts.lines + 1,
+        ..counts
+    };
     match defined {
         Defined::Tag(tag) => {
-            let at = counts.tags as usize;
-            tags[at] = tag;
+            tags[counts.tags as usize] = tag;
             Counts {
-                lines: counts.lines + 1,
                 tags: counts.tags + 1,
-                components: counts.components,
-                messages: counts.messages,
+                ..counts
             }
         }
         Defined::ComponentName(name) => {
-            let at = counts.components as usize;
-            components[at] = name;
+            components[counts.components as usize] = name;
             Counts {
-                lines: counts.lines + 1,
-                tags: counts.tags,
                 components: counts.components + 1,
-                messages: counts.messages,
+                ..counts
             }
         }
         Defined::MessageName(letters) => {
-            let at = counts.messages as usize;
-            messages[at] = letters;
+            messages[counts.messages as usize] = letters;
             Counts {
-                lines: counts.lines + 1,
-                tags: counts.tags,
-                components: counts.components,
                 messages: counts.messages + 1,
+                ..counts
             }
         }
-        Defined::Nothing => Counts {
-            lines: counts.lines + 1,
-            tags: counts.tags,
-            components: counts.components,
-            messages: counts.messages,
-        },
+        Defined::Nothing => counts,
     }
-}
-
-fn at_end(state: State, counts: Counts) -> TextOutcome
-    requires { counts.lines ≤ 65536 }
-    ensures { result ≡ at_end state counts }
-{
-    if state.stage < BEHIND_TRAILER {
-        return TextOutcome::Refused(Refusal::NotAllowed(counts.lines + 1));
-    }
-    if BEHIND_MESSAGE < state.stage {
-        return TextOutcome::Refused(Refusal::NotAllowed(counts.lines + 1));
-    }
-    TextOutcome::Accepted(counts)
 }
 
 // Reads the text from the top, refusals 2 to 4, and keeps the names that its lines define.
@@ -123,27 +98,21 @@ fn read_lines(
         let number = counts.lines + 1;
         if past == text.len() {
             return LinesRead {
-                outcome: TextOutcome::Refused(Refusal::UnknownForm(number)),
+                outcome: Err(Refusal::UnknownForm(number)),
                 counts,
             };
         }
         let line = line_of(&text[first..past]);
         let step = take_line(state, number, line);
-        let fault = step.fault;
-        match fault {
-            Fault::Faulty(refusal) => {
-                return LinesRead {
-                    outcome: TextOutcome::Refused(refusal),
-                    counts,
-                };
-            }
-            Fault::NoFault => {
-                let next = step.next;
-                state = next;
-                counts = keep_name(counts, defined_by(line), tags, components, messages);
-                first = past + 1;
-            }
+        if let Some(refusal) = step.fault {
+            return LinesRead {
+                outcome: Err(refusal),
+                counts,
+            };
         }
+        state = step.next;
+        counts = keep_name(counts, defined_by(line), tags, components, messages);
+        first = past + 1;
     }
     LinesRead {
         outcome: at_end(state, counts),
@@ -160,29 +129,22 @@ fn are_once_each(names: &mut [u32]) -> bool
 }
 
 // Reads a dictionary text: what it has, or its first faulty line. The call's own memory for the names takes 157,296 bytes.
-pub fn check_text(text: &[u8]) -> TextOutcome
+pub fn check_text(text: &[u8]) -> Result<Counts, Refusal>
     ensures outcome { result ≡ dictionary_text_of text.now }
 {
     if 65536 < text.len() {
-        return TextOutcome::Refused(Refusal::TextTooLong);
+        return Err(Refusal::TextTooLong);
     }
     let mut tags = [0u32; 13108];
     let mut components = [0u32; 13108];
     let mut messages = [0u32; 13108];
     let read = read_lines(text, &mut tags, &mut components, &mut messages);
     let counts = read.counts;
-    let tag_count = counts.tags as usize;
-    let component_count = counts.components as usize;
-    let message_count = counts.messages as usize;
-    if !are_once_each(&mut tags[..tag_count]) {
+    if !are_once_each(&mut tags[..counts.tags as usize])
+        || !are_once_each(&mut components[..counts.components as usize])
+        || !are_once_each(&mut messages[..counts.messages as usize])
+    {
         return check_dictionary_text(text);
     }
-    if !are_once_each(&mut components[..component_count]) {
-        return check_dictionary_text(text);
-    }
-    if !are_once_each(&mut messages[..message_count]) {
-        return check_dictionary_text(text);
-    }
-    let outcome = read.outcome;
-    outcome
+    read.outcome
 }

@@ -4,7 +4,7 @@
 --   second_of word, third_of word, fourth_of word    the letters from the second, third, fourth on
 --   number_behind high bytes                       the number that `high` makes with the bytes written behind it, where they are digits
 --   NumberSoFar word high bytes                   the letters before the bytes are digits and make `high`
-use Rattle.std.specs.Prelude.{◌≡◌, ℕ, ◌+◌, ◌*◌, ◌-◌, ◌^◌, ◌<◌, Bool, ◌&&◌, cond, if◌then◌else◌}
+use Rattle.std.specs.Prelude.{◌≡◌, ℕ, ◌+◌, ◌*◌, ◌-◌, ◌^◌, ◌<◌, Bool, ◌&&◌, cond, if◌then◌else◌, Option, Some, None}
 use Rattle.std.proofs.Math.Path.{refl}
 use Rattle.std.proofs.Common.{◌∙◌}
 use Rattle.std.proofs.Math.Bool.{true, false}
@@ -14,8 +14,6 @@ use Rattle.ascii.specs.Notation.{◌<ᵇ◌}
 use Rattle.ascii.specs.NotationLaws.{and-false}
 use Rattle.ascii.specs.Bytes.{non_empty, every}
 use Rattle.ascii.specs.Digits.{is_digit, is_digits, decimal_from}
-use Rattle.lines.specs.declared.line_parts.Number32.{Number32}
-use Rattle.lines.specs.declared.line_parts.Number32.TheVariants.{Number, NoNumber}
 use Rattle.lines.specs.LineParts.{no_leading_zero, number_of, is_alphanumeric}
 use Rattle.records.specs.Records.{byte0, byte1, byte2, byte3, is_zero, holds_byte, holds_part, letters_length, letters_text, holds_letters}
 
@@ -60,8 +58,8 @@ module _ (word : ℕ) where
 
 -- ---- the number that they make
 
-abbrev number_behind : ℕ → List ℕ → Number32
-number_behind high bytes = if every is_digit bytes && decimal_from high bytes <ᵇ 2 ^ 32 then Number (decimal_from high bytes) else NoNumber
+abbrev number_behind : ℕ → List ℕ → Option ℕ
+number_behind high bytes = if every is_digit bytes && decimal_from high bytes <ᵇ 2 ^ 32 then Some (decimal_from high bytes) else None
 
 abbrev pub NumberSoFar : ℕ → ℕ → List ℕ → Type 0
 NumberSoFar word high bytes = number_of (letters_text word) ≡ number_behind high bytes
@@ -72,16 +70,16 @@ unfolding number_of is_digits non_empty every decimal_from
 number_of_first first rest plain digit = rw (plain, digit)
 
 module _ (word : ℕ) where
-  pub number_no_digit : is_digit (byte0 word) ≡ false → number_of (letters_text word) ≡ NoNumber
+  pub number_no_digit : is_digit (byte0 word) ≡ false → number_of (letters_text word) ≡ None
   unfolding number_of is_digits non_empty every
   number_no_digit other = rw (letters_text-parts word, other, and-false (no_leading_zero (byte0 word ∷ second_of word)))
 
-  pub number_leading_zero : (byte1 word ≡ 0 → ⊥) → byte0 word ≡ 48 → number_of (letters_text word) ≡ NoNumber
+  pub number_leading_zero : (byte1 word ≡ 0 → ⊥) → byte0 word ≡ 48 → number_of (letters_text word) ≡ None
   unfolding number_of no_leading_zero
   number_leading_zero more leads = rw (letters_text-parts word, ne_eqb (byte1 word) 0 more, eq-eqb (byte0 word) 48 leads)
 
   module _ (high : ℕ) (digit : is_digit (byte0 word) ≡ true) (same : high ≡ 0 * 10 + (byte0 word - 48)) where
-    pub number_of_one : byte1 word ≡ 0 → high < 2 ^ 32 → number_of (letters_text word) ≡ Number high
+    pub number_of_one : byte1 word ≡ 0 → high < 2 ^ 32 → number_of (letters_text word) ≡ Some high
     unfolding no_leading_zero every decimal_from
     number_of_one ends few =
         let so_far : NumberSoFar word high [] = rw (letters_text-parts word, eq-eqb (byte1 word) 0 ends, same) (number_of_first (byte0 word) [] refl digit) in
@@ -93,17 +91,17 @@ module _ (word : ℕ) where
         rw (letters_text-parts word, ne_eqb (byte1 word) 0 more, same) (number_of_first (byte0 word) (byte1 word ∷ third_of word) (rw (ne_eqb (byte0 word) 48 plain)) digit)
 
   module _ (high byte : ℕ) where
-    pub number_stops : (rest : List ℕ) → NumberSoFar word high (byte ∷ rest) → is_digit byte ≡ false → number_of (letters_text word) ≡ NoNumber
+    pub number_stops : (rest : List ℕ) → NumberSoFar word high (byte ∷ rest) → is_digit byte ≡ false → number_of (letters_text word) ≡ None
     unfolding every
     number_stops rest so_far other = so_far ∙ rw other
 
     module _ (more : ℕ) (digit : is_digit byte ≡ true) (same : more ≡ high * 10 + (byte - 48)) where
-      pub number_of_all : NumberSoFar word high (byte ∷ []) → more < 2 ^ 32 → number_of (letters_text word) ≡ Number more
+      pub number_of_all : NumberSoFar word high (byte ∷ []) → more < 2 ^ 32 → number_of (letters_text word) ≡ Some more
       unfolding every decimal_from
       number_of_all so_far few = so_far ∙ rw (digit, ← same, lt-ltb more (2 ^ 32) few)
 
       module _ (next : ℕ) (behind : List ℕ) (so_far : NumberSoFar word high (byte ∷ cond (is_zero next) [] (next ∷ behind))) where
-        pub number_ends : next ≡ 0 → more < 2 ^ 32 → number_of (letters_text word) ≡ Number more
+        pub number_ends : next ≡ 0 → more < 2 ^ 32 → number_of (letters_text word) ≡ Some more
         number_ends ends few = number_of_all (so_far ∙ rw (eq-eqb next 0 ends)) few
 
         pub number_goes_on : (next ≡ 0 → ⊥) → NumberSoFar word more (next ∷ behind)

@@ -1,14 +1,12 @@
 -- Laws of the lengths of records' lines: a line of a known form is given by its kind, no line has more than 38 bytes (`line_from-few`), and the loop of
 -- `text_length`. Assumes nothing.
-use Rattle.std.specs.Prelude.{◌≡◌, refl, ℕ, zero, suc, ◌+◌, ◌*◌, ◌-◌, ◌≤◌, ◌<◌, Bool, true, false, cond, List, eqb, leb, ltb, length, take, drop}
+use Rattle.std.specs.Prelude.{◌≡◌, refl, ℕ, zero, suc, ◌+◌, ◌*◌, ◌-◌, ◌≤◌, ◌<◌, Bool, true, false, cond, List, eqb, leb, ltb, length, take, drop, Some, None}
 use Rattle.std.proofs.Common.{sym, ap, ◌∙◌, length-take, length-drop, drop-drop}
 use Rattle.std.proofs.lemmas.Bool.{false≢true}
 use native.Mathlib.Omega.{arith}
 use Rattle.std.proofs.Math.ListN.{get_or}
 use Rattle.line_forms.specs.declared.line.Line.{Line}
 use Rattle.line_forms.specs.declared.line.Line.TheVariants.{Def, Value, BeginHeader, BeginTrailer, EndHeader, EndTrailer, Component, Message, Field, Group, Use, End, Unknown}
-use Rattle.lines.specs.declared.line_parts.Number32.TheVariants.{Number}
-use Rattle.lines.specs.declared.line_parts.MessageType.TheVariants.{Letters, NoLetters}
 use Rattle.lines.specs.LineParts.{number_of}
 use Rattle.records.specs.Records.{letters_text, holds_letters, holds_value, is_unused, admitted_from, def_from, value_from, message_from, field_from, group_from, use_from, end_of_letters, end_of_number, outer_from, body_from, line_from, lines_from}
 use Rattle.records.specs.KnownLines.{is_known, AreKnown}
@@ -82,12 +80,12 @@ module _ (words : List ℕ) (known : is_known (line_from words) ≡ true) where
   pub known-end_trailer : get_or words 0 0 ≡ 11 → line_from words ≡ EndTrailer
   known-end_trailer kind = let line = line_from-kind words 11 kind in sym line ∙ known-one (is_unused 1 words) _ (rw (← line) at known)
 
-  pub known-end_letters : get_or words 0 0 ≡ 12 → line_from words ≡ End (number_of (letters_text (get_or words 1 0))) (Letters (get_or words 1 0))
+  pub known-end_letters : get_or words 0 0 ≡ 12 → line_from words ≡ End (number_of (letters_text (get_or words 1 0))) (Some (get_or words 1 0))
   known-end_letters kind =
       let line = line_from-kind words 12 kind in
       sym line ∙ known_two (holds_letters (get_or words 1 0)) (is_unused 2 words) _ (rw (← line) at known)
 
-  pub known-end_number : get_or words 0 0 ≡ 13 → line_from words ≡ End (Number (get_or words 1 0)) NoLetters
+  pub known-end_number : get_or words 0 0 ≡ 13 → line_from words ≡ End (Some (get_or words 1 0)) None
   known-end_number kind =
       let line = line_from-kind words 13 kind in
       sym line ∙ known_two (leb 10000 (get_or words 1 0)) (is_unused 2 words) _ (rw (← line) at known)
@@ -157,11 +155,11 @@ module _ (words : List ℕ) (ten : length words ≡ 10) where
   unfolding length_of
   component-few = omega (arith, digit_count-few first_word)
 
-  letters-few : Few (End (number_of (letters_text first_word)) (Letters first_word))
+  letters-few : Few (End (number_of (letters_text first_word)) (Some first_word))
   unfolding length_of
   letters-few = omega (arith, letters_length-range first_word)
 
-  number_few : Few (End (Number first_word) NoLetters)
+  number_few : Few (End (Some first_word) None)
   unfolding length_of
   number_few = omega (arith, digit_count-few first_word)
 

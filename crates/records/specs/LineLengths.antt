@@ -4,14 +4,10 @@
 --   reaches bound n     1 where the number is at least the bound
 --   length_of line       how many bytes the line has, without its line feed
 --   text_length lines    how many bytes the text of these lines has
-use Rattle.std.specs.Prelude.{ℕ, zero, suc, ◌+◌, ◌*◌, Bool, true, false, List, [], ◌∷◌, get_or, if◌then◌else◌}
+use Rattle.std.specs.Prelude.{ℕ, zero, suc, ◌+◌, ◌*◌, Bool, true, false, List, [], ◌∷◌, get_or, if◌then◌else◌, Option, Some, None}
 use Rattle.ascii.specs.Notation.{◌<ᵇ◌}
 use Rattle.line_forms.specs.declared.line.Line.{Line}
 use Rattle.line_forms.specs.declared.line.Line.TheVariants.{Def, Value, BeginHeader, BeginTrailer, EndHeader, EndTrailer, Component, Message, Field, Group, Use, End, Member, RequiredTag, Unknown}
-use Rattle.lines.specs.declared.line_parts.Number32.{Number32}
-use Rattle.lines.specs.declared.line_parts.Number32.TheVariants.{Number, NoNumber}
-use Rattle.lines.specs.declared.line_parts.MessageType.{MessageType}
-use Rattle.lines.specs.declared.line_parts.MessageType.TheVariants.{Letters, NoLetters}
 use Rattle.records.specs.Records.{letters_length}
 
 -- where numbers below `bound` have one digit, those below 10 * bound two, and so on up to `digits`
@@ -35,10 +31,10 @@ abbrev pub app_length : Bool → ℕ
 app_length true = 3
 app_length false = 5
 
-abbrev pub end_length : Number32 → MessageType → ℕ
-end_length read_number (Letters letters) = 4 + letters_length letters
-end_length (Number number) NoLetters = 4 + digit_count number
-end_length NoNumber NoLetters = 0
+abbrev pub end_length : Option ℕ → Option ℕ → ℕ
+end_length read_number (Some letters) = 4 + letters_length letters
+end_length (Some number) None = 4 + digit_count number
+end_length None None = 0
 
 unfoldable pub length_of : Line → ℕ
 length_of (Def tag place) = 5 + digit_count tag + get_or type_lengths place 0

@@ -1,6 +1,6 @@
 -- What the parts of a line are read as (lines, `LineParts.antt`), against what a record holds: a number has 32 bits and at least as many digits as `digit_count`,
 -- a TYPE is one of 34 and as long as its name, a T is `letters_text` of its word, a V fills its words. Assumes nothing.
-use Rattle.std.specs.Prelude.{◌≡◌, refl, ℕ, zero, suc, ◌+◌, ◌*◌, ◌-◌, ◌^◌, ◌≤◌, ◌<◌, Bool, true, false, ◌&&◌, not, cond, List, [], ◌∷◌, ◌++◌, ltb, eqb, length, get_or, take, drop}
+use Rattle.std.specs.Prelude.{◌≡◌, refl, ℕ, zero, suc, ◌+◌, ◌*◌, ◌-◌, ◌^◌, ◌≤◌, ◌<◌, Bool, true, false, ◌&&◌, not, cond, List, [], ◌∷◌, ◌++◌, ltb, eqb, length, get_or, take, drop, Option, Some, None}
 use Rattle.std.proofs.Common.{sym, ap, ◌∙◌, arith, length-drop, take-append-drop, length-take-le, drop-drop, get_or-drop, lt-ltb, ltb-true, ltb-false, eq-eqb, ne_eqb, eqb-true}
 use Rattle.std.proofs.lemmas.Bool.{false≢true, eqb-false}
 use Rattle.ascii.specs.Notation.{is_between}
@@ -8,17 +8,7 @@ use Rattle.ascii.specs.NotationLaws.{and_left, and_right, is_between-range}
 use Rattle.ascii.specs.Bytes.{non_empty, every}
 use Rattle.ascii.specs.Digits.{is_digit, is_digits, decimal_from, decimal}
 use Rattle.ascii.specs.DigitsLaws.{is_digit-range, decimal_from-grows}
-use Rattle.lines.specs.declared.line_parts.Number32.{Number32}
-use Rattle.lines.specs.declared.line_parts.Number32.TheVariants.{Number, NoNumber}
-use Rattle.lines.specs.declared.line_parts.Flag.{Flag}
-use Rattle.lines.specs.declared.line_parts.Flag.TheVariants.{Required, Optional, NoFlag}
-use Rattle.lines.specs.declared.line_parts.TypeName.{TypeName}
-use Rattle.lines.specs.declared.line_parts.TypeName.TheVariants.{TypeAt, NoType}
-use Rattle.lines.specs.declared.line_parts.MessageType.{MessageType}
-use Rattle.lines.specs.declared.line_parts.MessageType.TheVariants.{Letters, NoLetters}
 use Rattle.lines.specs.declared.line_parts.Admitted.{Admitted}
-use Rattle.lines.specs.declared.line_parts.ValueText.{ValueText}
-use Rattle.lines.specs.declared.line_parts.ValueText.TheVariants.{Bytes, NoBytes}
 use Rattle.lines.specs.Lines.{position_of, before, behind, is_same, Pieces, last, piece, longer, cut, comma}
 use Rattle.lines.specs.LinesLaws.{position_of_within}
 use Rattle.lines.specs.LineParts.{no_leading_zero, number_of, flag_of, type_names, type_in, type_of, word_at, is_alphanumeric, message_type_of, is_visible, admitted_bytes, value_of}
@@ -58,14 +48,14 @@ decimal-count (byte ∷ rest) digits =
     digit_count_from-few 10 10 (decimal (byte ∷ rest)) (length rest) (decimal_from-below (byte ∷ rest) 0 1 digits (omega arith))
 
 -- what was read from so many bytes
-abbrev pub NumberFits : ℕ → Number32 → Type 0
-NumberFits len (Number n) = (n < 2 ^ 32) × (digit_count n ≤ len)
-NumberFits len NoNumber = Unit
+abbrev pub NumberFits : ℕ → Option ℕ → Type 0
+NumberFits len (Some n) = (n < 2 ^ 32) × (digit_count n ≤ len)
+NumberFits len None = Unit
 
 number_by : (bytes : List ℕ) (plain digits small : Bool)
     → is_digits bytes ≡ digits
     → ltb (decimal bytes) (2 ^ 32) ≡ small
-    → NumberFits (length bytes) (cond (plain && (digits && small)) (Number (decimal bytes)) NoNumber)
+    → NumberFits (length bytes) (cond (plain && (digits && small)) (Some (decimal bytes)) None)
 number_by bytes true true true digits small = (ltb-true (decimal bytes) (2 ^ 32) small, decimal-count bytes digits)
 number_by bytes true true false digits small = tt
 number_by bytes true false small' digits small = tt
@@ -92,15 +82,15 @@ five-digits (a ∷ b ∷ c ∷ d ∷ e ∷ rest) plain digits long =
     not-true true never = absurd (false≢true never)
     not-true false holds = refl
 
-abbrev pub LargeNumber : Number32 → Type 0
-LargeNumber (Number n) = 10000 ≤ n
-LargeNumber NoNumber = Unit
+abbrev pub LargeNumber : Option ℕ → Type 0
+LargeNumber (Some n) = 10000 ≤ n
+LargeNumber None = Unit
 
 large_by : (bytes : List ℕ) (plain digits small : Bool)
     → no_leading_zero bytes ≡ plain
     → is_digits bytes ≡ digits
     → 5 ≤ length bytes
-    → LargeNumber (cond (plain && (digits && small)) (Number (decimal bytes)) NoNumber)
+    → LargeNumber (cond (plain && (digits && small)) (Some (decimal bytes)) None)
 large_by bytes true true true plain digits long = five-digits bytes plain digits long
 large_by bytes true true false plain digits long = tt
 large_by bytes true false small plain digits long = tt
@@ -112,12 +102,12 @@ number_of_large bytes long = large_by bytes (no_leading_zero bytes) (is_digits b
 
 -- ---- flags
 
-abbrev pub FlagFits : ℕ → Flag → Type 0
-FlagFits len Required = len ≡ 1
-FlagFits len Optional = len ≡ 1
-FlagFits len NoFlag = Unit
+abbrev pub FlagFits : ℕ → Option Bool → Type 0
+FlagFits len (Some true) = len ≡ 1
+FlagFits len (Some false) = len ≡ 1
+FlagFits len None = Unit
 
-flag_by : (one zero_flag : Bool) → FlagFits 1 (cond one Required (cond zero_flag Optional NoFlag))
+flag_by : (one zero_flag : Bool) → FlagFits 1 (cond one (Some true) (cond zero_flag (Some false) None))
 flag_by true zero_flag = refl
 flag_by false true = refl
 flag_by false false = tt
@@ -143,30 +133,30 @@ abbrev piece_count : Pieces → ℕ
 piece_count (last bytes) = 1
 piece_count (piece bytes others) = suc (piece_count others)
 
-abbrev TypeIn : List ℕ → ℕ → Pieces → TypeName → Type 0
-TypeIn name number pieces (TypeAt place) = (number ≤ place) × ((place < number + piece_count pieces) × (length name ≡ length (name_at (place - number) pieces)))
-TypeIn name number pieces NoType = Unit
+abbrev TypeIn : List ℕ → ℕ → Pieces → Option ℕ → Type 0
+TypeIn name number pieces (Some place) = (number ≤ place) × ((place < number + piece_count pieces) × (length name ≡ length (name_at (place - number) pieces)))
+TypeIn name number pieces None = Unit
 
 pub same_length : (name bytes : List ℕ) → is_same name bytes ≡ true → length name ≡ length bytes
 unfolding is_same
 same_length name bytes same = eqb-true (length name) (length bytes) (and_left (eqb (length name) (length bytes)) _ same)
 
-type-last_by : (name bytes : List ℕ) (number : ℕ) (same : Bool) → is_same name bytes ≡ same → TypeIn name number (last bytes) (cond same (TypeAt number) NoType)
+type-last_by : (name bytes : List ℕ) (number : ℕ) (same : Bool) → is_same name bytes ≡ same → TypeIn name number (last bytes) (cond same (Some number) None)
 unfolding name_at
 type-last_by name bytes number true test = (omega arith, (omega arith, let none : number - number ≡ 0 = omega arith in rw none (same_length name bytes test)))
 type-last_by name bytes number false test = tt
 
-type-later : (name bytes : List ℕ) (number : ℕ) (others : Pieces) (found : TypeName) → TypeIn name (number + 1) others found → TypeIn name number (piece bytes others) found
+type-later : (name bytes : List ℕ) (number : ℕ) (others : Pieces) (found : Option ℕ) → TypeIn name (number + 1) others found → TypeIn name number (piece bytes others) found
 unfolding name_at
-type-later name bytes number others (TypeAt place) later =
+type-later name bytes number others (Some place) later =
     let next : place - number ≡ suc (place - (number + 1)) = omega (arith, later.0) in
     (omega (arith, later.0), (omega (arith, later.1.0), rw next later.1.1))
-type-later name bytes number others NoType later = tt
+type-later name bytes number others None later = tt
 
 type-piece_by : (name bytes : List ℕ) (number : ℕ) (others : Pieces) (same : Bool)
     → is_same name bytes ≡ same
     → TypeIn name (number + 1) others (type_in name (number + 1) others)
-    → TypeIn name number (piece bytes others) (cond same (TypeAt number) (type_in name (number + 1) others))
+    → TypeIn name number (piece bytes others) (cond same (Some number) (type_in name (number + 1) others))
 unfolding name_at
 type-piece_by name bytes number others true test later =
     (omega arith, (omega arith, let none : number - number ≡ 0 = omega arith in rw none (same_length name bytes test)))
@@ -177,22 +167,22 @@ unfolding type_in
 type_in-in name number (last bytes) = type-last_by name bytes number (is_same name bytes) refl
 type_in-in name number (piece bytes others) = type-piece_by name bytes number others (is_same name bytes) refl (type_in-in name (number + 1) others)
 
-abbrev pub TypeFits : ℕ → TypeName → Type 0
-TypeFits len (TypeAt place) = (place < 34) × (get_or type_lengths place 0 ≡ len)
-TypeFits len NoType = Unit
+abbrev pub TypeFits : ℕ → Option ℕ → Type 0
+TypeFits len (Some place) = (place < 34) × (get_or type_lengths place 0 ≡ len)
+TypeFits len None = Unit
 
 type-count : piece_count (cut comma type_names) ≡ 34
 unfolding longer cut
 type-count = refl
 
-type-fits_by : (name : List ℕ) (found : TypeName) → TypeIn name 0 (cut comma type_names) found → TypeFits (length name) found
+type-fits_by : (name : List ℕ) (found : Option ℕ) → TypeIn name 0 (cut comma type_names) found → TypeFits (length name) found
 unfolding type_text
-type-fits_by name (TypeAt place) found =
+type-fits_by name (Some place) found =
     let few : place < 34 = omega (arith, found.1.0, type-count) in
     let same : place - 0 ≡ place = omega arith in
     let named : length name ≡ length (name_at place (cut comma type_names)) = rw same at found.1.1 in
     (few, sym (type_text-length place few) ∙ sym named)
-type-fits_by name NoType found = tt
+type-fits_by name None found = tt
 
 pub type_of_fits : (name : List ℕ) → TypeFits (length name) (type_of name)
 unfolding type_of
@@ -214,11 +204,11 @@ module _ (a b c d : ℕ) (small-a : a < 256) (small_b : b < 256) (small-c : c < 
   word-byte3 : byte3 (a * 16777216 + b * 65536 + c * 256 + d) ≡ d
   word-byte3 = omega arith
 
-abbrev pub LettersFit : List ℕ → MessageType → Type 0
-LettersFit bytes (Letters letters) = (holds_letters letters ≡ true) × (letters_text letters ≡ bytes)
-LettersFit bytes NoLetters = Unit
+abbrev pub LettersFit : List ℕ → Option ℕ → Type 0
+LettersFit bytes (Some letters) = (holds_letters letters ≡ true) × (letters_text letters ≡ bytes)
+LettersFit bytes None = Unit
 
-letters-fit : (bytes : List ℕ) → 1 ≤ length bytes → length bytes ≤ 4 → every is_alphanumeric bytes ≡ true → LettersFit bytes (Letters (word_at 0 bytes))
+letters-fit : (bytes : List ℕ) → 1 ≤ length bytes → length bytes ≤ 4 → every is_alphanumeric bytes ≡ true → LettersFit bytes (Some (word_at 0 bytes))
 unfolding every word_at holds_letters holds_part holds_byte letters_length letters_text
 letters-fit [] some few letters = absurd (omega arith)
 letters-fit (a ∷ []) some few letters =
@@ -281,7 +271,7 @@ letters-fit (a ∷ b ∷ c ∷ d ∷ e ∷ rest) some few letters = absurd (omeg
 letters-by : (bytes : List ℕ) (range letters : Bool)
     → is_between 1 4 (length bytes) ≡ range
     → every is_alphanumeric bytes ≡ letters
-    → LettersFit bytes (cond (range && letters) (Letters (word_at 0 bytes)) NoLetters)
+    → LettersFit bytes (cond (range && letters) (Some (word_at 0 bytes)) None)
 letters-by bytes true true range letters = let between = is_between-range 1 4 (length bytes) range in letters-fit bytes between.0 between.1 letters
 letters-by bytes true false range letters = tt
 letters-by bytes false letters' range letters = tt
@@ -407,14 +397,14 @@ eight_words bytes =
       word_at_drop 28 bytes,
     )
 
-abbrev pub ValueFits : ℕ → ValueText → Type 0
-ValueFits len (Bytes value) = (1 ≤ value.len) × ((holds_value value.len (value_words value) ≡ true) × (value.len ≡ len))
-ValueFits len NoBytes = Unit
+abbrev pub ValueFits : ℕ → Option Admitted → Type 0
+ValueFits len (Some value) = (1 ≤ value.len) × ((holds_value value.len (value_words value) ≡ true) × (value.len ≡ len))
+ValueFits len None = Unit
 
 value-by : (bytes : List ℕ) (range visible : Bool)
     → is_between 1 32 (length bytes) ≡ range
     → every is_visible bytes ≡ visible
-    → ValueFits (length bytes) (cond (range && visible) (Bytes (admitted_bytes bytes)) NoBytes)
+    → ValueFits (length bytes) (cond (range && visible) (Some (admitted_bytes bytes)) None)
 value-by bytes true true range visible =
     let between = is_between-range 1 32 (length bytes) range in
     (between.0, (ap (holds_value (length bytes)) (eight_words bytes) ∙ holds-words 8 bytes visible (omega arith), refl))
@@ -479,7 +469,7 @@ bytes_back (suc count) bytes visible few =
 back_by : (bytes : List ℕ) (value : Admitted) (range visible : Bool)
     → is_between 1 32 (length bytes) ≡ range
     → every is_visible bytes ≡ visible
-    → cond (range && visible) (Bytes (admitted_bytes bytes)) NoBytes ≡ Bytes value
+    → cond (range && visible) (Some (admitted_bytes bytes)) None ≡ Some value
     → value_text value ≡ bytes
 unfolding value_text
 back_by bytes value true true range visible there =
@@ -489,6 +479,6 @@ back_by bytes value true true range visible there =
 back_by bytes value true false range visible there = let never : ◌≡◌ {A = ℕ} 0 1 = cc in absurd (omega arith)
 back_by bytes value false other range visible there = let never : ◌≡◌ {A = ℕ} 0 1 = cc in absurd (omega arith)
 
-pub value_text-value_of : (bytes : List ℕ) (value : Admitted) → value_of bytes ≡ Bytes value → value_text value ≡ bytes
+pub value_text-value_of : (bytes : List ℕ) (value : Admitted) → value_of bytes ≡ Some value → value_text value ≡ bytes
 unfolding value_of
 value_text-value_of bytes value there = back_by bytes value (is_between 1 32 (length bytes)) (every is_visible bytes) refl refl there

@@ -3,7 +3,7 @@
 --
 --   Usable line      a record can hold the line, if a dictionary text knows its form
 --   Fits len line    .., and the line has at most so many bytes
-use Rattle.std.specs.Prelude.{◌≡◌, refl, ℕ, zero, suc, ◌+◌, ◌-◌, ◌^◌, ◌≤◌, ◌<◌, Bool, ◌&&◌, cond, List, [], ◌∷◌, leb, ltb, get_or, drop}
+use Rattle.std.specs.Prelude.{◌≡◌, refl, ℕ, zero, suc, ◌+◌, ◌-◌, ◌^◌, ◌≤◌, ◌<◌, Bool, ◌&&◌, cond, List, [], ◌∷◌, leb, ltb, get_or, drop, Option, Some, None}
 use Rattle.std.proofs.Common.{sym, ◌∙◌, arith, length-drop, leb-true, leb-false}
 use Rattle.std.proofs.Math.Path.{ap}
 use Rattle.std.proofs.Math.Bool.{true, false}
@@ -14,16 +14,6 @@ use Rattle.ascii.specs.Bytes.{ascii, non_empty, every}
 use Rattle.ascii.specs.Digits.{is_digit, is_digits, decimal}
 use Rattle.line_forms.specs.declared.line.Line.{Line}
 use Rattle.line_forms.specs.declared.line.Line.TheVariants.{Def, Value, BeginHeader, BeginTrailer, EndHeader, EndTrailer, Component, Message, Field, Group, Use, End, Member, RequiredTag, Unknown}
-use Rattle.lines.specs.declared.line_parts.Number32.{Number32}
-use Rattle.lines.specs.declared.line_parts.Number32.TheVariants.{Number, NoNumber}
-use Rattle.lines.specs.declared.line_parts.Flag.{Flag}
-use Rattle.lines.specs.declared.line_parts.Flag.TheVariants.{Required, Optional, NoFlag}
-use Rattle.lines.specs.declared.line_parts.TypeName.{TypeName}
-use Rattle.lines.specs.declared.line_parts.TypeName.TheVariants.{TypeAt, NoType}
-use Rattle.lines.specs.declared.line_parts.MessageType.{MessageType}
-use Rattle.lines.specs.declared.line_parts.MessageType.TheVariants.{Letters, NoLetters}
-use Rattle.lines.specs.declared.line_parts.ValueText.{ValueText}
-use Rattle.lines.specs.declared.line_parts.ValueText.TheVariants.{Bytes, NoBytes}
 use Rattle.lines.specs.Lines.{before, behind, starts_with, is_same, comma}
 use Rattle.lines.specs.LinesLaws.{starts_with_length}
 use Rattle.lines.specs.LineParts.{no_leading_zero, number_of, flag_of, type_of, is_alphanumeric, message_type_of, value_of}
@@ -34,6 +24,7 @@ use Rattle.records.specs.LineLengths.{type_lengths, length_of}
 use Rattle.records.specs.NumeralLaws.{every-weaker}
 use Rattle.records.specs.WordTextLaws.{letters_text-length}
 use Rattle.records.specs.LinePartReadLaws.{NumberFits, number_of_fits, number_of_large, FlagFits, flag_of-fits, parts-length, same_length, TypeFits, type_of_fits, LettersFit, message_type_of-fits, ValueFits, value_of_fits}
+use Rattle.lines.specs.declared.line_parts.Admitted.{Admitted}
 
 abbrev pub Usable : Line → Type 0
 Usable (Def tag place) = Held (Def tag place)
@@ -75,96 +66,96 @@ type-some : (place : ℕ) → place < 34 → 1 ≤ get_or type_lengths place 0
 type-some place few = leb-true 1 (get_or type_lengths place 0) (each_at (λ len. leb 1 len) type_lengths place lengths_some few)
 
 module _ (rest : List ℕ) where
-  def_fits : (number : Number32) (name : TypeName)
+  def_fits : (number : Option ℕ) (name : Option ℕ)
       → NumberFits (length (before comma rest)) number
       → TypeFits (length (behind comma rest)) name
       → Fits (4 + length rest) (def_with number name)
   unfolding length_of
-  def_fits (Number n) (TypeAt place) number name =
+  def_fits (Some n) (Some place) number name =
       let some = type-some place name.0 in
       ((number.0, name.0), omega (arith, parts-length rest (omega (arith, name.1)), number.1, name.1))
-  def_fits (Number n) NoType number name = no_form (4 + length rest)
-  def_fits NoNumber name number name' = no_form (4 + length rest)
+  def_fits (Some n) None number name = no_form (4 + length rest)
+  def_fits None name number name' = no_form (4 + length rest)
 
-  field_fits : (number : Number32) (flag : Flag)
+  field_fits : (number : Option ℕ) (flag : Option Bool)
       → NumberFits (length (before comma rest)) number
       → FlagFits (length (behind comma rest)) flag
       → Fits (6 + length rest) (field_with number flag)
   unfolding length_of
-  field_fits (Number n) Required number flag = (number.0, omega (arith, parts-length rest (omega arith), number.1, flag))
-  field_fits (Number n) Optional number flag = (number.0, omega (arith, parts-length rest (omega arith), number.1, flag))
-  field_fits (Number n) NoFlag number flag = no_form (6 + length rest)
-  field_fits NoNumber flag number flag' = no_form (6 + length rest)
+  field_fits (Some n) (Some true) number flag = (number.0, omega (arith, parts-length rest (omega arith), number.1, flag))
+  field_fits (Some n) (Some false) number flag = (number.0, omega (arith, parts-length rest (omega arith), number.1, flag))
+  field_fits (Some n) None number flag = no_form (6 + length rest)
+  field_fits None flag number flag' = no_form (6 + length rest)
 
-  use_fits : (number : Number32) (flag : Flag)
+  use_fits : (number : Option ℕ) (flag : Option Bool)
       → NumberFits (length (before comma rest)) number
       → FlagFits (length (behind comma rest)) flag
       → Fits (4 + length rest) (use_with number flag)
   unfolding length_of
-  use_fits (Number n) Required number flag = (number.0, omega (arith, parts-length rest (omega arith), number.1, flag))
-  use_fits (Number n) Optional number flag = (number.0, omega (arith, parts-length rest (omega arith), number.1, flag))
-  use_fits (Number n) NoFlag number flag = no_form (4 + length rest)
-  use_fits NoNumber flag number flag' = no_form (4 + length rest)
+  use_fits (Some n) (Some true) number flag = (number.0, omega (arith, parts-length rest (omega arith), number.1, flag))
+  use_fits (Some n) (Some false) number flag = (number.0, omega (arith, parts-length rest (omega arith), number.1, flag))
+  use_fits (Some n) None number flag = no_form (4 + length rest)
+  use_fits None flag number flag' = no_form (4 + length rest)
 
-  group-fits : (count delimiter : Number32) (flag : Flag)
+  group-fits : (count delimiter : Option ℕ) (flag : Option Bool)
       → NumberFits (length (before comma rest)) count
       → NumberFits (length (before comma (behind comma rest))) delimiter
       → FlagFits (length (behind comma (behind comma rest))) flag
       → Fits (6 + length rest) (group_with count delimiter flag)
   unfolding length_of
-  group-fits (Number n) (Number d) Required count delimiter flag =
+  group-fits (Some n) (Some d) (Some true) count delimiter flag =
       let inner = parts-length (behind comma rest) (omega arith) in
       ((count.0, delimiter.0), omega (arith, parts-length rest (omega arith), count.1, delimiter.1))
-  group-fits (Number n) (Number d) Optional count delimiter flag =
+  group-fits (Some n) (Some d) (Some false) count delimiter flag =
       let inner = parts-length (behind comma rest) (omega arith) in
       ((count.0, delimiter.0), omega (arith, parts-length rest (omega arith), count.1, delimiter.1))
-  group-fits (Number n) (Number d) NoFlag count delimiter flag = no_form (6 + length rest)
-  group-fits (Number n) NoNumber flag count delimiter flag' = no_form (6 + length rest)
-  group-fits NoNumber delimiter flag count delimiter' flag' = no_form (6 + length rest)
+  group-fits (Some n) (Some d) None count delimiter flag = no_form (6 + length rest)
+  group-fits (Some n) None flag count delimiter flag' = no_form (6 + length rest)
+  group-fits None delimiter flag count delimiter' flag' = no_form (6 + length rest)
 
-  value-fits : (value : ValueText) → ValueFits (length rest) value → Fits (6 + length rest) (value_with value)
+  value-fits : (value : Option Admitted) → ValueFits (length rest) value → Fits (6 + length rest) (value_with value)
   unfolding length_of
-  value-fits (Bytes value) fits = ((fits.0, fits.1.0), omega (arith, fits.1.1))
-  value-fits NoBytes fits = no_form (6 + length rest)
+  value-fits (Some value) fits = ((fits.0, fits.1.0), omega (arith, fits.1.1))
+  value-fits None fits = no_form (6 + length rest)
 
-  component-fits : (number : Number32) → NumberFits (length rest) number → Fits (10 + length rest) (component_with number)
+  component-fits : (number : Option ℕ) → NumberFits (length rest) number → Fits (10 + length rest) (component_with number)
   unfolding length_of
-  component-fits (Number n) number = (number.0, omega (arith, number.1))
-  component-fits NoNumber number = no_form (10 + length rest)
+  component-fits (Some n) number = (number.0, omega (arith, number.1))
+  component-fits None number = no_form (10 + length rest)
 
-  member-fits : (number : Number32) → Fits (7 + length rest) (member_with number)
+  member-fits : (number : Option ℕ) → Fits (7 + length rest) (member_with number)
   unfolding length_of
-  member-fits (Number n) = (tt, omega arith)
-  member-fits NoNumber = no_form (7 + length rest)
+  member-fits (Some n) = (tt, omega arith)
+  member-fits None = no_form (7 + length rest)
 
-  required-fits : (number : Number32) → Fits (9 + length rest) (required_with number)
+  required-fits : (number : Option ℕ) → Fits (9 + length rest) (required_with number)
   unfolding length_of
-  required-fits (Number n) = (tt, omega arith)
-  required-fits NoNumber = no_form (9 + length rest)
+  required-fits (Some n) = (tt, omega arith)
+  required-fits None = no_form (9 + length rest)
 
-  message-fits : (letters : MessageType) (app : Bool)
+  message-fits : (letters : Option ℕ) (app : Bool)
       → LettersFit (before comma rest) letters
       → cond app 3 5 ≡ length (behind comma rest)
       → Fits (8 + length rest) (message_with letters app)
   unfolding length_of
-  message-fits (Letters letters) true fits kind =
+  message-fits (Some letters) true fits kind =
       let len = letters_text-length letters in
       let same = ap length fits.1 in
       (fits.0, omega (arith, parts-length rest (omega (arith, kind))))
-  message-fits (Letters letters) false fits kind =
+  message-fits (Some letters) false fits kind =
       let len = letters_text-length letters in
       let same = ap length fits.1 in
       (fits.0, omega (arith, parts-length rest (omega (arith, kind))))
-  message-fits NoLetters app fits kind = no_form (8 + length rest)
+  message-fits None app fits kind = no_form (8 + length rest)
 
 -- ---- an end line
 
-digits-by : (n : ℕ) (digit-bytes : ℕ) (plain digits small : Bool) → cond (plain && (digits && small)) (Number digit-bytes) NoNumber ≡ Number n → digits ≡ true
+digits-by : (n : ℕ) (digit-bytes : ℕ) (plain digits small : Bool) → cond (plain && (digits && small)) (Some digit-bytes) None ≡ Some n → digits ≡ true
 digits-by n digit-bytes true true small same = refl
 digits-by n digit-bytes true false small same = let never : ◌≡◌ {A = ℕ} 0 1 = cc in absurd (omega arith)
 digits-by n digit-bytes false digits small same = let never : ◌≡◌ {A = ℕ} 0 1 = cc in absurd (omega arith)
 
-number_digits : (rest : List ℕ) (n : ℕ) → number_of rest ≡ Number n → is_digits rest ≡ true
+number_digits : (rest : List ℕ) (n : ℕ) → number_of rest ≡ Some n → is_digits rest ≡ true
 unfolding number_of
 number_digits rest n same = digits-by n (decimal rest) (no_leading_zero rest) (is_digits rest) (ltb (decimal rest) (2 ^ 32)) same
 
@@ -173,7 +164,7 @@ unfolding non_empty
 some-length [] some = absurd (false≢true some)
 some-length (byte ∷ rest) some = omega arith
 
-long_by : (rest : List ℕ) (n : ℕ) (long : Bool) → leb 5 (length rest) ≡ long → is_digits rest ≡ true → message_type_of rest ≡ NoLetters → 5 ≤ length rest
+long_by : (rest : List ℕ) (n : ℕ) (long : Bool) → leb 5 (length rest) ≡ long → is_digits rest ≡ true → message_type_of rest ≡ None → 5 ≤ length rest
 unfolding is_digits
 long_by rest n true test digits none = leb-true 5 (length rest) test
 long_by rest n false test digits none =
@@ -183,26 +174,26 @@ long_by rest n false test digits none =
     let never : ◌≡◌ {A = ℕ} 0 1 = cc in
     absurd (omega arith)
 
-end_fits : (rest : List ℕ) (number : Number32) (letters : MessageType)
+end_fits : (rest : List ℕ) (number : Option ℕ) (letters : Option ℕ)
     → number_of rest ≡ number
     → message_type_of rest ≡ letters
     → NumberFits (length rest) number
     → LettersFit rest letters
     → Fits (4 + length rest) (end_with number letters)
 unfolding length_of
-end_fits rest (Number n) (Letters letters) read named fits held =
+end_fits rest (Some n) (Some letters) read named fits held =
     let len = letters_text-length letters in
     let same = ap length held.1 in
     ((held.0, sym read ∙ ap number_of (sym held.1)), omega arith)
-end_fits rest (Number n) NoLetters read named fits held =
+end_fits rest (Some n) None read named fits held =
     let long = long_by rest n (leb 5 (length rest)) refl (number_digits rest n read) named in
     let large : 10000 ≤ n = rw read at (number_of_large rest long) in
     ((large, fits.0), omega (arith, fits.1))
-end_fits rest NoNumber (Letters letters) read named fits held =
+end_fits rest None (Some letters) read named fits held =
     let len = letters_text-length letters in
     let same = ap length held.1 in
     ((held.0, sym read ∙ ap number_of (sym held.1)), omega arith)
-end_fits rest NoNumber NoLetters read named fits held = no_form (4 + length rest)
+end_fits rest None None read named fits held = no_form (4 + length rest)
 
 -- ---- a line
 

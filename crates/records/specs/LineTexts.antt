@@ -6,16 +6,12 @@
 --   type_text place      the name of `FieldType` at this place
 --   bytes_from left words   the first `left` bytes of the words
 --   text_of line         the bytes of the line, without its line feed
-use Rattle.std.specs.Prelude.{ℕ, zero, suc, ◌+◌, ◌*◌, ◌-◌, ◌/◌, ◌%◌, Bool, true, false, List, [], ◌∷◌, ◌++◌, take, if◌then◌else◌}
+use Rattle.std.specs.Prelude.{ℕ, zero, suc, ◌+◌, ◌*◌, ◌-◌, ◌/◌, ◌%◌, Bool, true, false, List, [], ◌∷◌, ◌++◌, take, if◌then◌else◌, Option, Some, None}
 use Prim.Native.Char.{code}
 use Rattle.ascii.specs.Notation.{◌<ᵇ◌}
 use Rattle.ascii.specs.Bytes.{ascii}
 use Rattle.line_forms.specs.declared.line.Line.{Line}
 use Rattle.line_forms.specs.declared.line.Line.TheVariants.{Def, Value, BeginHeader, BeginTrailer, EndHeader, EndTrailer, Component, Message, Field, Group, Use, End, Member, RequiredTag, Unknown}
-use Rattle.lines.specs.declared.line_parts.Number32.{Number32}
-use Rattle.lines.specs.declared.line_parts.Number32.TheVariants.{Number, NoNumber}
-use Rattle.lines.specs.declared.line_parts.MessageType.{MessageType}
-use Rattle.lines.specs.declared.line_parts.MessageType.TheVariants.{Letters, NoLetters}
 use Rattle.lines.specs.declared.line_parts.Admitted.{Admitted}
 use Rattle.lines.specs.Lines.{Pieces, last, piece, cut, comma}
 use Rattle.lines.specs.LineParts.{type_names}
@@ -67,10 +63,10 @@ abbrev pub app_text : Bool → List ℕ
 app_text true = ascii "app"
 app_text false = ascii "admin"
 
-abbrev pub end_text : Number32 → MessageType → List ℕ
-end_text read_number (Letters letters) = ascii "end=" ++ letters_text letters
-end_text (Number number) NoLetters = ascii "end=" ++ numeral number
-end_text NoNumber NoLetters = []
+abbrev pub end_text : Option ℕ → Option ℕ → List ℕ
+end_text read_number (Some letters) = ascii "end=" ++ letters_text letters
+end_text (Some number) None = ascii "end=" ++ numeral number
+end_text None None = []
 
 unfoldable pub text_of : Line → List ℕ
 text_of (Def tag place) = ascii "def=" ++ (numeral tag ++ (comma ∷ type_text place))

@@ -1,6 +1,6 @@
 -- Laws of `LineTexts.antt`: a line that a record can hold is read from its text (`line_of_text_of`), and the length of that text is `length_of`
 -- (`text_of_length`). First the parts of a line, each read from its own text. Assumes nothing.
-use Rattle.std.specs.Prelude.{◌≡◌, ℕ, suc, ◌+◌, ◌-◌, ◌^◌, ◌≤◌, ◌<◌, Bool, ◌&&◌, cond, List, [], ◌∷◌, ◌++◌, ltb, eqb, length}
+use Rattle.std.specs.Prelude.{◌≡◌, ℕ, suc, ◌+◌, ◌-◌, ◌^◌, ◌≤◌, ◌<◌, Bool, ◌&&◌, cond, List, [], ◌∷◌, ◌++◌, ltb, eqb, length, Option, Some, None}
 use Rattle.std.proofs.Math.Path.{refl}
 use Rattle.std.proofs.Common.{sym, ap, ◌∙◌, arith, length-append, le-ltb, eqb-true}
 use Rattle.std.proofs.Math.Bool.{true, false}
@@ -11,10 +11,6 @@ use Rattle.ascii.specs.Bytes.{ascii, every}
 use Rattle.ascii.specs.Digits.{is_digit}
 use Rattle.line_forms.specs.declared.line.Line.{Line}
 use Rattle.line_forms.specs.declared.line.Line.TheVariants.{Def, Value, BeginHeader, BeginTrailer, EndHeader, EndTrailer, Component, Message, Field, Group, Use, End, Member, RequiredTag, Unknown}
-use Rattle.lines.specs.declared.line_parts.Number32.{Number32}
-use Rattle.lines.specs.declared.line_parts.Number32.TheVariants.{Number, NoNumber}
-use Rattle.lines.specs.declared.line_parts.MessageType.{MessageType}
-use Rattle.lines.specs.declared.line_parts.MessageType.TheVariants.{Letters, NoLetters}
 use Rattle.lines.specs.declared.line_parts.Admitted.{Admitted}
 use Rattle.lines.specs.Lines.{starts_with, is_same, comma}
 use Rattle.lines.specs.LineParts.{number_of}
@@ -61,7 +57,7 @@ module _ (number : ℕ) (small : number < 2 ^ 32) where
       )
 
   module _ (delimiter : ℕ) (small-too : delimiter < 2 ^ 32) where
-    group-rest_back : (count : Number32) (required : Bool) → count ≡ Number number → group_rest count (numeral delimiter ++ (comma ∷ flag_text required)) ≡ Group number delimiter required
+    group-rest_back : (count : Option ℕ) (required : Bool) → count ≡ Some number → group_rest count (numeral delimiter ++ (comma ∷ flag_text required)) ≡ Group number delimiter required
     unfolding group_rest
     group-rest_back count true same =
         rw (same, before-behind comma (numeral delimiter) (ascii "1") (numeral-above delimiter), behind-behind comma (numeral delimiter) (ascii "1") (numeral-above delimiter), number_of_numeral delimiter small-too, flag_of-flag_text true)
@@ -106,9 +102,9 @@ letter_t : is_digit 116 ≡ false
 unfolding is_between
 letter_t = refl
 
-end-named : (number : Number32) (letters : ℕ) → end_with number (Letters letters) ≡ End number (Letters letters)
-end-named (Number number) letters = refl
-end-named NoNumber letters = refl
+end-named : (number : Option ℕ) (letters : ℕ) → end_with number (Some letters) ≡ End number (Some letters)
+end-named (Some number) letters = refl
+end-named None letters = refl
 
 pub some-digit_by : (test : Bool) (more : ℕ) → 1 ≤ cond test 1 (suc more)
 some-digit_by true more = omega arith
@@ -119,9 +115,9 @@ unfolding digit_count
 digit-letters n large small =
     rw (numeral-length n, le-ltb n 10 (omega arith), le-ltb n 100 (omega arith), le-ltb n 1000 (omega arith), le-ltb n 10000 (omega arith)) (omega (arith, some-digit_by (ltb n 100000) (digit_count_from 5 1000000 n)))
 
-end-line_back : (number : Number32) (letters : MessageType) → HeldEnd number letters → line_of (text_of (End number letters)) ≡ End number letters
+end-line_back : (number : Option ℕ) (letters : Option ℕ) → HeldEnd number letters → line_of (text_of (End number letters)) ≡ End number letters
 unfolding text_of line_of starts_with end_of
-end-line_back number (Letters letters) held =
+end-line_back number (Some letters) held =
     let range = letters_length-range letters in
     let len = letters_text-length letters in
     rw (
@@ -131,14 +127,14 @@ end-line_back number (Letters letters) held =
       ← held.1,
     )
     (end-named number letters)
-end-line_back (Number number) NoLetters held =
+end-line_back (Some number) None held =
     rw (
       first-digit (numeral number) 104 (ascii "eader") (digits_of-digits 10 number) letter_h,
       first-digit (numeral number) 116 (ascii "railer") (digits_of-digits 10 number) letter_t,
       message_type_of-long (numeral number) (digit-letters number held.0 held.1),
       number_of_numeral number held.1,
     )
-end-line_back NoNumber NoLetters held = absurd held
+end-line_back None None held = absurd held
 
 pub line_of_text_of : (line : Line) → Held line → line_of (text_of line) ≡ line
 line_of_text_of (Def tag place) held = def_back tag held.0 place held.1
@@ -170,10 +166,10 @@ app_length_lem : (app : Bool) → length (app_text app) ≡ app_length app
 app_length_lem true = refl
 app_length_lem false = refl
 
-end-text_length : (number : Number32) (letters : MessageType) → HeldEnd number letters → length (end_text number letters) ≡ end_length number letters
-end-text_length read_number (Letters letters) held = omega (arith, letters_text-length letters)
-end-text_length (Number number) NoLetters held = omega (arith, numeral-length number)
-end-text_length NoNumber NoLetters held = absurd held
+end-text_length : (number : Option ℕ) (letters : Option ℕ) → HeldEnd number letters → length (end_text number letters) ≡ end_length number letters
+end-text_length read_number (Some letters) held = omega (arith, letters_text-length letters)
+end-text_length (Some number) None held = omega (arith, numeral-length number)
+end-text_length None None held = absurd held
 
 pub text_of_length : (line : Line) → Held line → length (text_of line) ≡ length_of line
 unfolding text_of length_of

@@ -1,6 +1,6 @@
 -- Laws of the numerals of `LineTexts.antt`: a number of 32 bits is read from its numeral, and `digit_count` is the numeral's length. First what is
 -- known of bytes that all pass a test, and of a comma behind them. Assumes nothing.
-use Rattle.std.specs.Prelude.{◌≡◌, ℕ, zero, suc, ◌+◌, ◌*◌, ◌-◌, ◌/◌, ◌%◌, ◌^◌, ◌≤◌, ◌<◌, Bool, true, false, ◌||◌, cond, List, [], ◌∷◌, ◌++◌, ltb, length, get_or, drop}
+use Rattle.std.specs.Prelude.{◌≡◌, ℕ, zero, suc, ◌+◌, ◌*◌, ◌-◌, ◌/◌, ◌%◌, ◌^◌, ◌≤◌, ◌<◌, Bool, true, false, ◌||◌, cond, List, [], ◌∷◌, ◌++◌, ltb, length, get_or, drop, Some}
 use Rattle.std.proofs.Math.Path.{refl}
 use Rattle.std.proofs.Common.{sym, ap, ◌∙◌, length-append}
 use Rattle.std.proofs.lemmas.Bool.{false≢true}
@@ -12,7 +12,6 @@ use Rattle.ascii.specs.NotationLaws.{and_left, and_right, is_between-range}
 use Rattle.ascii.specs.Bytes.{non_empty, every}
 use Rattle.ascii.specs.Digits.{is_digit, is_digits, decimal_from}
 use Rattle.ascii.specs.DigitsLaws.{is_digit-range}
-use Rattle.lines.specs.declared.line_parts.Number32.TheVariants.{Number}
 use Rattle.lines.specs.Lines.{position_of, before, behind}
 use Rattle.lines.specs.LineParts.{no_leading_zero, number_of, is_alphanumeric, is_visible}
 use Rattle.lines.specs.LinePartsLaws.{is_between-inside}
@@ -187,7 +186,7 @@ unfolding digits_of
 digits_of-plain digits n small = plain_by (ltb n 10) (suc digits) n refl (digits_of-some digits (n / 10)) (λ more. digits_of-first digits (n / 10) more (omega arith))
 
 -- a number of 32 bits is read from its numeral
-pub number_of_numeral : (n : ℕ) → n < 2 ^ 32 → number_of (numeral n) ≡ Number n
+pub number_of_numeral : (n : ℕ) → n < 2 ^ 32 → number_of (numeral n) ≡ Some n
 unfolding number_of is_digits
 number_of_numeral n small =
     rw (digits_of-plain 8 n (omega arith), digits_of-some 9 n, digits_of-digits 10 n, digits_of-makes 10 n (omega arith), lt-ltb n (2 ^ 32) small)

@@ -27,15 +27,11 @@
 --   line_from record              the line of ten words
 --   lines_from count words        the lines of so many records
 --   Words32 words                every word has 32 bits, as the words that are lent have
-use Rattle.std.specs.Prelude.{◌≡◌, ℕ, zero, suc, ◌-◌, ◌/◌, ◌%◌, ◌^◌, ◌<◌, Bool, true, false, ◌&&◌, List, [], ◌∷◌, get_or, take, drop, replicate, if◌then◌else◌}
+use Rattle.std.specs.Prelude.{◌≡◌, ℕ, zero, suc, ◌-◌, ◌/◌, ◌%◌, ◌^◌, ◌<◌, Bool, true, false, ◌&&◌, List, [], ◌∷◌, get_or, take, drop, replicate, if◌then◌else◌, Option, Some, None}
 use Rattle.ascii.specs.Notation.{◌≤ᵇ◌, ◌<ᵇ◌, ◌≡ᵇ◌}
 use Rattle.ascii.specs.Bytes.{every}
 use Rattle.line_forms.specs.declared.line.Line.{Line}
 use Rattle.line_forms.specs.declared.line.Line.TheVariants.{Def, Value, BeginHeader, BeginTrailer, EndHeader, EndTrailer, Component, Message, Field, Group, Use, End, Member, RequiredTag, Unknown}
-use Rattle.lines.specs.declared.line_parts.Number32.{Number32}
-use Rattle.lines.specs.declared.line_parts.Number32.TheVariants.{Number, NoNumber}
-use Rattle.lines.specs.declared.line_parts.MessageType.{MessageType}
-use Rattle.lines.specs.declared.line_parts.MessageType.TheVariants.{Letters, NoLetters}
 use Rattle.lines.specs.declared.line_parts.Admitted.{Admitted}
 use Rattle.lines.specs.LineParts.{number_of, is_alphanumeric, is_visible}
 
@@ -106,10 +102,10 @@ record4 kind first second third = kind ∷ first ∷ second ∷ third ∷ replic
 abbrev pub value_record : Admitted → List ℕ
 value_record value = 2 ∷ value.len ∷ value_words value
 
-abbrev pub end_record : Number32 → MessageType → List ℕ
-end_record read_number (Letters letters) = record4 12 letters 0 0
-end_record (Number number) NoLetters = record4 13 number 0 0
-end_record NoNumber NoLetters = record4 0 0 0 0
+abbrev pub end_record : Option ℕ → Option ℕ → List ℕ
+end_record read_number (Some letters) = record4 12 letters 0 0
+end_record (Some number) None = record4 13 number 0 0
+end_record None None = record4 0 0 0 0
 
 unfoldable pub record_of : Line → List ℕ
 record_of (Def tag place) = record4 1 tag place 0
@@ -189,13 +185,13 @@ use_from words =
 abbrev pub end_of_letters : List ℕ → Line
 end_of_letters words =
     if holds_letters (get_or words 1 0)
-    then if_unused 2 words (End (number_of (letters_text (get_or words 1 0))) (Letters (get_or words 1 0)))
+    then if_unused 2 words (End (number_of (letters_text (get_or words 1 0))) (Some (get_or words 1 0)))
     else Unknown
 
 abbrev pub end_of_number : List ℕ → Line
 end_of_number words =
     if 10000 ≤ᵇ get_or words 1 0
-    then if_unused 2 words (End (Number (get_or words 1 0)) NoLetters)
+    then if_unused 2 words (End (Some (get_or words 1 0)) None)
     else Unknown
 
 -- kinds 1 to 6

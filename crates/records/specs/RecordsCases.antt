@@ -1,11 +1,9 @@
 -- Records of lines and lines of records, by computation. Assumes nothing.
-use Rattle.std.specs.Prelude.{◌≡◌, refl, true, false, [], ◌∷◌}
+use Rattle.std.specs.Prelude.{◌≡◌, refl, true, false, [], ◌∷◌, Some, None}
 use Rattle.ascii.specs.Notation.{is_between}
 use Rattle.ascii.specs.Bytes.{ascii, non_empty, every}
 use Rattle.ascii.specs.Digits.{is_digits, decimal_from}
 use Rattle.line_forms.specs.declared.line.Line.TheVariants.{Def, Value, Message, Group, End, Unknown}
-use Rattle.lines.specs.declared.line_parts.Number32.TheVariants.{Number, NoNumber}
-use Rattle.lines.specs.declared.line_parts.MessageType.TheVariants.{Letters, NoLetters}
 use Rattle.lines.specs.LineParts.{no_leading_zero, number_of, word_at, is_alphanumeric, admitted_bytes}
 use Rattle.records.specs.Records.{holds_byte, holds_part, letters_length, letters_text, holds_letters, holds_value, record_of, is_unused, outer_from, body_from, line_from}
 
@@ -20,9 +18,9 @@ pub record RecordCases : Type 0 where
   pub group_line : line_from (8 ∷ 453 ∷ 448 ∷ 0 ∷ 0 ∷ 0 ∷ 0 ∷ 0 ∷ 0 ∷ 0 ∷ []) ≡ Group 453 448 false
   pub group_flag : line_from (8 ∷ 453 ∷ 448 ∷ 2 ∷ 0 ∷ 0 ∷ 0 ∷ 0 ∷ 0 ∷ 0 ∷ []) ≡ Unknown
   pub last_word : line_from (8 ∷ 453 ∷ 448 ∷ 0 ∷ 0 ∷ 0 ∷ 0 ∷ 0 ∷ 0 ∷ 1 ∷ []) ≡ Unknown
-  pub end_of_both : line_from (12 ∷ 875901696 ∷ 0 ∷ 0 ∷ 0 ∷ 0 ∷ 0 ∷ 0 ∷ 0 ∷ 0 ∷ []) ≡ End (Number 453) (Letters 875901696)
-  pub end_of_letters_lem : line_from (12 ∷ 1140850688 ∷ 0 ∷ 0 ∷ 0 ∷ 0 ∷ 0 ∷ 0 ∷ 0 ∷ 0 ∷ []) ≡ End NoNumber (Letters 1140850688)
-  pub end_of_five : line_from (13 ∷ 99999 ∷ 0 ∷ 0 ∷ 0 ∷ 0 ∷ 0 ∷ 0 ∷ 0 ∷ 0 ∷ []) ≡ End (Number 99999) NoLetters
+  pub end_of_both : line_from (12 ∷ 875901696 ∷ 0 ∷ 0 ∷ 0 ∷ 0 ∷ 0 ∷ 0 ∷ 0 ∷ 0 ∷ []) ≡ End (Some 453) (Some 875901696)
+  pub end_of_letters_lem : line_from (12 ∷ 1140850688 ∷ 0 ∷ 0 ∷ 0 ∷ 0 ∷ 0 ∷ 0 ∷ 0 ∷ 0 ∷ []) ≡ End None (Some 1140850688)
+  pub end_of_five : line_from (13 ∷ 99999 ∷ 0 ∷ 0 ∷ 0 ∷ 0 ∷ 0 ∷ 0 ∷ 0 ∷ 0 ∷ []) ≡ End (Some 99999) None
   pub end_of_four_digits : line_from (13 ∷ 9999 ∷ 0 ∷ 0 ∷ 0 ∷ 0 ∷ 0 ∷ 0 ∷ 0 ∷ 0 ∷ []) ≡ Unknown
   pub zeros : line_from (0 ∷ 0 ∷ 0 ∷ 0 ∷ 0 ∷ 0 ∷ 0 ∷ 0 ∷ 0 ∷ 0 ∷ []) ≡ Unknown
   pub unknown_kind : line_from (14 ∷ 0 ∷ 0 ∷ 0 ∷ 0 ∷ 0 ∷ 0 ∷ 0 ∷ 0 ∷ 0 ∷ []) ≡ Unknown

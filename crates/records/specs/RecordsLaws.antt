@@ -2,7 +2,7 @@
 -- read as a line are its record (`record_of-line_from`), so that a line has one record and every word of it counts. Assumes nothing.
 --
 --   Held line         a record can hold the line: its numbers have 32 bits, its parts are what document 01 admits
-use Rattle.std.specs.Prelude.{◌≡◌, ℕ, zero, suc, ◌+◌, ◌-◌, ◌^◌, ◌≤◌, ◌<◌, Bool, true, false, ◌&&◌, cond, leb, ltb, eqb, get_or, take, drop, replicate, if◌then◌else◌}
+use Rattle.std.specs.Prelude.{◌≡◌, ℕ, zero, suc, ◌+◌, ◌-◌, ◌^◌, ◌≤◌, ◌<◌, Bool, true, false, ◌&&◌, cond, leb, ltb, eqb, get_or, take, drop, replicate, if◌then◌else◌, Option, Some, None}
 use Rattle.std.proofs.Math.Path.{refl}
 use Rattle.std.proofs.Common.{sym, ap, ◌∙◌}
 use mathlib.Core.List.{List, [], ◌∷◌}
@@ -17,10 +17,6 @@ use Rattle.ascii.specs.BytesLaws.{drop-step}
 use Rattle.ascii.specs.NotationLaws.{and_left, and_right, and-true, and_assoc, if_same}
 use Rattle.line_forms.specs.declared.line.Line.{Line}
 use Rattle.line_forms.specs.declared.line.Line.TheVariants.{Def, Value, BeginHeader, BeginTrailer, EndHeader, EndTrailer, Component, Message, Field, Group, Use, End, Member, RequiredTag, Unknown}
-use Rattle.lines.specs.declared.line_parts.Number32.{Number32}
-use Rattle.lines.specs.declared.line_parts.Number32.TheVariants.{Number, NoNumber}
-use Rattle.lines.specs.declared.line_parts.MessageType.{MessageType}
-use Rattle.lines.specs.declared.line_parts.MessageType.TheVariants.{Letters, NoLetters}
 use Rattle.lines.specs.LineParts.{number_of, is_visible}
 use Rattle.records.specs.Records.{Words32, holds_byte, holds_part, letters_text, holds_letters, holds_value, is_zero, value_words, is_unused, flag_word, record4, record_of, if_unused, def_from, value_from, message_from, field_from, group_from, use_from, end_of_letters, end_of_number, outer_from, body_from, line_from}
 use Rattle.records.specs.WordPairs.{pair_of, pair_at}
@@ -146,10 +142,10 @@ add-nine at = omega arith
 
 -- ---- what a record can hold
 
-abbrev pub HeldEnd : Number32 → MessageType → Type 0
-HeldEnd number (Letters letters) = (holds_letters letters ≡ true) × (number ≡ number_of (letters_text letters))
-HeldEnd (Number number) NoLetters = (10000 ≤ number) × (number < 2 ^ 32)
-HeldEnd NoNumber NoLetters = ⊥
+abbrev pub HeldEnd : Option ℕ → Option ℕ → Type 0
+HeldEnd number (Some letters) = (holds_letters letters ≡ true) × (number ≡ number_of (letters_text letters))
+HeldEnd (Some number) None = (10000 ≤ number) × (number < 2 ^ 32)
+HeldEnd None None = ⊥
 
 abbrev pub Held : Line → Type 0
 Held (Def tag place) = (tag < 2 ^ 32) × (place < 34)
@@ -170,11 +166,11 @@ Held Unknown = ⊥
 
 -- ---- a line's record is read as the line
 
-end_back : (number : Number32) (letters : MessageType) → HeldEnd number letters → line_from (record_of (End number letters)) ≡ End number letters
+end_back : (number : Option ℕ) (letters : Option ℕ) → HeldEnd number letters → line_from (record_of (End number letters)) ≡ End number letters
 unfolding line_from record_of body_from is_unused every
-end_back read_number (Letters letters) held = rw (held.0, ← held.1)
-end_back (Number number) NoLetters held = rw (le-leb 10000 number held.0)
-end_back NoNumber NoLetters held = absurd held
+end_back read_number (Some letters) held = rw (held.0, ← held.1)
+end_back (Some number) None held = rw (le-leb 10000 number held.0)
+end_back None None held = absurd held
 
 pub line_from-record_of : (line : Line) → Held line → line_from (record_of line) ≡ line
 unfolding line_from record_of outer_from body_from is_unused every
@@ -198,11 +194,11 @@ line_from-record_of (Member tag) held = absurd held
 line_from-record_of (RequiredTag tag) held = absurd held
 line_from-record_of Unknown held = absurd held
 
-end-length : (number : Number32) (letters : MessageType) → length (record_of (End number letters)) ≡ 10
+end-length : (number : Option ℕ) (letters : Option ℕ) → length (record_of (End number letters)) ≡ 10
 unfolding record_of
-end-length read_number (Letters letters) = refl
-end-length (Number number) NoLetters = refl
-end-length NoNumber NoLetters = refl
+end-length read_number (Some letters) = refl
+end-length (Some number) None = refl
+end-length None None = refl
 
 pub record_of-length : (line : Line) → length (record_of line) ≡ 10
 unfolding record_of

@@ -7,16 +7,13 @@
 --   types-numbered   the types are numbered from 0, in their order
 --   type-spelled     a type's spelling is read as its number, and the number stands for the type
 --   name-read        a name that is read as a number is the spelling of the type it stands for
-use Rattle.std.specs.Prelude.{◌≡◌, refl, ℕ, zero, suc, ◌+◌, ◌-◌, ◌≤◌, ◌<◌, Bool, true, false, cond, ◌&&◌, List, [], ◌∷◌, ◌++◌, map, eqb, ltb, length, get_or}
+use Rattle.std.specs.Prelude.{◌≡◌, refl, ℕ, zero, suc, ◌+◌, ◌-◌, ◌≤◌, ◌<◌, Bool, true, false, cond, ◌&&◌, List, [], ◌∷◌, ◌++◌, map, eqb, ltb, length, get_or, Option, Some, None}
 use Rattle.std.proofs.Common.{sym, ap, ◌∙◌, arith, eqb-true, lt-ltb}
 use Rattle.std.proofs.lemmas.Bool.{false≢true}
 use Rattle.ascii.specs.NotationLaws.{and_left, and_right}
 use Rattle.field_types.specs.declared.field_type.FieldType.{FieldType}
 use Rattle.field_types.specs.declared.field_type.FieldType.TheVariants.{Int, Length, SeqNum, NumInGroup, TagNum, DayOfMonth, Float, Qty, Price, PriceOffset, Amt, Percentage, Char, Boolean, String, MultipleCharValue, MultipleStringValue, Country, Currency, Exchange, MonthYear, UtcTimestamp, UtcTimeOnly, UtcDateOnly, LocalMktDate, LocalMktTime, TzTimeOnly, TzTimestamp, Data, XmlData, Language, Pattern, Tenor, Reserved}
-use Rattle.field_types.specs.declared.field_type.NumberedType.TheVariants.{Numbered}
 use Rattle.field_types.specs.FieldType.{field_types, number_of, type_numbered, spelling_of}
-use Rattle.lines.specs.declared.line_parts.TypeName.{TypeName}
-use Rattle.lines.specs.declared.line_parts.TypeName.TheVariants.{TypeAt, NoType}
 use Rattle.lines.specs.Lines.{starts_with, is_same, Pieces, last, piece, longer, cut, comma}
 use Rattle.lines.specs.LineParts.{type_names, type_in, type_of}
 
@@ -42,8 +39,8 @@ types-numbered = refl
 -- ---- a type: its spelling is read as its number, and its number stands for it
 
 pub record Spelled (type : FieldType) : Type 0 where
-  pub read : type_of (spelling_of type) ≡ TypeAt (number_of type)
-  pub meant : type_numbered (number_of type) ≡ Numbered type
+  pub read : type_of (spelling_of type) ≡ Some (number_of type)
+  pub meant : type_numbered (number_of type) ≡ Some type
 
 pub type-spelled : (type : FieldType) → Spelled type
 unfolding spelling_of type_numbered starts_with is_same longer cut type_in type_of
@@ -111,37 +108,37 @@ are_spelled (piece bytes others) [] = false
 are_spelled (piece bytes others) (type ∷ rest) = is_same bytes (spelling_of type) && are_spelled others rest
 
 -- of types numbered from `first` on, the one that is found is spelled by the name
-abbrev FoundBy : List ℕ → ℕ → List FieldType → TypeName → Type 0
-FoundBy name first types (TypeAt number) =
+abbrev FoundBy : List ℕ → ℕ → List FieldType → Option ℕ → Type 0
+FoundBy name first types (Some number) =
     (first ≤ number)
     × ((number < first + length types) × (name ≡ spelling_of (get_or types (number - first) Int)))
-FoundBy name first types NoType = Unit
+FoundBy name first types None = Unit
 
 found-last : (name bytes : List ℕ) (first : ℕ) (type : FieldType) (rest : List FieldType)
     (same : Bool)
     → is_same name bytes ≡ same
     → bytes ≡ spelling_of type
-    → FoundBy name first (type ∷ rest) (cond same (TypeAt first) NoType)
+    → FoundBy name first (type ∷ rest) (cond same (Some first) None)
 found-last name bytes first type rest true test spelled =
     let none : first - first ≡ 0 = omega arith in
     (omega arith, (omega arith, rw none (same_bytes name bytes test ∙ spelled)))
 found-last name bytes first type rest false test spelled = tt
 
 found-later : (name : List ℕ) (first : ℕ) (type : FieldType) (rest : List FieldType)
-    (found : TypeName)
+    (found : Option ℕ)
     → FoundBy name (first + 1) rest found
     → FoundBy name first (type ∷ rest) found
-found-later name first type rest (TypeAt number) later =
+found-later name first type rest (Some number) later =
     let next : number - first ≡ suc (number - (first + 1)) = omega (arith, later.0) in
     (omega (arith, later.0), (omega (arith, later.1.0), rw next later.1.1))
-found-later name first type rest NoType later = tt
+found-later name first type rest None later = tt
 
 found-piece : (name bytes : List ℕ) (first : ℕ) (others : Pieces) (type : FieldType)
     (rest : List FieldType) (same : Bool)
     → is_same name bytes ≡ same
     → bytes ≡ spelling_of type
     → FoundBy name (first + 1) rest (type_in name (first + 1) others)
-    → FoundBy name first (type ∷ rest) (cond same (TypeAt first) (type_in name (first + 1) others))
+    → FoundBy name first (type ∷ rest) (cond same (Some first) (type_in name (first + 1) others))
 found-piece name bytes first others type rest true test spelled later =
     found-last name bytes first type rest true test spelled
 found-piece name bytes first others type rest false test spelled later =
@@ -167,13 +164,13 @@ are_spelled_lem = refl
 
 pub record Named (name : List ℕ) (number : ℕ) : Type 0 where
   pub spelled : name ≡ spelling_of (get_or field_types number Int)
-  pub meant : type_numbered number ≡ Numbered (get_or field_types number Int)
+  pub meant : type_numbered number ≡ Some (get_or field_types number Int)
 
-pub name-read : (name : List ℕ) (number : ℕ) → type_of name ≡ TypeAt number → Named name number
+pub name-read : (name : List ℕ) (number : ℕ) → type_of name ≡ Some number → Named name number
 unfolding type_of type_numbered
 name-read name number read =
     let by = found-by name 0 (cut comma type_names) field_types are_spelled_lem in
-    let found : FoundBy name 0 field_types (TypeAt number) = rw read at by in
+    let found : FoundBy name 0 field_types (Some number) = rw read at by in
     let same : number - 0 ≡ number = omega arith in
     let few : number < 34 = omega (arith, found.1.0) in
     record { spelled = rw same at found.1.1; meant = rw (lt-ltb number 34 few) }

@@ -1,13 +1,11 @@
 -- Laws of `type_text` (`LineTexts.antt`): each of the 34 names of `FieldType` is read as its place. Assumes nothing.
-use Rattle.std.specs.Prelude.{◌≡◌, refl, ℕ, zero, suc, ◌<◌, Bool, true, false, ◌&&◌, eqb, ltb, length, get_or}
+use Rattle.std.specs.Prelude.{◌≡◌, refl, ℕ, zero, suc, ◌<◌, Bool, true, false, ◌&&◌, eqb, ltb, length, get_or, Option, Some, None}
 use Rattle.std.proofs.Common.{sym, ap, arith, ltb-true, ltb-false, eqb-true}
 use Rattle.std.proofs.lemmas.Bool.{false≢true, eqb-false}
 use Rattle.std.proofs.Math.ListN.{get_or-eq_default}
 use Rattle.ascii.specs.NotationLaws.{and_left, and_right}
 use Rattle.ascii.specs.Bytes.{every}
 use Rattle.field_types.specs.FieldTypeLaws.{NoneBelow, none_below}
-use Rattle.lines.specs.declared.line_parts.TypeName.{TypeName}
-use Rattle.lines.specs.declared.line_parts.TypeName.TheVariants.{TypeAt, NoType}
 use Rattle.lines.specs.Lines.{starts_with, is_same, longer, cut}
 use Rattle.lines.specs.LineParts.{type_in, type_of}
 use Rattle.records.specs.LineTexts.{name_at, type_text}
@@ -34,13 +32,13 @@ all_below_at zero test all place below = absurd (omega arith)
 all_below_at (suc n) test all place below =
     all_below_by n test (eqb place n) place refl (and_left (test n) (all_below n test) all) below (all_below_at n test (and_right (test n) (all_below n test) all) place)
 
-abbrev is_type_at : ℕ → TypeName → Bool
-is_type_at place (TypeAt found) = eqb found place
-is_type_at place NoType = false
+abbrev is_type_at : ℕ → Option ℕ → Bool
+is_type_at place (Some found) = eqb found place
+is_type_at place None = false
 
-type_at : (place : ℕ) (found : TypeName) → is_type_at place found ≡ true → found ≡ TypeAt place
-type_at place (TypeAt number) same = ap TypeAt (eqb-true number place same)
-type_at place NoType same = absurd (false≢true same)
+type_at : (place : ℕ) (found : Option ℕ) → is_type_at place found ≡ true → found ≡ Some place
+type_at place (Some number) same = ap Some (eqb-true number place same)
+type_at place None same = absurd (false≢true same)
 
 types-read_back : all_below 34 (λ place. is_type_at place (type_of (type_text place))) ≡ true
 unfolding name_at type_text starts_with is_same longer cut type_in type_of
@@ -55,7 +53,7 @@ unfolding name_at type_text longer cut
 type-lengths = refl
 
 module _ (place : ℕ) (few : place < 34) where
-  pub type_of_type_text : type_of (type_text place) ≡ TypeAt place
+  pub type_of_type_text : type_of (type_text place) ≡ Some place
   type_of_type_text = type_at place (type_of (type_text place)) (all_below_at 34 (λ number. is_type_at number (type_of (type_text number))) types-read_back place few)
 
   pub type_text-above : every (is_above 32) (type_text place) ≡ true

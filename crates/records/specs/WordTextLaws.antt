@@ -1,5 +1,5 @@
 -- Laws of the bytes in words (`Records.antt`, `LineTexts.antt`): a T is read from `letters_text`, a V from `value_text`. Assumes nothing.
-use Rattle.std.specs.Prelude.{◌≡◌, ℕ, zero, suc, ◌+◌, ◌*◌, ◌-◌, ◌%◌, ◌≤◌, ◌<◌, Bool, true, false, ◌&&◌, cond, List, [], ◌∷◌, leb, eqb, length, get_or, take, drop}
+use Rattle.std.specs.Prelude.{◌≡◌, ℕ, zero, suc, ◌+◌, ◌*◌, ◌-◌, ◌%◌, ◌≤◌, ◌<◌, Bool, true, false, ◌&&◌, cond, List, [], ◌∷◌, leb, eqb, length, get_or, take, drop, Some}
 use Rattle.std.proofs.Math.Path.{refl}
 use Rattle.std.proofs.Common.{sym, ap, ◌∙◌, append-nil, length-take-le, take_all}
 use Rattle.std.proofs.lemmas.Bool.{false≢true}
@@ -11,10 +11,7 @@ use borrow.Author.Tests.{leb-true, leb-false, eqb-true, eq-eqb, ne_eqb}
 use Rattle.ascii.specs.NotationLaws.{and_left, and_right, and-true, and-false}
 use Rattle.ascii.specs.Bytes.{every}
 use Rattle.ascii.specs.BytesLaws.{drop-step}
-use Rattle.lines.specs.declared.line_parts.Flag.TheVariants.{Required, Optional}
-use Rattle.lines.specs.declared.line_parts.MessageType.TheVariants.{Letters}
 use Rattle.lines.specs.declared.line_parts.Admitted.{Admitted}
-use Rattle.lines.specs.declared.line_parts.ValueText.TheVariants.{Bytes}
 use Rattle.lines.specs.Lines.{behind}
 use Rattle.lines.specs.LineParts.{flag_of, word_at, is_alphanumeric, message_type_of, is_visible, admitted_bytes, value_of}
 use Rattle.lines.specs.LinePartsLaws.{message_type_of-letters, value_of_bytes}
@@ -25,7 +22,7 @@ use Rattle.records.specs.NumeralLaws.{every_append, every-weaker, is_above, alph
 
 -- ---- flag_text
 
-pub flag_of-flag_text : (required : Bool) → flag_of (flag_text required) ≡ cond required Required Optional
+pub flag_of-flag_text : (required : Bool) → flag_of (flag_text required) ≡ cond required (Some true) (Some false)
 unfolding flag_of
 flag_of-flag_text true = refl
 flag_of-flag_text false = refl
@@ -293,11 +290,11 @@ module _ (word : ℕ) (held : holds_letters word ≡ true) where
   unfolding letters_text
   letters-word = word_of (take (letters_length word) (bytes_of word)) word letters-held.at0 letters-held.at1 letters-held.at2 letters-held.at3
 
-  pub message_type_of-letters_text : message_type_of (letters_text word) ≡ Letters word
+  pub message_type_of-letters_text : message_type_of (letters_text word) ≡ Some word
   message_type_of-letters_text =
       let range = letters_length-range word in
       let len = letters_text-length word in
-      message_type_of-letters (letters_text word) (omega arith) (omega arith) letters_text-letters ∙ ap Letters letters-word
+      message_type_of-letters (letters_text word) (omega arith) (omega arith) letters_text-letters ∙ ap Some letters-word
 
 -- ---- value_text
 
@@ -427,8 +424,8 @@ module _ (value : Admitted) (some : 1 ≤ value.len) (held : holds_value value.l
         value-word 7 (omega arith),
       )
 
-  pub value_of_value_text : value_of (value_text value) ≡ Bytes value
+  pub value_of_value_text : value_of (value_text value) ≡ Some value
   value_of_value_text =
       let len = value_text-length in
       let within = value-within in
-      value_of_bytes (value_text value) (omega arith) (omega arith) value_text-visible ∙ ap Bytes value-back
+      value_of_bytes (value_text value) (omega arith) (omega arith) value_text-visible ∙ ap Some value-back

@@ -7,7 +7,7 @@ ghost use Rattle.records.specs.Records.{holds_part, letters_length, letters_text
 ghost use Rattle.records.specs.WordPairs.{pair_of, pair_at};
 
 use line_forms::line::Line;
-use lines::line_parts::{Admitted, MessageType, Number32};
+use lines::line_parts::Admitted;
 
 // How many words a record has.
 pub const RECORD: usize = 10;
@@ -287,41 +287,41 @@ fn with_digit(high: u32, byte: u32) -> u32
 }
 
 // The number that the letters of a T make, where they are one.
-fn letters_number(word: u32) -> Number32
+fn letters_number(word: u32) -> Option<u32>
     ensures { result ≡ number_of (letters_text word) }
 {
     let first = word / 0x100_0000;
     if !is_digit(first) {
-        return Number32::NoNumber;
+        return None;
     }
     let one = with_digit(0, first);
     let second = word / 0x1_0000 % 0x100;
     if second == 0 {
-        return Number32::Number(one);
+        return Some(one);
     }
     if first == 48 {
-        return Number32::NoNumber;
+        return None;
     }
     if !is_digit(second) {
-        return Number32::NoNumber;
+        return None;
     }
     let two = with_digit(one, second);
     let third = word / 0x100 % 0x100;
     if third == 0 {
-        return Number32::Number(two);
+        return Some(two);
     }
     if !is_digit(third) {
-        return Number32::NoNumber;
+        return None;
     }
     let three = with_digit(two, third);
     let fourth = word % 0x100;
     if fourth == 0 {
-        return Number32::Number(three);
+        return Some(three);
     }
     if !is_digit(fourth) {
-        return Number32::NoNumber;
+        return None;
     }
-    Number32::Number(with_digit(three, fourth))
+    Some(with_digit(three, fourth))
 }
 
 fn end_of_letters(words: &[u32]) -> Line
@@ -332,7 +332,7 @@ fn end_of_letters(words: &[u32]) -> Line
         return Line::Unknown;
     }
     let number = letters_number(words[1]);
-    line_if_unused(2, words, Line::End(number, MessageType::Letters(words[1])))
+    line_if_unused(2, words, Line::End(number, Some(words[1])))
 }
 
 fn end_of_number(words: &[u32]) -> Line
@@ -342,11 +342,7 @@ fn end_of_number(words: &[u32]) -> Line
     if words[1] < 10000 {
         return Line::Unknown;
     }
-    line_if_unused(
-        2,
-        words,
-        Line::End(Number32::Number(words[1]), MessageType::NoLetters),
-    )
+    line_if_unused(2, words, Line::End(Some(words[1]), None))
 }
 
 // The line of ten words, Unknown where they are the record of none.

@@ -1,17 +1,14 @@
 -- Laws of `DictionaryOrder.antt`: a step leaves at most 40 group blocks open. Assumes nothing.
-use Rattle.std.specs.Prelude.{◌≡◌, ℕ, ◌-◌, ◌≤◌, Bool, true, false, cond, ◌&&◌, ◌||◌, eqb, ltb, get_or}
+use Rattle.std.specs.Prelude.{◌≡◌, ℕ, ◌-◌, ◌≤◌, Bool, true, false, cond, ◌&&◌, ◌||◌, eqb, ltb, get_or, Option}
 use Rattle.std.proofs.Math.Path.{refl}
 use Rattle.std.proofs.Common.{arith, ltb-true}
 use Rattle.std.proofs.Math.Dec.{leb}
 use Rattle.ascii.specs.Notation.{is_between}
 use Rattle.line_forms.specs.declared.line.Line.{Line}
 use Rattle.line_forms.specs.declared.line.Line.TheVariants.{Def, Value, BeginHeader, BeginTrailer, EndHeader, EndTrailer, Component, Message, Field, Group, Use, End, Member, RequiredTag, Unknown}
-use Rattle.lines.specs.declared.line_parts.Number32.{Number32}
-use Rattle.lines.specs.declared.line_parts.MessageType.{MessageType}
 use Rattle.dictionary_order.specs.declared.dictionary_order.State.{State}
 use Rattle.dictionary_order.specs.declared.dictionary_order.Step.{Step}
 use Rattle.dictionary_order.specs.DictionaryOrder.{open_block, close_block, opened_block, uses, beginning, definitions, behind_header, behind_trailer, behind_message, header, trailer, component, message, fields, groups, no_body, standing, closed_block, used_in, is_number, is_letters, step_of, taken, not_allowed, close_group, close_component, close_message, open_group, end_step}
-use Rattle.texts.specs.DictionaryText.{counts}
 
 -- ---- step_of: at most 40 group blocks are open
 
@@ -31,18 +28,18 @@ module _ (state : State) (number : ℕ) (within : state.depth ≤ 40) where
   none_open : (stage part name : ℕ) → (standing stage part name 0 state.counts).depth ≤ 40
   none_open stage part name = omega arith
 
-  close_group_depth : (name : Number32) → (close_group name state number).next.depth ≤ 40
+  close_group_depth : (name : Option ℕ) → (close_group name state number).next.depth ≤ 40
   close_group_depth name =
       let one_fewer : (standing state.stage groups state.name (state.depth - 1) state.counts).depth ≤ 40 = omega arith in
       allowed-depth (is_number (get_or state.counts (state.depth - 1) 0) name) (standing state.stage groups state.name (state.depth - 1) state.counts) one_fewer
 
-  close_component_depth : (name : Number32) → (close_component name state number).next.depth ≤ 40
+  close_component_depth : (name : Option ℕ) → (close_component name state number).next.depth ≤ 40
   close_component_depth name = allowed-depth (is_number state.name name) (closed_block behind_trailer state) (none_open behind_trailer no_body 0)
 
-  close_message_depth : (letters : MessageType) → (close_message letters state number).next.depth ≤ 40
+  close_message_depth : (letters : Option ℕ) → (close_message letters state number).next.depth ≤ 40
   close_message_depth letters = allowed-depth (is_letters state.name letters) (closed_block behind_message state) (none_open behind_message no_body 0)
 
-  end-depth : (name : Number32) (letters : MessageType) → (end_step name letters state number).next.depth ≤ 40
+  end-depth : (name : Option ℕ) (letters : Option ℕ) → (end_step name letters state number).next.depth ≤ 40
   end-depth name letters =
       step-either (ltb 0 state.depth) (close_group name state number) _ (close_group_depth name)
       (step-either (eqb state.stage component) (close_component name state number) _ (close_component_depth name)

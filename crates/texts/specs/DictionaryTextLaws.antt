@@ -1,6 +1,6 @@
 -- Laws of `DictionaryText.antt`: the loops over the lines of a text, turn by turn. The lines still to be read are those of `drop first text`; a
 -- search for the line feed from `first` on stopped at `past`. Assumes nothing.
-use Rattle.std.specs.Prelude.{◌≡◌, refl, ℕ, ◌+◌, ◌*◌, ◌-◌, ◌≤◌, ◌<◌, Bool, true, false, List, [], ◌∷◌, ◌++◌, ltb, length, get_or, take, drop, set}
+use Rattle.std.specs.Prelude.{◌≡◌, refl, ℕ, ◌+◌, ◌*◌, ◌-◌, ◌≤◌, ◌<◌, Bool, true, false, List, [], ◌∷◌, ◌++◌, ltb, length, get_or, take, drop, set, Some, None, Err}
 use Rattle.std.proofs.Common.{sym, ap, ◌∙◌, arith, add-one, drop_of_length-le, length-set, take-suc-set, length-take-le}
 use Rattle.std.proofs.Math.ListN.{length-drop}
 use borrow.Author.Tests.{ltb-true, ltb-false, eq-eqb, ne_eqb}
@@ -11,14 +11,10 @@ use Rattle.refusals.specs.declared.refusal.Refusal.TheVariants.{UnknownForm}
 use Rattle.line_forms.specs.declared.line.Line.{Line}
 use Rattle.line_forms.specs.declared.line.Line.TheVariants.{Unknown}
 use Rattle.dictionary_order.specs.declared.dictionary_order.State.{State}
-use Rattle.dictionary_order.specs.declared.dictionary_order.Fault.TheVariants.{NoFault, Faulty}
 use Rattle.dictionary_order.specs.declared.dictionary_order.Step.{Step}
 use Rattle.texts.specs.declared.dictionary_text.Defined.{Defined}
 use Rattle.texts.specs.declared.dictionary_text.Defined.TheVariants.{Tag, ComponentName, MessageName, Nothing}
 use Rattle.texts.specs.declared.dictionary_text.Counts.{Counts}
-use Rattle.texts.specs.declared.dictionary_text.TextOutcome.TheVariants.{Refused}
-use Rattle.texts.specs.declared.dictionary_text.Key.TheVariants.{Of, NoKey}
-use Rattle.texts.specs.declared.dictionary_text.Again.TheVariants.{At, Nowhere}
 use Rattle.lines.specs.Lines.{position_of, lines_of, line_feed}
 use Rattle.lines.specs.LinesLaws.{found_within, cut-at_piece, cut-at_last, cut-nothing}
 use Rattle.line_forms.specs.LineForms.{line_of}
@@ -52,16 +48,16 @@ module _ (state : State) (read : Counts) (text : List ℕ) (first : ℕ) where
   order-ends over = rw (cut-nothing line_feed text first over)
 
   module _ (past : ℕ) (within : first ≤ length text) (found : past ≡ first + position_of line_feed (drop first text)) where
-    pub order-unended : first < length text → past ≡ length text → order_from state read (lines_of (drop first text)) ≡ Refused (UnknownForm (read.lines + 1))
+    pub order-unended : first < length text → past ≡ length text → order_from state read (lines_of (drop first text)) ≡ Err (UnknownForm (read.lines + 1))
     unfolding order_from
     order-unended inside at-end = rw (cut-at_last line_feed text first past within found at-end, non_empty-some (drop first text) (λ empty. omega (arith, length-drop first text)))
 
     module _ (before-end : past ≡ length text → ⊥) (line : Line) (reads : line ≡ line_of (take (past - first) (drop first text))) (step : Step) (steps : step ≡ step_of state (read.lines + 1) line) where
-      pub order-goes_on : step.fault ≡ NoFault → order_from state read (lines_of (drop first text)) ≡ order_from step.next (counted read (defined_by line)) (lines_of (drop (past + 1) text))
+      pub order-goes_on : step.fault ≡ None → order_from state read (lines_of (drop first text)) ≡ order_from step.next (counted read (defined_by line)) (lines_of (drop (past + 1) text))
       unfolding order_from
       order-goes_on good = rw (cut-at_piece line_feed text first past within found before-end, ← reads, ← steps, good)
 
-      pub order-refuses : (refusal : Refusal) → step.fault ≡ Faulty refusal → order_from state read (lines_of (drop first text)) ≡ Refused refusal
+      pub order-refuses : (refusal : Refusal) → step.fault ≡ Some refusal → order_from state read (lines_of (drop first text)) ≡ Err refusal
       unfolding order_from
       order-refuses refusal faulty = rw (cut-at_piece line_feed text first past within found before-end, ← reads, ← steps, faulty)
 
@@ -86,14 +82,14 @@ module _ (text : List ℕ) (first : ℕ) (state : State) (read : Counts) (so_far
   order-stops over = so_far.rest ∙ order-ends state read text first over
 
   module _ (past : ℕ) (found : past ≡ first + position_of line_feed (drop first text)) where
-    pub order-breaks : first < length text → past ≡ length text → order_of text ≡ Refused (UnknownForm (read.lines + 1))
+    pub order-breaks : first < length text → past ≡ length text → order_of text ≡ Err (UnknownForm (read.lines + 1))
     order-breaks inside at-end = so_far.rest ∙ order-unended state read text first past so_far.within found inside at-end
 
     module _ (before-end : past ≡ length text → ⊥) (line : Line) (reads : line ≡ line_of (take (past - first) (drop first text))) (step : Step) (steps : step ≡ step_of state (read.lines + 1) line) where
-      pub order-faulty : (refusal : Refusal) → step.fault ≡ Faulty refusal → order_of text ≡ Refused refusal
+      pub order-faulty : (refusal : Refusal) → step.fault ≡ Some refusal → order_of text ≡ Err refusal
       order-faulty refusal faulty = so_far.rest ∙ order-refuses state read text first past so_far.within found before-end line reads step steps refusal faulty
 
-      pub order-turns : step.fault ≡ NoFault
+      pub order-turns : step.fault ≡ None
           → (next : Counts)
           → next ≡ counted read (defined_by line)
           → OrderSoFar text (past + 1) step.next next
@@ -129,22 +125,22 @@ pub record OtherSoFar (key : ℕ) (keys : List ℕ) (index : ℕ) : Type 0 where
 -- ---- again_from
 
 module _ (seen : List ℕ) (number : ℕ) (text : List ℕ) (first : ℕ) where
-  pub again-ends : length text ≤ first → again_from seen number (lines_of (drop first text)) ≡ Nowhere
+  pub again-ends : length text ≤ first → again_from seen number (lines_of (drop first text)) ≡ None
   unfolding again_from
   again-ends over = rw (cut-nothing line_feed text first over)
 
   module _ (past : ℕ) (within : first ≤ length text) (found : past ≡ first + position_of line_feed (drop first text)) where
-    pub again-unended : past ≡ length text → again_from seen number (lines_of (drop first text)) ≡ Nowhere
+    pub again-unended : past ≡ length text → again_from seen number (lines_of (drop first text)) ≡ None
     unfolding again_from
     again-unended at-end = rw (cut-at_last line_feed text first past within found at-end)
 
     module _ (before-end : past ≡ length text → ⊥) (line : Line) (reads : line ≡ line_of (take (past - first) (drop first text))) where
-      pub again-no_key : key_of (defined_by line) ≡ NoKey → again_from seen number (lines_of (drop first text)) ≡ again_from seen (number + 1) (lines_of (drop (past + 1) text))
+      pub again-no_key : key_of (defined_by line) ≡ None → again_from seen number (lines_of (drop first text)) ≡ again_from seen (number + 1) (lines_of (drop (past + 1) text))
       unfolding again_from
       again-no_key none = rw (cut-at_piece line_feed text first past within found before-end, ← reads, none)
 
-      module _ (key : ℕ) (defines : key_of (defined_by line) ≡ Of key) where
-        pub again-here : is_in key seen ≡ true → again_from seen number (lines_of (drop first text)) ≡ At number
+      module _ (key : ℕ) (defines : key_of (defined_by line) ≡ Some key) where
+        pub again-here : is_in key seen ≡ true → again_from seen number (lines_of (drop first text)) ≡ Some number
         unfolding again_from
         again-here known = rw (cut-at_piece line_feed text first past within found before-end, ← reads, defines, known)
 
@@ -153,15 +149,15 @@ module _ (seen : List ℕ) (number : ℕ) (text : List ℕ) (first : ℕ) where
         again-new new = rw (cut-at_piece line_feed text first past within found before-end, ← reads, defines, new)
 
 -- a line that defines something is no short one
-defines-by : (bytes : List ℕ) (key : ℕ) (short : Bool) → ltb (length bytes) 4 ≡ short → key_of (defined_by (line_of bytes)) ≡ Of key → 4 ≤ length bytes
+defines-by : (bytes : List ℕ) (key : ℕ) (short : Bool) → ltb (length bytes) 4 ≡ short → key_of (defined_by (line_of bytes)) ≡ Some key → 4 ≤ length bytes
 defines-by bytes key true test defines =
     let unknown : line_of bytes ≡ Unknown = line_of_short bytes (ltb-true _ _ test) in
-    let none : key_of (defined_by (line_of bytes)) ≡ NoKey = rw unknown in
+    let none : key_of (defined_by (line_of bytes)) ≡ None = rw unknown in
     let never : ◌≡◌ {A = ℕ} 0 1 = cc in
     absurd (omega arith)
 defines-by bytes key false test defines = ltb-false _ _ test
 
-pub defines-length : (bytes : List ℕ) (key : ℕ) → key_of (defined_by (line_of bytes)) ≡ Of key → 4 ≤ length bytes
+pub defines-length : (bytes : List ℕ) (key : ℕ) → key_of (defined_by (line_of bytes)) ≡ Some key → 4 ≤ length bytes
 defines-length bytes key defines = defines-by bytes key (ltb (length bytes) 4) refl defines
 
 -- the keys seen, in the first places of an array
@@ -181,15 +177,15 @@ unfolding again_of
 again-begins text seen places = record { within = omega arith; few_keys = omega arith; few_lines = omega arith; places = places; rest = refl }
 
 module _ (text : List ℕ) (first : ℕ) (seen : List ℕ) (known number : ℕ) (so_far : AgainSoFar text first seen known number) where
-  pub again-stops : length text ≤ first → again_of text ≡ Nowhere
+  pub again-stops : length text ≤ first → again_of text ≡ None
   again-stops over = so_far.rest ∙ again-ends (take known seen) number text first over
 
   module _ (past : ℕ) (found : past ≡ first + position_of line_feed (drop first text)) where
-    pub again-breaks : past ≡ length text → again_of text ≡ Nowhere
+    pub again-breaks : past ≡ length text → again_of text ≡ None
     again-breaks at-end = so_far.rest ∙ again-unended (take known seen) number text first past so_far.within found at-end
 
     module _ (before-end : past ≡ length text → ⊥) (line : Line) (reads : line ≡ line_of (take (past - first) (drop first text))) where
-      pub again-skips : key_of (defined_by line) ≡ NoKey → AgainSoFar text (past + 1) seen known (number + 1)
+      pub again-skips : key_of (defined_by line) ≡ None → AgainSoFar text (past + 1) seen known (number + 1)
       again-skips none =
           let bounds = found_within line_feed text first past so_far.within found in
           record {
@@ -200,8 +196,8 @@ module _ (text : List ℕ) (first : ℕ) (seen : List ℕ) (known number : ℕ) 
             rest = so_far.rest ∙ again-no_key (take known seen) number text first past so_far.within found before-end line reads none;
           }
 
-      module _ (key : ℕ) (defines : key_of (defined_by line) ≡ Of key) where
-        pub again-found : is_in key (take known seen) ≡ true → again_of text ≡ At number
+      module _ (key : ℕ) (defines : key_of (defined_by line) ≡ Some key) where
+        pub again-found : is_in key (take known seen) ≡ true → again_of text ≡ Some number
         again-found old = so_far.rest ∙ again-here (take known seen) number text first past so_far.within found before-end line reads key defines old
 
         pub again-adds : length text ≤ 65536 → is_in key (take known seen) ≡ false → AgainSoFar text (past + 1) (set seen known key) (known + 1) (number + 1)

@@ -4,7 +4,7 @@ ghost use Rattle.texts.specs.DictionaryText.{defined_by, counted, at_end, order_
 ghost use Rattle.texts.specs.DictionaryTextLaws.{CountsWithin};
 
 use dictionary_order::dictionary_order::{
-    BEGINNING, BEHIND_MESSAGE, BEHIND_TRAILER, Fault, NO_BODY, State, take_line,
+    BEGINNING, BEHIND_MESSAGE, BEHIND_TRAILER, NO_BODY, State, take_line,
 };
 use line_forms::line::{Line, line_of};
 use lines::lines::position_of;
@@ -54,56 +54,41 @@ fn count(counts: Counts, defined: Defined) -> Counts
     requires { CountsWithin counts 65536 }
     ensures { result ≡ counted counts defined }
 {
+    let counts = Counts {
+        lines: counts.lines + 1,
+        ..counts
+    };
     match defined {
         Defined::Tag(_) => Counts {
-            lines: counts.lines + 1,
             tags: counts.tags + 1,
-            components: counts.components,
-            messages: counts.messages,
+            ..counts
         },
         Defined::ComponentName(_) => Counts {
-            lines: counts.lines + 1,
-            tags: counts.tags,
             components: counts.components + 1,
-            messages: counts.messages,
+            ..counts
         },
         Defined::MessageName(_) => Counts {
-            lines: counts.lines + 1,
-            tags: counts.tags,
-            components: counts.components,
             messages: counts.messages + 1,
+            ..counts
         },
-        Defined::Nothing => Counts {
-            lines: counts.lines + 1,
-            tags: counts.tags,
-            components: counts.components,
-            messages: counts.messages,
-        },
+        Defined::Nothing => counts,
     }
 }
 
-// What reading a text gives: what it has, or its refusal.
-#[derive(Clone, Copy)]
-pub enum TextOutcome {
-    Accepted(Counts),
-    Refused(Refusal),
-}
-
-fn at_end(state: State, counts: Counts) -> TextOutcome
-    requires { CountsWithin counts 65536 }
+// What was counted, where the text may end here.
+#[tactic(auto, unfolding(ascii::specs::Notation::is_between))]
+pub fn at_end(state: State, counts: Counts) -> Result<Counts, Refusal>
+    requires { counts.lines ≤ 65536 }
     ensures { result ≡ at_end state counts }
 {
-    if state.stage < BEHIND_TRAILER {
-        return TextOutcome::Refused(Refusal::NotAllowed(counts.lines + 1));
+    if state.stage < BEHIND_TRAILER || BEHIND_MESSAGE < state.stage {
+        return Err(Refusal::NotAllowed(counts.lines + 1));
     }
-    if BEHIND_MESSAGE < state.stage {
-        return TextOutcome::Refused(Refusal::NotAllowed(counts.lines + 1));
-    }
-    TextOutcome::Accepted(counts)
+    Ok(counts)
 }
 
 // Reads the text from the top: refusals 2 to 4.
-fn read_in_order(text: &[u8]) -> TextOutcome
+fn read_in_order(text: &[u8]) -> Result<Counts, Refusal>
     requires { length text.now ≤ 65536 }
     ensures { result ≡ order_of text.now }
 {
@@ -125,41 +110,28 @@ fn read_in_order(text: &[u8]) -> TextOutcome
         let past = position_of(text, first, 10);
         let number = counts.lines + 1;
         if past == text.len() {
-            return TextOutcome::Refused(Refusal::UnknownForm(number));
+            return Err(Refusal::UnknownForm(number));
         }
         let line = line_of(&text[first..past]);
         let step = take_line(state, number, line);
-        let fault = step.fault;
-        match fault {
-            Fault::Faulty(refusal) => {
-                return TextOutcome::Refused(refusal);
-            }
-            Fault::NoFault => {
-                let next = step.next;
-                state = next;
-                counts = count(counts, defined_by(line));
-                first = past + 1;
-            }
+        if let Some(refusal) = step.fault {
+            return Err(refusal);
         }
+        state = step.next;
+        counts = count(counts, defined_by(line));
+        first = past + 1;
     }
     at_end(state, counts)
 }
 
-// What a line defines as one number: a tag, a component or a message type.
-#[derive(Clone, Copy)]
-pub enum Key {
-    Of(u64),
-    NoKey,
-}
-
-fn key_of(defined: Defined) -> Key
+fn key_of(defined: Defined) -> Option<u64>
     ensures { result ≡ key_of defined }
 {
     match defined {
-        Defined::Tag(tag) => Key::Of(tag as u64),
-        Defined::ComponentName(name) => Key::Of(0x1_0000_0000 + name as u64),
-        Defined::MessageName(letters) => Key::Of(0x2_0000_0000 + letters as u64),
-        Defined::Nothing => Key::NoKey,
+        Defined::Tag(tag) => Some(tag as u64),
+        Defined::ComponentName(name) => Some(0x1_0000_0000 + name as u64),
+        Defined::MessageName(letters) => Some(0x2_0000_0000 + letters as u64),
+        Defined::Nothing => None,
     }
 }
 
@@ -176,15 +148,8 @@ fn is_in(keys: &[u64], key: u64) -> bool
     false
 }
 
-// The first line that defines again what a line before it defines.
-#[derive(Clone, Copy)]
-pub enum Again {
-    At(u64),
-    Nowhere,
-}
-
 // Finds what is defined again: refusal 5. A line that defines something has at least five bytes, its line feed with it.
-fn first_again(text: &[u8]) -> Again
+fn first_again(text: &[u8]) -> Option<u64>
     requires { length text.now ≤ 65536 }
     ensures { result ≡ again_of text.now }
 {
@@ -195,56 +160,56 @@ fn first_again(text: &[u8]) -> Again
     while first < text.len() {
         let past = position_of(text, first, 10);
         if past == text.len() {
-            return Again::Nowhere;
+            return None;
         }
         let line = line_of(&text[first..past]);
         let key = key_of(defined_by(line));
         match key {
-            Key::Of(value) => {
+            Some(value) => {
                 if is_in(&seen[..known], value) {
-                    return Again::At(number);
+                    return Some(number);
                 }
                 seen[known] = value;
                 known += 1;
                 number += 1;
                 first = past + 1;
             }
-            Key::NoKey => {
+            None => {
                 number += 1;
                 first = past + 1;
             }
         }
     }
-    Again::Nowhere
+    None
 }
 
-fn refused_earlier(line: u64, refusal: Refusal) -> TextOutcome
+fn refused_earlier(line: u64, refusal: Refusal) -> Result<Counts, Refusal>
     ensures { result ≡ refused_earlier line refusal }
 {
     if line < place_of(refusal) {
-        return TextOutcome::Refused(Refusal::DefinedAgain(line));
+        return Err(Refusal::DefinedAgain(line));
     }
-    TextOutcome::Refused(refusal)
+    Err(refusal)
 }
 
-fn first_of(again: Again, outcome: TextOutcome) -> TextOutcome
+fn first_of(again: Option<u64>, outcome: Result<Counts, Refusal>) -> Result<Counts, Refusal>
     ensures { result ≡ first_of again outcome }
 {
-    let Again::At(line) = again else {
+    let Some(line) = again else {
         return outcome;
     };
     match outcome {
-        TextOutcome::Accepted(_) => TextOutcome::Refused(Refusal::DefinedAgain(line)),
-        TextOutcome::Refused(refusal) => refused_earlier(line, refusal),
+        Ok(_) => Err(Refusal::DefinedAgain(line)),
+        Err(refusal) => refused_earlier(line, refusal),
     }
 }
 
 // Reads a dictionary text: what it has, or its first faulty line.
-pub fn check_dictionary_text(text: &[u8]) -> TextOutcome
+pub fn check_dictionary_text(text: &[u8]) -> Result<Counts, Refusal>
     ensures outcome { result ≡ dictionary_text_of text.now }
 {
     if 65536 < text.len() {
-        return TextOutcome::Refused(Refusal::TextTooLong);
+        return Err(Refusal::TextTooLong);
     }
     let again = first_again(text);
     let outcome = read_in_order(text);

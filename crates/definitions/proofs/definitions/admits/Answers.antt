@@ -45,10 +45,10 @@ pub is_among-requires : goal.is_among-requires
 is_among-requires c = omega (arith, (is_dictionary-parts c.args.words.now c.requires.0).fits, c.requires.1)
 
 -- pub fn admits(words: &[u32], number: usize, value: &[u8]) -> bool
-pub returns-in-Bytes : goal.returns-in-Bytes
+pub returns-in-Some : goal.returns-in-Some
 unfolding admits_value
-returns-in-Bytes c = rw (ne_eqb _ 0 c.if-left-eq0.false, eq-eqb _ 2 c.if-words-at-ne2.false, sym c.parse_value.ensures ∙ c.in-Bytes.is) c.is_among.ensures
+returns-in-Some c = rw (ne_eqb _ 0 c.if-left-eq0.false, eq-eqb _ 2 c.if-words-at-ne2.false, sym c.parse_value.ensures ∙ c.in-Some.is) c.is_among.ensures
 
-pub returns-in-NoBytes : goal.returns-in-NoBytes
+pub returns-in-None : goal.returns-in-None
 unfolding admits_value
-returns-in-NoBytes c = rw (ne_eqb _ 0 c.if-left-eq0.false, eq-eqb _ 2 c.if-words-at-ne2.false, sym c.parse_value.ensures ∙ c.in-NoBytes.is)
+returns-in-None c = rw (ne_eqb _ 0 c.if-left-eq0.false, eq-eqb _ 2 c.if-words-at-ne2.false, sym c.parse_value.ensures ∙ c.in-None.is)

@@ -42,7 +42,7 @@ overflow_add-at-2 c = omega (arith, (is_dictionary-parts c.args.words.now c.requ
 pub record_in-requires : goal.record_in-requires
 record_in-requires c = (omega (arith, (is_dictionary-parts c.args.words.now c.requires).fits), (is_dictionary-parts c.args.words.now c.requires).component_names)
 
--- pub fn component_of(words: &[u32], name: u32) -> Found
+-- pub fn component_of(words: &[u32], name: u32) -> Option<usize>
 pub returns : goal.returns
 unfolding component_of
 returns c = record {

@@ -35,31 +35,31 @@ record_in-requires c = (omega (arith, (is_dictionary-parts c.args.words.now c.re
 
 -- let place = 4 + 10 * number + 2;
 pub overflow_mul-place : goal.overflow_mul-place
-overflow_mul-place c = let record_here : 4 + 10 * c.in-At.number + 10 ≤ length c.args.words.now = line_numbered-place c.args.words.now c.in-At.number (below-number _ _ _ c.in-At.is c.record_in.ensures.inside) (is_dictionary-parts c.args.words.now c.requires) in
+overflow_mul-place c = let record_here : 4 + 10 * c.in_ok-number.number + 10 ≤ length c.args.words.now = line_numbered-place c.args.words.now c.in_ok-number.number (below-number _ _ _ c.in_ok-number.was c.record_in.ensures.inside) (is_dictionary-parts c.args.words.now c.requires) in
     omega (arith, record_here)
 
 pub overflow_add-place : goal.overflow_add-place
-overflow_add-place c = let record_here : 4 + 10 * c.in-At.number + 10 ≤ length c.args.words.now = line_numbered-place c.args.words.now c.in-At.number (below-number _ _ _ c.in-At.is c.record_in.ensures.inside) (is_dictionary-parts c.args.words.now c.requires) in
+overflow_add-place c = let record_here : 4 + 10 * c.in_ok-number.number + 10 ≤ length c.args.words.now = line_numbered-place c.args.words.now c.in_ok-number.number (below-number _ _ _ c.in_ok-number.was c.record_in.ensures.inside) (is_dictionary-parts c.args.words.now c.requires) in
     omega (arith, record_here)
 
-pub overflow_add-place-in-At : goal.overflow_add-place-in-At
-overflow_add-place-in-At c = let record_here : 4 + 10 * c.in-At.number + 10 ≤ length c.args.words.now = line_numbered-place c.args.words.now c.in-At.number (below-number _ _ _ c.in-At.is c.record_in.ensures.inside) (is_dictionary-parts c.args.words.now c.requires) in
+pub overflow_add-place-2 : goal.overflow_add-place-2
+overflow_add-place-2 c = let record_here : 4 + 10 * c.in_ok-number.number + 10 ≤ length c.args.words.now = line_numbered-place c.args.words.now c.in_ok-number.number (below-number _ _ _ c.in_ok-number.was c.record_in.ensures.inside) (is_dictionary-parts c.args.words.now c.requires) in
     omega (arith, record_here)
 
 -- Definition::Defined(words[place], number)
 pub offset_bounds-words-place : goal.offset_bounds-words-place
-offset_bounds-words-place c = let record_here : 4 + 10 * c.in-At.number + 10 ≤ length c.args.words.now = line_numbered-place c.args.words.now c.in-At.number (below-number _ _ _ c.in-At.is c.record_in.ensures.inside) (is_dictionary-parts c.args.words.now c.requires) in
+offset_bounds-words-place c = let record_here : 4 + 10 * c.in_ok-number.number + 10 ≤ length c.args.words.now = line_numbered-place c.args.words.now c.in_ok-number.number (below-number _ _ _ c.in_ok-number.was c.record_in.ensures.inside) (is_dictionary-parts c.args.words.now c.requires) in
     omega (arith, record_here)
 
 pub bounds-words-place : goal.bounds-words-place
-bounds-words-place c = let record_here : 4 + 10 * c.in-At.number + 10 ≤ length c.args.words.now = line_numbered-place c.args.words.now c.in-At.number (below-number _ _ _ c.in-At.is c.record_in.ensures.inside) (is_dictionary-parts c.args.words.now c.requires) in
+bounds-words-place c = let record_here : 4 + 10 * c.in_ok-number.number + 10 ≤ length c.args.words.now = line_numbered-place c.args.words.now c.in_ok-number.number (below-number _ _ _ c.in_ok-number.was c.record_in.ensures.inside) (is_dictionary-parts c.args.words.now c.requires) in
     omega (arith, record_here)
 
--- pub fn definition_of(words: &[u32], tag: u32) -> Definition
-pub returns-in-At : goal.returns-in-At
+-- pub fn definition_of(words: &[u32], tag: u32) -> Option<Definition>
+pub returns : goal.returns
 unfolding definition_of
-returns-in-At c = rw (sym c.record_in.ensures.found ∙ c.in-At.is)
+returns c = rw (sym c.record_in.ensures.found ∙ c.in_ok-number.was)
 
-pub returns-in-Nothing : goal.returns-in-Nothing
+pub returns-in_err-number : goal.returns-in_err-number
 unfolding definition_of
-returns-in-Nothing c = rw (sym c.record_in.ensures.found ∙ c.in-Nothing.is)
+returns-in_err-number c = rw (c.from_residual.ensures, sym c.record_in.ensures.found ∙ c.in_err-number.was)

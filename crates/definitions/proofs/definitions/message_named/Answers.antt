@@ -54,7 +54,7 @@ overflow_add-at-3 c = omega (arith, (is_dictionary-parts c.args.words.now c.requ
 pub record_in-requires : goal.record_in-requires
 record_in-requires c = (omega (arith, (is_dictionary-parts c.args.words.now c.requires).fits), (is_dictionary-parts c.args.words.now c.requires).message_names)
 
--- fn message_named(words: &[u32], letters: u32) -> Found
+-- fn message_named(words: &[u32], letters: u32) -> Option<usize>
 pub returns : goal.returns
 returns c = record {
   found = c.record_in.ensures.found;

@@ -2,6 +2,6 @@
 use borrow.Author.Rules.{rules}
 use Rattle.dictionary.proofs.line_order.is_letters.Goals as goal
 
--- fn is_letters(name: u32, letters: MessageType) -> bool
-pub returns-in-Letters : goal.returns-in-Letters
-returns-in-Letters c = rw c.in-Letters.is
+-- fn is_letters(name: u32, letters: Option<u32>) -> bool
+pub returns-in-Some : goal.returns-in-Some
+returns-in-Some c = rw c.in-Some.is

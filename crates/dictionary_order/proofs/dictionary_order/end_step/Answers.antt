@@ -20,6 +20,6 @@ returns-then-is_letters c = rw (le-ltb _ _ c.if-state-gt0.false, ne_eqb _ _ c.if
 pub returns-then-state-eq-MESSAGE : goal.returns-then-state-eq-MESSAGE
 returns-then-state-eq-MESSAGE c = rw (le-ltb _ _ c.if-state-gt0.false, ne_eqb _ _ c.if-state-eq-COMPONENT.false, eq-eqb _ _ c.if-state-eq-MESSAGE.true, sym c.is_letters.ensures ∙ c.if-is_letters.false) c.not_allowed-then-state-eq-MESSAGE.ensures
 
--- fn end_step(state: State, number: u64, name: Number32, letters: MessageType) -> Step
+-- fn end_step(state: State, number: u64, name: Option<u32>, letters: Option<u32>) -> Step
 pub returns : goal.returns
 returns c = rw (le-ltb _ _ c.if-state-gt0.false, ne_eqb _ _ c.if-state-eq-COMPONENT.false, ne_eqb _ _ c.if-state-eq-MESSAGE.false) c.not_allowed-2.ensures

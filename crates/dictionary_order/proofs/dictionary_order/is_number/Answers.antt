@@ -2,6 +2,6 @@
 use borrow.Author.Rules.{rules}
 use Rattle.dictionary_order.proofs.dictionary_order.is_number.Goals as goal
 
--- pub fn is_number(name: u32, number: Number32) -> bool
-pub returns-in-Number : goal.returns-in-Number
-returns-in-Number c = rw c.in-Number.is
+-- pub fn is_number(name: u32, number: Option<u32>) -> bool
+pub returns-in-Some : goal.returns-in-Some
+returns-in-Some c = rw c.in-Some.is

@@ -2,6 +2,6 @@
 use borrow.Author.Rules.{rules}
 use Rattle.line_forms.proofs.line.component_with.Goals as goal
 
--- fn component_with(name: Number32) -> Line
-pub returns-in-Number : goal.returns-in-Number
-returns-in-Number c = rw c.in-Number.is
+-- fn component_with(name: Option<u32>) -> Line
+pub returns-in-Some : goal.returns-in-Some
+returns-in-Some c = rw c.in-Some.is

@@ -2,6 +2,6 @@
 use borrow.Author.Rules.{rules}
 use Rattle.line_forms.proofs.line.member_with.Goals as goal
 
--- fn member_with(tag: Number32) -> Line
-pub returns-in-Number : goal.returns-in-Number
-returns-in-Number c = rw c.in-Number.is
+-- fn member_with(tag: Option<u32>) -> Line
+pub returns-in-Some : goal.returns-in-Some
+returns-in-Some c = rw c.in-Some.is

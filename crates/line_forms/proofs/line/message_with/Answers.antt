@@ -2,6 +2,6 @@
 use borrow.Author.Rules.{rules}
 use Rattle.line_forms.proofs.line.message_with.Goals as goal
 
--- fn message_with(name: MessageType, app: bool) -> Line
-pub returns-in-Letters : goal.returns-in-Letters
-returns-in-Letters c = rw c.in-Letters.is
+-- fn message_with(name: Option<u32>, app: bool) -> Line
+pub returns-in-Some : goal.returns-in-Some
+returns-in-Some c = rw c.in-Some.is

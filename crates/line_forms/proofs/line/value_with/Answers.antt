@@ -2,6 +2,6 @@
 use borrow.Author.Rules.{rules}
 use Rattle.line_forms.proofs.line.value_with.Goals as goal
 
--- fn value_with(value: ValueText) -> Line
-pub returns-in-Bytes : goal.returns-in-Bytes
-returns-in-Bytes c = rw c.in-Bytes.is
+-- fn value_with(value: Option<Admitted>) -> Line
+pub returns-in-Some : goal.returns-in-Some
+returns-in-Some c = rw c.in-Some.is

@@ -5,18 +5,18 @@ use Rattle.lines.specs.LinePartsLaws.{flag_of-other_length, flag_of-one_byte}
 use borrow.Author.Rules.{rules}
 use Rattle.lines.proofs.line_parts.parse_flag.Goals as goal
 
--- return Flag::NoFlag;
+-- return None;
 pub returns-then-bytes-ne1 : goal.returns-then-bytes-ne1
 returns-then-bytes-ne1 c = sym (flag_of-other_length _ c.if-bytes-ne1.true)
 
--- return Flag::Required;
+-- return Some(true);
 pub returns-then-bytes-eq49 : goal.returns-then-bytes-eq49
 returns-then-bytes-eq49 c = sym (flag_of-one_byte _ c.if-bytes-ne1.false ∙ rw (eq-eqb _ _ c.if-bytes-eq49.true))
 
--- return Flag::Optional;
+-- return Some(false);
 pub returns-then-bytes-eq48 : goal.returns-then-bytes-eq48
 returns-then-bytes-eq48 c = sym (flag_of-one_byte _ c.if-bytes-ne1.false ∙ rw (ne_eqb _ _ c.if-bytes-eq49.false, eq-eqb _ _ c.if-bytes-eq48.true))
 
--- pub fn parse_flag(bytes: &[u8]) -> Flag
+-- pub fn parse_flag(bytes: &[u8]) -> Option<bool>
 pub returns : goal.returns
 returns c = sym (flag_of-one_byte _ c.if-bytes-ne1.false ∙ rw (ne_eqb _ _ c.if-bytes-eq49.false, ne_eqb _ _ c.if-bytes-eq48.false))

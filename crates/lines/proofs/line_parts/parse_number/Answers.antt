@@ -5,16 +5,18 @@ use Rattle.lines.specs.LinePartsLaws.{number_of_leading_zero, number_from, numbe
 use borrow.Author.Rules.{rules}
 use Rattle.lines.proofs.line_parts.parse_number.Goals as goal
 
--- return Number32::NoNumber;
+-- return None;
 pub returns-then-not-has_no_leading_zero : goal.returns-then-not-has_no_leading_zero
 returns-then-not-has_no_leading_zero c = sym (number_of_leading_zero _ (sym c.has_no_leading_zero.ensures ∙ not-true _ c.if-not-has_no_leading_zero.true-raw))
 
--- pub fn parse_number(bytes: &[u8]) -> Number32
+-- pub fn parse_number(bytes: &[u8]) -> Option<u32>
 pub returns-then-count-lt4294967296 : goal.returns-then-count-lt4294967296
-returns-then-count-lt4294967296 c = sym (number_of_count _ (sym c.has_no_leading_zero.ensures ∙ not-false _ c.if-not-has_no_leading_zero.false-raw) ∙ ap number_from (sym c.parse_count.ensures.outcome ∙ c.in-Number.is) ∙ rw (lt-ltb _ _ c.if-count-lt4294967296.true))
+returns-then-count-lt4294967296 c = sym (number_of_count _ (sym c.has_no_leading_zero.ensures ∙ not-false _ c.if-not-has_no_leading_zero.false-raw) ∙ ap number_from (sym c.parse_count.ensures.outcome ∙ c.in_ok-count.was) ∙ rw (lt-ltb _ _ c.if-count-lt4294967296.true))
 
-pub returns-else-count-lt4294967296 : goal.returns-else-count-lt4294967296
-returns-else-count-lt4294967296 c = sym (number_of_count _ (sym c.has_no_leading_zero.ensures ∙ not-false _ c.if-not-has_no_leading_zero.false-raw) ∙ ap number_from (sym c.parse_count.ensures.outcome ∙ c.in-Number.is) ∙ rw (le-ltb _ _ c.if-count-lt4294967296.false))
+-- None
+pub returns : goal.returns
+returns c = sym (number_of_count _ (sym c.has_no_leading_zero.ensures ∙ not-false _ c.if-not-has_no_leading_zero.false-raw) ∙ ap number_from (sym c.parse_count.ensures.outcome ∙ c.in_ok-count.was) ∙ rw (le-ltb _ _ c.if-count-lt4294967296.false))
 
-pub returns-in-Nothing : goal.returns-in-Nothing
-returns-in-Nothing c = sym (number_of_count _ (sym c.has_no_leading_zero.ensures ∙ not-false _ c.if-not-has_no_leading_zero.false-raw) ∙ ap number_from (sym c.parse_count.ensures.outcome ∙ c.in-Nothing.is))
+-- let count = parse_count(bytes)?;
+pub returns-in_err-count : goal.returns-in_err-count
+returns-in_err-count c = c.from_residual.ensures ∙ sym (number_of_count _ (sym c.has_no_leading_zero.ensures ∙ not-false _ c.if-not-has_no_leading_zero.false-raw) ∙ ap number_from (sym c.parse_count.ensures.outcome ∙ c.in_err-count.was))

@@ -3,7 +3,7 @@ use Rattle.lines.specs.LineParts.{type_of}
 use borrow.Author.Rules.{rules}
 use Rattle.lines.proofs.line_parts.parse_type.Goals as goal
 
--- pub fn parse_type(name: &[u8]) -> TypeName
+-- pub fn parse_type(name: &[u8]) -> Option<u32>
 pub returns : goal.returns
 unfolding type_of
 returns c = c.type_in.ensures

@@ -13,11 +13,11 @@ use Rattle.lines.proofs.line_parts.type_in.Goals as goal
 pub loop-number-init : goal.loop-number-init
 loop-number-init c = (omega arith, (omega arith, refl))
 
--- return TypeName::TypeAt(number);
+-- return Some(number);
 pub returns-then-is_same : goal.returns-then-is_same
 returns-then-is_same c = sym (c.loop-number.invariant.1.1 ∙ type-here _ _ _ _ _ c.loop-number.invariant.1.0 c.position_of-past.ensures.place (sym c.is_same.ensures ∙ c.if-is_same.true))
 
--- return TypeName::NoType;
+-- return None;
 pub returns-then-past-names : goal.returns-then-past-names
 returns-then-past-names c = sym (c.loop-number.invariant.1.1 ∙ type-nowhere _ _ _ _ _ c.loop-number.invariant.1.0 c.position_of-past.ensures.place (sym c.is_same.ensures ∙ c.if-is_same.false) c.if-past-names.true)
 

@@ -1,24 +1,23 @@
 -- `read_dictionary::read_dictionary::put_dictionary` meets its contract: the parts of a dictionary, one behind the other (specs/ReadDictionaryLaws.antt).
 use native.Mathlib.Omega.{arith}
 use Rattle.read_dictionary.specs.ReadDictionaryLaws.{accepted-few, records-fit, tags-space, components-space, messages-space, dictionary-put}
-use borrow.Author.Rules.{rules}
 use Rattle.read_dictionary.proofs.read_dictionary.put_dictionary.Goals as goal
 
 -- lines as u32,
-pub overflow_cast-lines : goal.overflow_cast-lines
-overflow_cast-lines c = omega (arith, accepted-few _ _ c.requires.0)
+pub overflow_cast-counts : goal.overflow_cast-counts
+overflow_cast-counts c = omega (arith, accepted-few _ _ c.requires.0)
 
 -- tags as u32,
-pub overflow_cast-tags : goal.overflow_cast-tags
-overflow_cast-tags c = omega (arith, accepted-few _ _ c.requires.0)
+pub overflow_cast-counts-2 : goal.overflow_cast-counts-2
+overflow_cast-counts-2 c = omega (arith, accepted-few _ _ c.requires.0)
 
 -- components as u32,
-pub overflow_cast-components : goal.overflow_cast-components
-overflow_cast-components c = omega (arith, accepted-few _ _ c.requires.0)
+pub overflow_cast-counts-3 : goal.overflow_cast-counts-3
+overflow_cast-counts-3 c = omega (arith, accepted-few _ _ c.requires.0)
 
 -- messages as u32,
-pub overflow_cast-messages : goal.overflow_cast-messages
-overflow_cast-messages c = omega (arith, accepted-few _ _ c.requires.0)
+pub overflow_cast-counts-4 : goal.overflow_cast-counts-4
+overflow_cast-counts-4 c = omega (arith, accepted-few _ _ c.requires.0)
 
 -- put_records(text, words);
 pub put_records-requires : goal.put_records-requires

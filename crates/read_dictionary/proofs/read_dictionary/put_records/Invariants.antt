@@ -1,9 +1,7 @@
 -- `read_dictionary::read_dictionary::put_records` meets its contract. The loop's invariant is `RecordsSoFar`; the laws are those of specs/ReadDictionaryLaws.antt.
 use Prim.Native.Nat.{◌-◌}
-use native.Mathlib.Omega.{arith}
 use lib.ListN.{length}
-use Rattle.read_dictionary.specs.ReadDictionaryLaws.{RecordsSoFar, records-begin, records-end, records-break, records-room, records-turn}
-use borrow.Author.Rules.{rules}
+use Rattle.read_dictionary.specs.ReadDictionaryLaws.{RecordsSoFar}
 use Rattle.read_dictionary.proofs.read_dictionary.put_records.Given as goal
 
 abbrev pub invariant-loop-first : goal.invariant-loop-first

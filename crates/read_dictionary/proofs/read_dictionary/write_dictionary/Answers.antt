@@ -4,14 +4,13 @@ use native.Mathlib.Omega.{arith}
 use Rattle.dictionary.specs.DictionaryWords.{dictionary_words}
 use Rattle.read_dictionary.specs.ReadDictionary.{text_lines}
 use Rattle.read_dictionary.specs.ReadDictionaryLaws.{accepted-needs, accepted-few, space_short, space-holds}
-use borrow.Author.Rules.{rules}
 use Rattle.read_dictionary.proofs.read_dictionary.write_dictionary.Goals as goal
 
 -- let needed = words_needed(counts);
 pub words_needed-needed-requires : goal.words_needed-needed-requires
 words_needed-needed-requires c = let few = accepted-few _ _ c.requires in (omega arith, (omega arith, (omega arith, omega arith)))
 
--- return Read::Refused(Refusal::SpaceShort(needed));
+-- return Err(Refusal::SpaceShort(needed));
 pub returns-then-words-needed : goal.returns-then-words-needed
 returns-then-words-needed c = record {
   outcome = (space_short (dictionary_words (text_lines c.args.text.now)) c.args.words.now _ (c.words_needed-needed.ensures ∙ accepted-needs _ _ c.requires) c.if-words-needed.true).0;

@@ -1,7 +1,6 @@
 -- `read_dictionary::text_check::are_once_each` meets its contract: the names are sorted, then compared each with the next.
 use mathlib.Core.Path.{ap, ◌∙◌}
 use Rattle.ascending.specs.Search.{is_strictly_ascending}
-use borrow.Author.Rules.{rules}
 use Rattle.read_dictionary.proofs.text_check.are_once_each.Goals as goal
 
 pub returns : goal.returns

@@ -1,12 +1,8 @@
 -- `read_dictionary::text_check::read_lines` meets its contract. The loop's invariant is `ReadSoFar`; the laws are those of specs/TextCheckLaws.antt and
 -- of texts' specs/DictionaryTextLaws.antt.
-use mathlib.Core.Path.{sym, ◌∙◌}
 use Prim.Native.Nat.{◌-◌}
-use native.Mathlib.Omega.{arith}
 use lib.ListN.{length}
-use Rattle.texts.specs.DictionaryTextLaws.{order-stops, order-breaks, order-faulty}
-use Rattle.read_dictionary.specs.TextCheckLaws.{ReadSoFar, reading_begins, names-room, reading-stops, reading-breaks, reading-faulty, reading-turns}
-use borrow.Author.Rules.{rules}
+use Rattle.read_dictionary.specs.TextCheckLaws.{ReadSoFar}
 use Rattle.read_dictionary.proofs.text_check.read_lines.Given as goal
 
 abbrev pub invariant-loop-first : goal.invariant-loop-first

@@ -1,5 +1,4 @@
 -- `texts::dictionary_text::defined_by` meets its contract, a form at a time.
-use borrow.Author.Rules.{rules}
 use Rattle.texts.proofs.dictionary_text.defined_by.Goals as goal
 
 -- pub fn defined_by(line: Line) -> Defined

@@ -1,13 +1,10 @@
 -- `texts::dictionary_text::first_again` meets its contract. The loop's invariant is `AgainSoFar`; every answer cites a law of
 -- specs/DictionaryTextLaws.antt.
-use mathlib.Core.Path.{◌≡◌, refl, sym, ap, ◌∙◌}
-use Prim.Native.Nat.{◌-◌}
+use mathlib.Core.Path.{refl, sym, ap, ◌∙◌}
 use native.Mathlib.Omega.{arith}
-use lib.ListN.{length}
 use lib.Seq.{length-take-le}
 use Rattle.texts.specs.DictionaryText.{key_of}
-use Rattle.texts.specs.DictionaryTextLaws.{AgainSoFar, again-begins, again-stops, again-breaks, again-skips, again-found, again-adds}
-use borrow.Author.Rules.{rules}
+use Rattle.texts.specs.DictionaryTextLaws.{again-begins, again-stops, again-breaks, again-skips, again-found, again-adds}
 use Rattle.texts.proofs.dictionary_text.first_again.Goals as goal
 
 -- while first < text.len() {
@@ -18,7 +15,7 @@ loop-first-init c = again-begins _ _ refl
 pub position_of-past-requires : goal.position_of-past-requires
 position_of-past-requires c = c.loop-first.invariant.within
 
--- return Again::Nowhere;
+-- return None;
 pub returns-then-past-text : goal.returns-then-past-text
 returns-then-past-text c = sym (again-breaks _ _ _ _ _ c.loop-first.invariant _ c.position_of-past.ensures.place c.if-past-text.true)
 
@@ -39,9 +36,9 @@ slice_bounds-seen-end c = omega (arith, c.loop-first.invariant.few_keys, c.loop-
 pub slice_bounds-is_in-end : goal.slice_bounds-is_in-end
 slice_bounds-is_in-end c = sym (length-take-le c.loop-first.known c.loop-first.seen (omega (arith, c.loop-first.invariant.few_keys, c.loop-first.invariant.within, c.loop-first.invariant.places, c.requires)))
 
--- return Again::At(number);
+-- return Some(number);
 pub returns-then-is_in : goal.returns-then-is_in
-returns-then-is_in c = sym (again-found _ _ _ _ _ c.loop-first.invariant _ c.position_of-past.ensures.place c.if-past-text.false _ c.line_of-line.ensures _ (sym (c.key_of-key.ensures ∙ ap key_of c.defined_by.ensures) ∙ c.in-Of.is) (sym c.is_in.ensures ∙ c.if-is_in.true))
+returns-then-is_in c = sym (again-found _ _ _ _ _ c.loop-first.invariant _ c.position_of-past.ensures.place c.if-past-text.false _ c.line_of-line.ensures _ (sym (c.key_of-key.ensures ∙ ap key_of c.defined_by.ensures) ∙ c.in-Some.is) (sym c.is_in.ensures ∙ c.if-is_in.true))
 
 -- seen[known] = value;
 pub offset_bounds-seen-known : goal.offset_bounds-seen-known
@@ -63,26 +60,26 @@ pub overflow_add-first : goal.overflow_add-first
 overflow_add-first c = omega (arith, c.position_of-past.ensures.within, c.if-past-text.false, c.requires)
 
 -- while first < text.len() {
-pub loop-first-smaller-in-Of : goal.loop-first-smaller-in-Of
-loop-first-smaller-in-Of c = omega (arith, c.position_of-past.ensures.within, c.if-past-text.false)
+pub loop-first-smaller-in-Some : goal.loop-first-smaller-in-Some
+loop-first-smaller-in-Some c = omega (arith, c.position_of-past.ensures.within, c.if-past-text.false)
 
-pub loop-first-preserved-in-Of : goal.loop-first-preserved-in-Of
-loop-first-preserved-in-Of c = again-adds _ _ _ _ _ c.loop-first.invariant _ c.position_of-past.ensures.place c.if-past-text.false _ c.line_of-line.ensures _ (sym (c.key_of-key.ensures ∙ ap key_of c.defined_by.ensures) ∙ c.in-Of.is) c.requires (sym c.is_in.ensures ∙ c.if-is_in.false)
+pub loop-first-preserved-in-Some : goal.loop-first-preserved-in-Some
+loop-first-preserved-in-Some c = again-adds _ _ _ _ _ c.loop-first.invariant _ c.position_of-past.ensures.place c.if-past-text.false _ c.line_of-line.ensures _ (sym (c.key_of-key.ensures ∙ ap key_of c.defined_by.ensures) ∙ c.in-Some.is) c.requires (sym c.is_in.ensures ∙ c.if-is_in.false)
 
-pub overflow_add-number-in-NoKey : goal.overflow_add-number-in-NoKey
-overflow_add-number-in-NoKey c = omega (arith, c.loop-first.invariant.few_lines, c.loop-first.invariant.within, c.requires)
+pub overflow_add-number-in-None : goal.overflow_add-number-in-None
+overflow_add-number-in-None c = omega (arith, c.loop-first.invariant.few_lines, c.loop-first.invariant.within, c.requires)
 
 -- first = past + 1;
-pub overflow_add-first-in-NoKey : goal.overflow_add-first-in-NoKey
-overflow_add-first-in-NoKey c = omega (arith, c.position_of-past.ensures.within, c.if-past-text.false, c.requires)
+pub overflow_add-first-in-None : goal.overflow_add-first-in-None
+overflow_add-first-in-None c = omega (arith, c.position_of-past.ensures.within, c.if-past-text.false, c.requires)
 
 -- while first < text.len() {
 pub loop-first-smaller : goal.loop-first-smaller
 loop-first-smaller c = omega (arith, c.position_of-past.ensures.within, c.if-past-text.false)
 
 pub loop-first-preserved : goal.loop-first-preserved
-loop-first-preserved c = again-skips _ _ _ _ _ c.loop-first.invariant _ c.position_of-past.ensures.place c.if-past-text.false _ c.line_of-line.ensures (sym (c.key_of-key.ensures ∙ ap key_of c.defined_by.ensures) ∙ c.in-NoKey.is)
+loop-first-preserved c = again-skips _ _ _ _ _ c.loop-first.invariant _ c.position_of-past.ensures.place c.if-past-text.false _ c.line_of-line.ensures (sym (c.key_of-key.ensures ∙ ap key_of c.defined_by.ensures) ∙ c.in-None.is)
 
--- fn first_again(text: &[u8]) -> Again
+-- fn first_again(text: &[u8]) -> Option<u64>
 pub returns : goal.returns
 returns c = sym (again-stops _ _ _ _ _ c.loop-first.invariant c.loop-first-test.false)

@@ -1,10 +1,9 @@
 -- `texts::dictionary_text::first_of` meets its contract, a case at a time.
-use borrow.Author.Rules.{rules}
 use Rattle.texts.proofs.dictionary_text.first_of.Goals as goal
 
--- fn first_of(again: Again, outcome: TextOutcome) -> TextOutcome
-pub returns-in-Accepted : goal.returns-in-Accepted
-returns-in-Accepted c = rw (c.in-At.is, c.in-Accepted.is)
+-- fn first_of(again: Option<u64>, outcome: Result<Counts, Refusal>) -> Result<Counts, Refusal>
+pub returns-in-Ok : goal.returns-in-Ok
+returns-in-Ok c = rw (c.in-Some.is, c.in-Ok.is)
 
-pub returns-in-Refused : goal.returns-in-Refused
-returns-in-Refused c = rw (c.in-At.is, c.in-Refused.is) c.refused_earlier.ensures
+pub returns-in-Err : goal.returns-in-Err
+returns-in-Err c = rw (c.in-Some.is, c.in-Err.is) c.refused_earlier.ensures

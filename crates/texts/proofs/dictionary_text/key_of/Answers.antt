@@ -1,8 +1,7 @@
 -- `texts::dictionary_text::key_of` meets its contract, a case at a time.
-use borrow.Author.Rules.{rules}
 use Rattle.texts.proofs.dictionary_text.key_of.Goals as goal
 
--- fn key_of(defined: Defined) -> Key
+-- fn key_of(defined: Defined) -> Option<u64>
 pub returns-in-Tag : goal.returns-in-Tag
 returns-in-Tag c = rw c.in-Tag.is
 

@@ -1,12 +1,8 @@
 -- `texts::dictionary_text::read_in_order` meets its contract. The loop's invariant is `OrderSoFar`; every answer cites a law of
 -- specs/DictionaryTextLaws.antt.
-use mathlib.Core.Path.{◌≡◌, sym, ap, ◌∙◌}
 use Prim.Native.Nat.{◌-◌}
-use native.Mathlib.Omega.{arith}
 use lib.ListN.{length}
-use Rattle.texts.specs.DictionaryText.{counted}
-use Rattle.texts.specs.DictionaryTextLaws.{OrderSoFar, CountsWithin, few-up_to, order-begins, order-stops, order-breaks, order-faulty, order-turns}
-use borrow.Author.Rules.{rules}
+use Rattle.texts.specs.DictionaryTextLaws.{OrderSoFar}
 use Rattle.texts.proofs.dictionary_text.read_in_order.Given as goal
 
 abbrev pub invariant-loop-first : goal.invariant-loop-first
