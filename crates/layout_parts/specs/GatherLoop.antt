@@ -6,26 +6,25 @@
 --   PartsHold levels groups ..     the rows hold the parts of these levels, and of the groups that stand in them
 --   WaitingHold text starts place groups   from `place` on stands where the lines of the entry of each group begin
 --   GatherSoFar ..                 the levels up to the entry of group `number - 1` were gathered
-use Rattle.std.specs.Prelude.{◌≡◌, refl, ℕ, zero, suc, ◌+◌, ◌*◌, ◌-◌, ◌≤◌, ◌<◌, Bool, true, false, get_or, set, drop}
+use Rattle.std.specs.Prelude.{◌≡◌, refl, ℕ, zero, suc, ◌+◌, ◌*◌, ◌-◌, ◌≤◌, ◌<◌, Bool, true, false, get_or, drop}
 use Rattle.std.proofs.Math.Path.{sym, ap}
-use Rattle.std.proofs.Common.{ap₂, ◌∙◌, take_at, length-take-le, get_or-take, take-take}
+use Rattle.std.proofs.Common.{ap₂, ◌∙◌, take_at, length-take-le, get_or-take}
 use mathlib.Core.List.{List, [], ◌∷◌, ◌++◌, map, append_assoc, append-nil}
 use native.Mathlib.Omega.{arith}
 use Rattle.std.proofs.Math.ListN.{length, take, length-append, length-map}
 use Rattle.std.proofs.lemmas.List.Edits.{sets, sets-eq}
 use Rattle.std.proofs.Math.Seq.{length-sets}
-use Rattle.layouts.specs.Layout.{Level, Groups, Group, Layout, level_of_lem, no_groups, group_and, group_of_lem, listed, members_of, required_of, groups_of, count_tags_of, count_tag, delimiter, entry, groups_below, level_order, all_groups, all_levels, all_members, all_required, joined}
-use Rattle.layouts.specs.LayoutLaws.{group_total, group_total-first, group_total-append, groups_below-total, groups_with-total, length-level_order, map-append}
+use Rattle.layouts.specs.Layout.{Level, Groups, Group, Layout, level_of_lem, no_groups, group_and, group_of_lem, listed, members_of, required_of, groups_of, count_tags_of, count_tag, delimiter, entry, level_order, all_groups, all_levels, all_members, all_required, joined}
+use Rattle.layouts.specs.LayoutLaws.{group_total, group_total-first, groups_below-total, groups_with-total, length-level_order, map-append}
 use Rattle.layouts.specs.LayoutWords.{flag}
 use Rattle.layouts.specs.GatheredLayout.{column, ends_from, Gathered}
-use Rattle.layouts.specs.GatheredLayoutLaws.{ends_from-more, column-at, length-column}
+use Rattle.layouts.specs.GatheredLayoutLaws.{ends_from-more}
 use Rattle.layout_text.specs.declared.level_line.LevelLine.{LevelLine}
 use Rattle.layout_text.specs.declared.level_line.LevelLine.TheVariants.{EndLine}
 use Rattle.layout_parts.specs.declared.layout_parts.Parts.{Parts}
 use Rattle.layout_text.specs.LevelLines.{lines_at}
 use Rattle.layout_text.specs.LayoutOfText.{layout_of, level_lines, block_lines}
-use Rattle.layout_text.specs.InOrder.{InOrder}
-use Rattle.layout_parts.specs.LayoutParts.{own_tags, behind_tags, BlockStart, start_of, blocks_in}
+use Rattle.layout_parts.specs.LayoutParts.{own_tags, behind_tags, BlockStart, blocks_in}
 use Rattle.layout_parts.specs.LayoutPartsLaws.{Stops, starts_of, OwnParts, level-parts}
 use Rattle.layout_parts.specs.PartsLoops.{StartsHold, GroupsPut, start_tag, start_delimiter, start_flag, columns_beside, column-first, column-second, column-third}
 

@@ -7,30 +7,28 @@
 --   BlockStart                   a `group` line and the lines behind it
 --   blocks_in depth lines         the blocks of the level that `depth` blocks are open in, up to its `end` line
 --   member_count lines, required_count lines, group_count lines   how many `member`, `required` and `group` lines there are
-use Rattle.std.specs.Prelude.{ℕ, zero, suc, Bool, true, false, List, [], ◌∷◌, if◌then◌else◌}
+use Rattle.std.specs.Prelude.{ℕ, zero, suc, Bool, List, [], ◌∷◌, if◌then◌else◌, Option, Some, None}
 use Rattle.layout_text.specs.declared.level_line.LevelLine.{LevelLine}
 use Rattle.layout_text.specs.declared.level_line.LevelLine.TheVariants.{MemberLine, RequiredLine, GroupLine, EndLine, OtherLine}
-use Rattle.layout_parts.specs.declared.layout_parts.LineTag.{LineTag}
-use Rattle.layout_parts.specs.declared.layout_parts.LineTag.TheVariants.{Tag, NoTag}
 
-abbrev pub tag_of : Bool → LevelLine → LineTag
-tag_of required (MemberLine tag) = if required then NoTag else Tag tag
-tag_of required (RequiredLine tag) = if required then Tag tag else NoTag
-tag_of required (GroupLine count delimiter flag) = NoTag
-tag_of required EndLine = NoTag
-tag_of required OtherLine = NoTag
+abbrev pub tag_of : Bool → LevelLine → Option ℕ
+tag_of required (MemberLine tag) = if required then None else Some tag
+tag_of required (RequiredLine tag) = if required then Some tag else None
+tag_of required (GroupLine count delimiter flag) = None
+tag_of required EndLine = None
+tag_of required OtherLine = None
 
-abbrev pub own_with : LineTag → List ℕ → List ℕ
-own_with (Tag tag) rest = tag ∷ rest
-own_with NoTag rest = []
+abbrev pub own_with : Option ℕ → List ℕ → List ℕ
+own_with (Some tag) rest = tag ∷ rest
+own_with None rest = []
 
 unfoldable pub own_tags : Bool → List LevelLine → List ℕ
 own_tags required [] = []
 own_tags required (line ∷ lines) = own_with (tag_of required line) (own_tags required lines)
 
-abbrev pub behind_with : LineTag → List LevelLine → List LevelLine → List LevelLine
-behind_with (Tag tag) all rest = rest
-behind_with NoTag all rest = all
+abbrev pub behind_with : Option ℕ → List LevelLine → List LevelLine → List LevelLine
+behind_with (Some tag) all rest = rest
+behind_with None all rest = all
 
 unfoldable pub behind_tags : Bool → List LevelLine → List LevelLine
 behind_tags required [] = []

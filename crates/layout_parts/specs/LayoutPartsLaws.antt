@@ -6,11 +6,10 @@
 use Rattle.std.specs.Prelude.{◌≡◌, Bool, true, false}
 use Rattle.std.proofs.Math.Path.{refl}
 use Rattle.std.proofs.Common.{sym, ap, ◌∙◌}
-use Prim.Native.Nat.{ℕ, zero, suc, ◌+◌, ◌≤◌}
+use Prim.Native.Nat.{ℕ, zero, suc, ◌+◌}
 use mathlib.Core.List.{List, [], ◌∷◌, ◌++◌, map}
 use native.Mathlib.Omega.{arith}
 use Rattle.std.proofs.Math.ListN.{length, length-append}
-use Rattle.std.proofs.lemmas.List.{length-map}
 use Rattle.layouts.specs.Layout.{Level, Groups, Group, Layout, level_of_lem, no_groups, group_and, group_of_lem, listed, members_of, required_of, groups_of, entry, groups_below, groups_among, groups_with, level_order, all_groups, all_members, all_required, joined}
 use Rattle.layouts.specs.LayoutLaws.{group_total, group_total-first, groups_below-total, length-level_order}
 use Rattle.layout_text.specs.declared.level_line.LevelLine.{LevelLine}

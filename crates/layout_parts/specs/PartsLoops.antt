@@ -4,13 +4,15 @@
 --   TagsTaken text first required tags count next index now   `index` tags were put behind the `count` of the row
 --   StartsHold text starts place blocks                    from `place` on stands where the lines of each block begin
 --   GroupsPut text rows starts groups blocks new_rows new_starts count   the rows and the starts of the blocks were put behind those of `groups` others
-use Rattle.std.specs.Prelude.{◌≡◌, Bool, List, [], ◌∷◌, ◌++◌, map, length, get_or, set, take, if◌then◌else◌}
+use Rattle.std.specs.Prelude.{◌≡◌, Bool, true, false, List, [], ◌∷◌, ◌++◌, map, length, get_or, set, take, drop, if◌then◌else◌, Option, Some, None}
 use Rattle.std.proofs.Math.Path.{refl}
-use Rattle.std.proofs.Common.{sym, ap, ap₂, ◌∙◌, append_assoc, append-nil, length-append, length-set, get_or-set_same, get_or-set_other}
+use Rattle.std.proofs.Common.{sym, ap, ◌∙◌, append_assoc, append-nil, length-append, length-set, get_or-set_same, get_or-set_other}
 use Prim.Native.Nat.{ℕ, zero, suc, ◌+◌, ◌*◌, ◌-◌, ◌≤◌, ◌<◌}
 use native.Mathlib.Omega.{arith}
 use Rattle.std.proofs.Math.Numerals.{towards_suc}
-use Rattle.std.proofs.lemmas.List.Edits.{sets}
+use Rattle.std.proofs.lemmas.List.Edits.{sets, sets-eq}
+use Rattle.std.specs.Int.{from_bool}
+use borrow.Rule.Slice.PartMut.{put_mid, Post-is}
 use Rattle.std.proofs.Math.Seq.{length-sets}
 use Rattle.std.proofs.lemmas.List.{take-set-le}
 use Rattle.layouts.specs.GatheredLayout.{column}
@@ -18,10 +20,10 @@ use Rattle.layouts.specs.GatheredLayoutLaws.{column-set, column-set_next, Storin
 use Rattle.layouts.specs.LayoutLaws.{map-append}
 use Rattle.layout_text.specs.declared.level_line.LevelLine.{LevelLine}
 use Rattle.layout_text.specs.declared.level_line.LevelLine.TheVariants.{MemberLine, RequiredLine, GroupLine, EndLine, OtherLine}
-use Rattle.layout_parts.specs.declared.layout_parts.LineTag.{LineTag}
-use Rattle.layout_parts.specs.declared.layout_parts.LineTag.TheVariants.{Tag, NoTag}
 use Rattle.layout_text.specs.LevelLines.{lines_at, least_bytes}
 use Rattle.layout_text.specs.LevelLinesLaws.{lines_none}
+use Rattle.layout_text.specs.declared.layout_text.Part.{Part}
+use Rattle.layout_text.specs.declared.layout_text.Part.TheVariants.{Members, Required, Blocks}
 use Rattle.layout_text.specs.InOrder.{InOrder}
 use Rattle.layout_parts.specs.LayoutParts.{tag_of, own_tags, behind_tags, BlockStart, start_of, blocks_in, member_count, required_count, group_count}
 
@@ -31,7 +33,7 @@ flag_word required = if required then 1 else 0
 -- ---- counts
 
 pub record CountsSoFar (text : List ℕ) (first members required groups : ℕ) : Type 0 where
-  pub part : ℕ
+  pub part : Part
   pub depth : ℕ
   pub within : first ≤ length text
   pub order : InOrder part depth (lines_at text first)
@@ -43,9 +45,9 @@ pub record CountsSoFar (text : List ℕ) (first members required groups : ℕ) :
   pub of_required : required + required_count (lines_at text first) ≡ required_count (lines_at text 0)
   pub of_groups : groups + group_count (lines_at text first) ≡ group_count (lines_at text 0)
 
-pub counts-begin : (text : List ℕ) → InOrder 0 0 (lines_at text 0) → CountsSoFar text 0 0 0 0
+pub counts-begin : (text : List ℕ) → InOrder Members 0 (lines_at text 0) → CountsSoFar text 0 0 0 0
 counts-begin text order = record {
-  part = 0;
+  part = Members;
   depth = 0;
   within = omega arith;
   order = order;
@@ -107,7 +109,7 @@ module _ (text : List ℕ) (first members required groups : ℕ) (so_far : Count
     after : (other : LevelLine) → line ≡ other → lines_at text first ≡ other ∷ lines_at text next
     after other is = reads ∙ ap {B = List LevelLine} (λ (each : LevelLine). each ∷ lines_at text next) is
 
-    counted : (other : LevelLine) → line ≡ other → (more needed nested depth part : ℕ) → OneLine other (lines_at text next) more needed nested → InOrder part depth (lines_at text next)
+    counted : (other : LevelLine) → line ≡ other → (more needed nested depth : ℕ) (part : Part) → OneLine other (lines_at text next) more needed nested → InOrder part depth (lines_at text next)
         → more ≤ 1 → needed ≤ 1 → nested ≤ 1 → 12 * (groups + nested) ≤ next + 5 * depth → CountsSoFar text next (members + more) (required + needed) (groups + nested)
     counted other is more needed nested depth part one order one_more one-needed one-nested few =
         let lines = after other is in
@@ -127,7 +129,7 @@ module _ (text : List ℕ) (first members required groups : ℕ) (so_far : Count
 
     pub counts-member : (tag : ℕ) → line ≡ MemberLine tag → CountsSoFar text next (members + 1) required groups
     counts-member tag is =
-        let order : (so_far.part ≡ 0) × InOrder so_far.part so_far.depth (lines_at text next) = rw (after (MemberLine tag) is) at so_far.order in
+        let order : (so_far.part ≡ Members) × InOrder so_far.part so_far.depth (lines_at text next) = rw (after (MemberLine tag) is) at so_far.order in
         let same : required + 0 ≡ required = omega arith in
         let also : groups + 0 ≡ groups = omega arith in
         rw (same, also) at
@@ -135,15 +137,15 @@ module _ (text : List ℕ) (first members required groups : ℕ) (so_far : Count
 
     pub counts-required : (tag : ℕ) → line ≡ RequiredLine tag → CountsSoFar text next members (required + 1) groups
     counts-required tag is =
-        let order : (so_far.part ≤ 1) × InOrder 1 so_far.depth (lines_at text next) = rw (after (RequiredLine tag) is) at so_far.order in
+        let order : (so_far.part ≡ Blocks → ⊥) × InOrder Required so_far.depth (lines_at text next) = rw (after (RequiredLine tag) is) at so_far.order in
         let same : members + 0 ≡ members = omega arith in
         let also : groups + 0 ≡ groups = omega arith in
         rw (same, also) at
-        (counted (RequiredLine tag) is 0 1 0 so_far.depth 1 (one-required tag (lines_at text next)) order.1 (omega arith) (omega arith) (omega arith) (omega (arith, so_far.few_groups, bounds.0)))
+        (counted (RequiredLine tag) is 0 1 0 so_far.depth Required (one-required tag (lines_at text next)) order.1 (omega arith) (omega arith) (omega arith) (omega (arith, so_far.few_groups, bounds.0)))
 
     pub counts-group : (count delimiter : ℕ) (flag : Bool) → line ≡ GroupLine count delimiter flag → CountsSoFar text next members required (groups + 1)
     counts-group count delimiter flag is =
-        let order : (so_far.depth < 40) × InOrder 0 (so_far.depth + 1) (lines_at text next) = rw (after (GroupLine count delimiter flag) is) at so_far.order in
+        let order : (so_far.depth < 40) × InOrder Members (so_far.depth + 1) (lines_at text next) = rw (after (GroupLine count delimiter flag) is) at so_far.order in
         let same : members + 0 ≡ members = omega arith in
         let also : required + 0 ≡ required = omega arith in
         rw (same, also) at
@@ -154,7 +156,7 @@ module _ (text : List ℕ) (first members required groups : ℕ) (so_far : Count
         0
         1
         (so_far.depth + 1)
-        0
+        Members
         (one_group count delimiter flag (lines_at text next))
         order.1
         (omega arith)
@@ -162,9 +164,9 @@ module _ (text : List ℕ) (first members required groups : ℕ) (so_far : Count
         (omega arith)
         (omega (arith, so_far.few_groups, bounds.2, ap least_bytes is, least-group count delimiter flag)))
 
-    pub counts-close : line ≡ EndLine → CountsSoFar text next members required groups
+    counts-close : line ≡ EndLine → CountsSoFar text next members required groups
     counts-close is =
-        let order : (0 < so_far.depth) × InOrder 2 (so_far.depth - 1) (lines_at text next) = rw (after EndLine is) at so_far.order in
+        let order : (0 < so_far.depth) × InOrder Blocks (so_far.depth - 1) (lines_at text next) = rw (after EndLine is) at so_far.order in
         let same : members + 0 ≡ members = omega arith in
         let also : required + 0 ≡ required = omega arith in
         let third : groups + 0 ≡ groups = omega arith in
@@ -176,7 +178,7 @@ module _ (text : List ℕ) (first members required groups : ℕ) (so_far : Count
         0
         0
         (so_far.depth - 1)
-        2
+        Blocks
         (one_end (lines_at text next))
         order.1
         (omega arith)
@@ -184,17 +186,23 @@ module _ (text : List ℕ) (first members required groups : ℕ) (so_far : Count
         (omega arith)
         (omega (arith, so_far.few_groups, bounds.2, order.0, ap least_bytes is, least-end)))
 
-    pub counts-no_other : line ≡ OtherLine → ⊥
-    counts-no_other is = rw (after OtherLine is) at so_far.order
+    -- an accepted text has no other line
+    pub counts-uncounted : (other : LevelLine) → line ≡ other → ((tag : ℕ) → line ≡ MemberLine tag → ⊥) → ((tag : ℕ) → line ≡ RequiredLine tag → ⊥)
+        → ((count delimiter : ℕ) (flag : Bool) → line ≡ GroupLine count delimiter flag → ⊥) → CountsSoFar text next members required groups
+    counts-uncounted (MemberLine tag) is no-member no-required no-group = absurd (no-member tag is)
+    counts-uncounted (RequiredLine tag) is no-member no-required no-group = absurd (no-required tag is)
+    counts-uncounted (GroupLine count delimiter flag) is no-member no-required no-group = absurd (no-group count delimiter flag is)
+    counts-uncounted EndLine is no-member no-required no-group = counts-close is
+    counts-uncounted OtherLine is no-member no-required no-group = absurd (rw (after OtherLine is) at so_far.order)
 
 -- ---- the tags of a level
 
-own-tag : (required : Bool) (lines later : List LevelLine) (line : LevelLine) (tag : ℕ) → lines ≡ line ∷ later → tag_of required line ≡ Tag tag
+own-tag : (required : Bool) (lines later : List LevelLine) (line : LevelLine) (tag : ℕ) → lines ≡ line ∷ later → tag_of required line ≡ Some tag
     → (own_tags required lines ≡ tag ∷ own_tags required later) × (behind_tags required lines ≡ behind_tags required later)
 unfolding own_tags behind_tags
 own-tag required lines later line tag are is = (rw (are, is), rw (are, is))
 
-no_tag : (required : Bool) (lines later : List LevelLine) (line : LevelLine) → lines ≡ line ∷ later → tag_of required line ≡ NoTag
+no_tag : (required : Bool) (lines later : List LevelLine) (line : LevelLine) → lines ≡ line ∷ later → tag_of required line ≡ None
     → (own_tags required lines ≡ []) × (behind_tags required lines ≡ lines)
 unfolding own_tags behind_tags
 no_tag required lines later line are is = (rw (are, is), rw (are, is))
@@ -233,15 +241,15 @@ module _ (text : List ℕ) (first : ℕ) (required : Bool) (tags : List ℕ) (co
       × (lines_at text next ≡ behind_tags required (lines_at text first))
   taken-end over = ended (no_line required (lines_at text next) (lines_none text next over))
 
-  module _ (line : LevelLine) (later : ℕ) (reads : lines_at text next ≡ line ∷ lines_at text later) (after : later ≤ length text) (found : LineTag) (told : found ≡ tag_of required line) where
-    pub taken-stops : found ≡ NoTag
+  module _ (line : LevelLine) (later : ℕ) (reads : lines_at text next ≡ line ∷ lines_at text later) (after : later ≤ length text) (found : Option ℕ) (told : found ≡ tag_of required line) where
+    pub taken-stops : found ≡ None
         → (now ≡ sets tags count (own_tags required (lines_at text first)))
         × (count + index ≡ count + length (own_tags required (lines_at text first)))
         × (next ≤ length text)
         × (lines_at text next ≡ behind_tags required (lines_at text first))
     taken-stops is = ended (no_tag required (lines_at text next) (lines_at text later) line reads (sym told ∙ is))
 
-    module _ (tag : ℕ) (is : found ≡ Tag tag) where
+    module _ (tag : ℕ) (is : found ≡ Some tag) where
       one_tag : (own_tags required (lines_at text next) ≡ tag ∷ own_tags required (lines_at text later)) × (behind_tags required (lines_at text next) ≡ behind_tags required (lines_at text later))
       one_tag = own-tag required (lines_at text next) (lines_at text later) line tag reads (sym told ∙ is)
 
@@ -258,7 +266,21 @@ module _ (text : List ℕ) (first : ℕ) (required : Bool) (tags : List ℕ) (co
 
 -- ---- three words of a row
 
-pub row-stores : (rows : List ℕ) (at one two three first second third : ℕ) → first ≡ one → second ≡ two → third ≡ three
+flag-word : (flag : Bool) → from_bool flag ≡ flag_word flag
+flag-word true = refl
+flag-word false = refl
+
+-- `rows[at..at + 3].copy_from_slice(&[one, two, three])`
+pub row-put : (rows : List ℕ) (at : ℕ) (part : List ℕ) (one two three : ℕ) → part ≡ one ∷ two ∷ three ∷ [] → at + 3 ≤ length rows
+    → put_mid at (at + 3 - at) rows part ≡ sets rows at (one ∷ two ∷ three ∷ [])
+row-put rows at part one two three same room =
+    rw (same, Post-is at (at + 3) rows (omega arith)) (sym (sets-eq (one ∷ two ∷ three ∷ []) rows at room ∙ append_assoc (take at rows) (one ∷ two ∷ three ∷ []) (drop (at + 3) rows)))
+
+pub row-put_flag : (rows : List ℕ) (at : ℕ) (part : List ℕ) (one two word : ℕ) (flag : Bool) → word ≡ from_bool flag → part ≡ one ∷ two ∷ word ∷ [] → at + 3 ≤ length rows
+    → put_mid at (at + 3 - at) rows part ≡ sets rows at (one ∷ two ∷ flag_word flag ∷ [])
+row-put_flag rows at part one two word flag is same room = row-put rows at part one two (flag_word flag) (same ∙ rw (is, flag-word flag)) room
+
+row-stores : (rows : List ℕ) (at one two three first second third : ℕ) → first ≡ one → second ≡ two → third ≡ three
     → set (set (set rows at first) (at + 1) second) (at + 2) third ≡ sets rows at (one ∷ two ∷ three ∷ [])
 row-stores rows at one two three first second third of_one of_two of_three = rw (of_one, of_two, of_three) (simp towards_suc)
 
@@ -481,14 +503,22 @@ module _ (text : List ℕ) (first : ℕ) (rows starts : List ℕ) (groups next d
     moved deeper deep same =
         record { done = so_far.done; within = after; deep = deep; put = so_far.put; rest = so_far.rest ∙ ap (λ (blocks : List BlockStart). so_far.done ++ blocks) same }
 
-    pub blocks-at_member : (tag : ℕ) → line ≡ MemberLine tag → BlocksSoFar text first rows starts groups later depth count new_rows new_starts
+    blocks-at_member : (tag : ℕ) → line ≡ MemberLine tag → BlocksSoFar text first rows starts groups later depth count new_rows new_starts
     blocks-at_member tag is = moved depth (omega (arith, so_far.deep)) (blocks-member depth (lines_at text next) (lines_at text later) tag (behind (MemberLine tag) is))
 
-    pub blocks-at_required : (tag : ℕ) → line ≡ RequiredLine tag → BlocksSoFar text first rows starts groups later depth count new_rows new_starts
+    blocks-at_required : (tag : ℕ) → line ≡ RequiredLine tag → BlocksSoFar text first rows starts groups later depth count new_rows new_starts
     blocks-at_required tag is = moved depth (omega (arith, so_far.deep)) (blocks-required depth (lines_at text next) (lines_at text later) tag (behind (RequiredLine tag) is))
 
-    pub blocks-at_other : line ≡ OtherLine → BlocksSoFar text first rows starts groups later depth count new_rows new_starts
+    blocks-at_other : line ≡ OtherLine → BlocksSoFar text first rows starts groups later depth count new_rows new_starts
     blocks-at_other is = moved depth (omega (arith, so_far.deep)) (blocks-other depth (lines_at text next) (lines_at text later) (behind OtherLine is))
+
+    pub blocks-at_tag : (other : LevelLine) → line ≡ other → ((count delimiter : ℕ) (flag : Bool) → line ≡ GroupLine count delimiter flag → ⊥) → (line ≡ EndLine → ⊥)
+        → BlocksSoFar text first rows starts groups later depth count new_rows new_starts
+    blocks-at_tag (MemberLine tag) is no-group no-end = blocks-at_member tag is
+    blocks-at_tag (RequiredLine tag) is no-group no-end = blocks-at_required tag is
+    blocks-at_tag (GroupLine count_tag delimiter flag) is no-group no-end = absurd (no-group count_tag delimiter flag is)
+    blocks-at_tag EndLine is no-group no-end = absurd (no-end is)
+    blocks-at_tag OtherLine is no-group no-end = blocks-at_other is
 
     pub blocks-at_end : line ≡ EndLine → depth ≡ 0 → GroupsPut text rows starts groups (blocks_in 0 (lines_at text first)) new_rows new_starts count
     blocks-at_end is none = all-put (blocks-stop depth (lines_at text next) (lines_at text later) (behind EndLine is) none)

@@ -3,13 +3,13 @@
 ghost use Rattle.std.specs.Prelude.{◌≡◌, [], ◌∷◌, ◌+◌, ◌*◌, ◌<◌, ◌≤◌, length};
 ghost use Rattle.std.proofs.lemmas.List.Edits.{sets};
 ghost use Rattle.layout_text.specs.LevelLines.{lines_at};
+ghost use Rattle.layout_text.specs.declared.layout_text.Part.TheVariants.{Members};
 ghost use Rattle.layout_text.specs.InOrder.{InOrder};
 ghost use Rattle.layout_parts.specs.LayoutParts.{tag_of, own_tags, behind_tags, blocks_in, member_count, required_count, group_count};
 ghost use Rattle.layout_parts.specs.PartsLoops.{flag_word, GroupsPut};
 ghost use Rattle.layout_parts.specs.GatherLoop.{LevelRoom, LevelPut, GatherRoom, GatheredIn};
 
 use layout_text::level_line::{LevelLine, line_at};
-use layouts::layout_words::{narrow, wide};
 
 // How many members, required tags and groups there are.
 #[derive(Clone, Copy)]
@@ -19,14 +19,7 @@ pub struct Parts {
     pub groups: usize,
 }
 
-// The tag of a line of one kind.
-#[derive(Clone, Copy)]
-pub enum LineTag {
-    Tag(u32),
-    NoTag,
-}
-
-// How many tags stand in a row, and where the lines behind theirs begin.
+// How many tags stand in a row, and where the lines after theirs begin.
 #[derive(Clone, Copy)]
 pub struct TakenTags {
     pub count: usize,
@@ -35,7 +28,7 @@ pub struct TakenTags {
 
 // How many member, required and group lines the text has. A block has 12 bytes at least.
 pub fn count_parts(text: &[u8]) -> Parts
-    requires { (length text.now ≤ 65536) × InOrder 0 0 (lines_at text.now 0) }
+    requires { (length text.now ≤ 65536) × InOrder Members 0 (lines_at text.now 0) }
     ensures members { result.members ≡ member_count (lines_at text.now 0) }
     ensures required { result.required ≡ required_count (lines_at text.now 0) }
     ensures groups { (result.groups ≡ group_count (lines_at text.now 0)) × (12 * result.groups ≤ length text.now) }
@@ -58,8 +51,7 @@ pub fn count_parts(text: &[u8]) -> Parts
             LevelLine::GroupLine(_, _, _) => {
                 groups += 1;
             }
-            LevelLine::EndLine => {}
-            LevelLine::OtherLine => {}
+            _ => {}
         }
     }
     Parts {
@@ -70,27 +62,17 @@ pub fn count_parts(text: &[u8]) -> Parts
 }
 
 // The tag of a required line, or else of a member line.
-fn tag_of(line: LevelLine, required: bool) -> LineTag
+fn tag_of(line: LevelLine, required: bool) -> Option<u32>
     ensures { result ≡ tag_of required line }
 {
     match line {
-        LevelLine::MemberLine(tag) => if required {
-            LineTag::NoTag
-        } else {
-            LineTag::Tag(tag)
-        },
-        LevelLine::RequiredLine(tag) => if required {
-            LineTag::Tag(tag)
-        } else {
-            LineTag::NoTag
-        },
-        LevelLine::GroupLine(_, _, _) => LineTag::NoTag,
-        LevelLine::EndLine => LineTag::NoTag,
-        LevelLine::OtherLine => LineTag::NoTag,
+        LevelLine::MemberLine(tag) => (!required).then_some(tag),
+        LevelLine::RequiredLine(tag) => required.then_some(tag),
+        _ => None,
     }
 }
 
-// Puts the tags of the lines of one kind that stand at `first` behind the `count` tags of the row.
+// Puts the tags of the lines of one kind that stand at `first` after the `count` tags of the row.
 fn put_tags(text: &[u8], first: usize, required: bool, tags: &mut [u32], count: usize) -> TakenTags
     requires { (first ≤ length text.now) × (count + length (own_tags required (lines_at text.now first)) ≤ length tags.old) }
     ensures tags { tags.new ≡ sets tags.old count (own_tags required (lines_at text.now first)) }
@@ -101,33 +83,17 @@ fn put_tags(text: &[u8], first: usize, required: bool, tags: &mut [u32], count: 
     let mut index = 0;
     while next < text.len() {
         let found = line_at(text, next);
-        let line = found.line;
-        let later = found.next;
-        let line_tag = tag_of(line, required);
-        match line_tag {
-            LineTag::Tag(tag) => {
-                tags[count + index] = tag;
-                index += 1;
-                next = later;
-            }
-            LineTag::NoTag => {
-                return TakenTags {
-                    count: count + index,
-                    next,
-                };
-            }
-        }
+        let Some(tag) = tag_of(found.line, required) else {
+            break;
+        };
+        tags[count + index] = tag;
+        index += 1;
+        next = found.next;
     }
     TakenTags {
         count: count + index,
         next,
     }
-}
-
-fn flag_word(required: bool) -> u32
-    ensures { result ≡ flag_word required }
-{
-    if required { 1 } else { 0 }
 }
 
 // The first words of the row of a group's entry level.
@@ -136,9 +102,7 @@ fn put_group(rows: &mut [u32], group: usize, count: u32, delimiter: u32, require
     ensures { rows.new ≡ sets rows.old (6 * group + 6) (count ∷ delimiter ∷ flag_word required ∷ []) }
 {
     let first = 6 * group + 6;
-    rows[first] = count;
-    rows[first + 1] = delimiter;
-    rows[first + 2] = flag_word(required);
+    rows[first..first + 3].copy_from_slice(&[count, delimiter, u32::from(required)]);
 }
 
 // The last words of the row of a level.
@@ -147,12 +111,15 @@ fn put_ends(rows: &mut [u32], level: usize, parts: Parts)
     ensures { rows.new ≡ sets rows.old (6 * level + 3) (parts.members ∷ parts.required ∷ parts.groups ∷ []) }
 {
     let first = 6 * level + 3;
-    rows[first] = narrow(parts.members);
-    rows[first + 1] = narrow(parts.required);
-    rows[first + 2] = narrow(parts.groups);
+    let ends = [
+        parts.members as u32,
+        parts.required as u32,
+        parts.groups as u32,
+    ];
+    rows[first..first + 3].copy_from_slice(&ends);
 }
 
-// Puts the rows of the blocks that begin at `first` behind those of `groups` others, and where the lines in each block begin.
+// Puts the rows of the blocks that begin at `first` after those of `groups` others, and where the lines in each block begin.
 fn put_groups(
     text: &[u8],
     first: usize,
@@ -174,7 +141,7 @@ fn put_groups(
             LevelLine::GroupLine(tag, delimiter, required) => {
                 if depth == 0 {
                     put_group(rows, count, tag, delimiter, required);
-                    starts[count] = narrow(next);
+                    starts[count] = next as u32;
                     count += 1;
                     depth = 1;
                 } else {
@@ -187,15 +154,13 @@ fn put_groups(
                 }
                 depth -= 1;
             }
-            LevelLine::MemberLine(_) => {}
-            LevelLine::RequiredLine(_) => {}
-            LevelLine::OtherLine => {}
+            _ => {}
         }
     }
     count
 }
 
-// Puts the parts of the level whose lines begin at `first` behind those that were put before, and its ends into its row.
+// Puts the parts of the level whose lines begin at `first` after those that were put before, and its ends into its row.
 fn gather_level(
     text: &[u8],
     first: usize,
@@ -239,9 +204,10 @@ pub fn gather_layout(
         groups: 0,
     };
     let mut parts = gather_level(text, 0, 0, members, required, rows, starts, none);
+    // no `for`: the groups grow while their levels are gathered
     let mut number = 0;
     while number < parts.groups {
-        let first = wide(starts[number]);
+        let first = starts[number] as usize;
         parts = gather_level(
             text,
             first,

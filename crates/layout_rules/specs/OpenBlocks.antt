@@ -1,34 +1,33 @@
--- The open blocks of a layout text as `first_broken` keeps them: the members of the open levels in one row, the outermost first, and their
--- count tags so far in another; four words a block, the outermost first. Assumes nothing.
+-- The open blocks of a layout text as `first_broken` keeps them, the outermost first: the members of the open levels in one row, their count
+-- tags so far in another, and of each block its tags and where its own part of the two rows begins. Assumes nothing.
 --
 --   group_broken members delimiter tags count   the lowest rule that a group breaks, by its members and nested count tags
 --   level_broken members tags                   the lowest rule that a top breaks
 --   held_members level blocks                   the members of the open levels, the innermost last
 --   held_tags level blocks                      the count tags of the groups that are closed in them
---   block_in words depth                        the block whose four words stand behind those of `depth` others
---   BlocksHold words blocks                    the words hold the open blocks
-use Rattle.std.specs.Prelude.{◌≡◌, ℕ, ◌+◌, ◌*◌, not, List, [], ◌∷◌, ◌++◌, length, get_or, if◌then◌else◌}
+--   kept_of count delimiter around blocks       what is kept of the block that is opened with these tags in this level
+--   BlocksHold kept blocks                      the open blocks are kept
+use Rattle.std.specs.Prelude.{◌≡◌, ℕ, not, List, [], ◌∷◌, ◌++◌, length, get_or, if◌then◌else◌, Option, None}
 use Rattle.layouts.specs.Layout.{Level, members_of, count_tags_of}
 use Rattle.layouts.specs.LayoutRules.{is_ascending, ◌∈ᵇ◌, are_among}
-use Rattle.layout_rules.specs.declared.layout_rules.FirstBroken.{FirstBroken}
-use Rattle.layout_rules.specs.declared.layout_rules.FirstBroken.TheVariants.{BrokenRule, Unbroken}
 use Rattle.layout_rules.specs.declared.layout_rules.OpenBlock.{OpenBlock}
 use Rattle.layout_text.specs.LayoutOfText.{Block, block_of}
+use Rattle.layout_rules.specs.FirstBroken.{broken_at}
 
-unfoldable pub group_broken : List ℕ → ℕ → List ℕ → ℕ → FirstBroken
+unfoldable pub group_broken : List ℕ → ℕ → List ℕ → ℕ → Option (ℕ × ℕ)
 group_broken members delimiter tags count =
-    if not (is_ascending members) then BrokenRule 1 count
-    else if not (delimiter ∈ᵇ members) then BrokenRule 2 count
-    else if not (is_ascending tags) then BrokenRule 3 count
-    else if not (are_among members tags) then BrokenRule 4 count
-    else Unbroken
+    if not (is_ascending members) then broken_at 1 count
+    else if not (delimiter ∈ᵇ members) then broken_at 2 count
+    else if not (is_ascending tags) then broken_at 3 count
+    else if not (are_among members tags) then broken_at 4 count
+    else None
 
-unfoldable pub level_broken : List ℕ → List ℕ → FirstBroken
+unfoldable pub level_broken : List ℕ → List ℕ → Option (ℕ × ℕ)
 level_broken members tags =
-    if not (is_ascending tags) then BrokenRule 5 0
-    else if not (is_ascending members) then BrokenRule 6 0
-    else if not (are_among members tags) then BrokenRule 7 0
-    else Unbroken
+    if not (is_ascending tags) then broken_at 5 0
+    else if not (is_ascending members) then broken_at 6 0
+    else if not (are_among members tags) then broken_at 7 0
+    else None
 
 unfoldable pub held_members : Level → List Block → List ℕ
 held_members level [] = members_of level
@@ -38,21 +37,19 @@ unfoldable pub held_tags : Level → List Block → List ℕ
 held_tags level [] = count_tags_of level
 held_tags level (block_of count delimiter flag around ∷ blocks) = held_tags around blocks ++ count_tags_of level
 
-abbrev pub block_in : List ℕ → ℕ → OpenBlock
-block_in words depth = record {
-  count = get_or words (4 * depth) 0;
-  delimiter = get_or words (4 * depth + 1) 0;
-  members = get_or words (4 * depth + 2) 0;
-  tags = get_or words (4 * depth + 3) 0;
+-- what stands where no block is kept
+abbrev pub no_block : OpenBlock
+no_block = record { count = 0; delimiter = 0; members = 0; tags = 0 }
+
+abbrev pub kept_of : ℕ → ℕ → Level → List Block → OpenBlock
+kept_of count delimiter around blocks = record {
+  count = count;
+  delimiter = delimiter;
+  members = length (held_members around blocks);
+  tags = length (held_tags around blocks);
 }
 
-pub record BlockHolds (words : List ℕ) (depth count delimiter members tags : ℕ) : Type 0 where
-  pub has_count : get_or words (4 * depth) 0 ≡ count
-  pub has_delimiter : get_or words (4 * depth + 1) 0 ≡ delimiter
-  pub has_members : get_or words (4 * depth + 2) 0 ≡ members
-  pub has_tags : get_or words (4 * depth + 3) 0 ≡ tags
-
-abbrev pub BlocksHold : List ℕ → List Block → Type 0
-BlocksHold words [] = Unit
-BlocksHold words (block_of count delimiter flag around ∷ blocks) =
-    BlockHolds words (length blocks) count delimiter (length (held_members around blocks)) (length (held_tags around blocks)) × BlocksHold words blocks
+abbrev pub BlocksHold : List OpenBlock → List Block → Type 0
+BlocksHold kept [] = Unit
+BlocksHold kept (block_of count delimiter flag around ∷ blocks) =
+    ((other : OpenBlock) → get_or kept (length blocks) other ≡ kept_of count delimiter around blocks) × BlocksHold kept blocks

@@ -1,75 +1,69 @@
 -- Laws of `OpenBlocks.antt`, in its order. Assumes nothing.
-use Rattle.std.specs.Prelude.{◌≡◌, ℕ, zero, suc, ◌+◌, ◌*◌, ◌-◌, ◌≤◌, ◌<◌, Bool, true, false, not, cond, length, get_or, set, take, drop}
+use Rattle.std.specs.Prelude.{◌≡◌, ℕ, ◌+◌, ◌-◌, ◌≤◌, ◌<◌, Bool, true, false, length, set, take, drop, Option, Some, None}
+use Rattle.std.specs.Option.{is_some}
 use Rattle.std.proofs.Math.Path.{refl, sym, ap}
-use Rattle.std.proofs.Common.{◌∙◌, arith, add-one, length-append, length-set, get_or-set_same, get_or-set_other, take-suc-set, take-add, take_at, drop_at, take-take, length-take-le}
+use Rattle.std.proofs.Common.{◌∙◌, arith, add-one, length-append, get_or-set_same, get_or-set_other, take-suc-set, take-add, take_at, drop_at, take-take, length-take-le}
 use mathlib.Core.List.{List, [], ◌∷◌, ◌++◌, map, append_assoc, append-nil}
-use Rattle.std.proofs.Math.Numerals.{towards_suc}
-use Rattle.std.proofs.lemmas.List.Edits.{sets}
-use Rattle.ascending.specs.declared.search.Found.{Found}
-use Rattle.ascending.specs.declared.search.Found.TheVariants.{At, Nothing}
 use Rattle.ascending.specs.Sort.{is_in}
 use Rattle.ascending.specs.Search.{rank_in, is_found}
 use Rattle.ascending.specs.SearchLaws.{is_found-rank}
 use Rattle.layouts.specs.Layout.{Level, Groups, Group, level_of_lem, no_groups, group_and, group_of_lem, listed, members_of, count_tags_of, count_tag}
 use Rattle.layouts.specs.LayoutRules.{is_ascending, ◌∈ᵇ◌, are_among}
-use Rattle.layout_rules.specs.declared.layout_rules.FirstBroken.{FirstBroken}
-use Rattle.layout_rules.specs.declared.layout_rules.FirstBroken.TheVariants.{BrokenRule, Unbroken}
 use Rattle.layout_rules.specs.declared.layout_rules.OpenBlock.{OpenBlock}
 use Rattle.layout_text.specs.LayoutOfText.{with_member, with_required, with_group, groups_then, empty_level, Block, block_of}
-use Rattle.layout_rules.specs.FirstBroken.{own_broken, top_broken}
-use Rattle.layout_rules.specs.OpenBlocks.{group_broken, level_broken, held_members, held_tags, block_in, BlockHolds, BlocksHold}
+use Rattle.layout_rules.specs.FirstBroken.{broken_at, own_broken, top_broken}
+use Rattle.layout_rules.specs.OpenBlocks.{group_broken, level_broken, held_members, held_tags, BlocksHold}
 
 -- ---- is_member
 
-module _ (words : List ℕ) (tag : ℕ) (found : Found) (is : found ≡ rank_in words tag) where
-  pub member-found : (place : ℕ) → found ≡ At place → is_in tag words ≡ true
-  unfolding is_found
-  member-found place at = sym (is_found-rank words tag) ∙ ap is_found (sym is ∙ at)
+pub is_found-some : (found : Option ℕ) → is_found found ≡ is_some found
+unfolding is_found
+is_found-some (Some place) = refl
+is_found-some None = refl
 
-  pub member-missing : found ≡ Nothing → is_in tag words ≡ false
-  unfolding is_found
-  member-missing nowhere = sym (is_found-rank words tag) ∙ ap is_found (sym is ∙ nowhere)
+pub member-found : (words : List ℕ) (tag : ℕ) (found : Option ℕ) → found ≡ rank_in words tag → is_some found ≡ is_in tag words
+member-found words tag found is = sym (is_found-some found) ∙ ap is_found is ∙ is_found-rank words tag
 
 -- ---- group_broken, level_broken
 
 module _ (members tags : List ℕ) where
   module _ (delimiter count : ℕ) where
-    pub group-breaks_1 : is_ascending members ≡ false → group_broken members delimiter tags count ≡ BrokenRule 1 count
+    pub group-breaks_1 : is_ascending members ≡ false → group_broken members delimiter tags count ≡ broken_at 1 count
     unfolding group_broken
     group-breaks_1 one = rw one
 
     module _ (one : is_ascending members ≡ true) where
-      pub group-breaks_2 : delimiter ∈ᵇ members ≡ false → group_broken members delimiter tags count ≡ BrokenRule 2 count
+      pub group-breaks_2 : delimiter ∈ᵇ members ≡ false → group_broken members delimiter tags count ≡ broken_at 2 count
       unfolding group_broken
       group-breaks_2 two = rw (one, two)
 
       module _ (two : delimiter ∈ᵇ members ≡ true) where
-        pub group-breaks_3 : is_ascending tags ≡ false → group_broken members delimiter tags count ≡ BrokenRule 3 count
+        pub group-breaks_3 : is_ascending tags ≡ false → group_broken members delimiter tags count ≡ broken_at 3 count
         unfolding group_broken
         group-breaks_3 three = rw (one, two, three)
 
-        pub group-breaks_4 : is_ascending tags ≡ true → are_among members tags ≡ false → group_broken members delimiter tags count ≡ BrokenRule 4 count
+        pub group-breaks_4 : is_ascending tags ≡ true → are_among members tags ≡ false → group_broken members delimiter tags count ≡ broken_at 4 count
         unfolding group_broken
         group-breaks_4 three four = rw (one, two, three, four)
 
-        pub group-unbroken : is_ascending tags ≡ true → are_among members tags ≡ true → group_broken members delimiter tags count ≡ Unbroken
+        pub group-unbroken : is_ascending tags ≡ true → are_among members tags ≡ true → group_broken members delimiter tags count ≡ None
         unfolding group_broken
         group-unbroken three four = rw (one, two, three, four)
 
-  pub top-breaks_5 : is_ascending tags ≡ false → level_broken members tags ≡ BrokenRule 5 0
+  pub top-breaks_5 : is_ascending tags ≡ false → level_broken members tags ≡ broken_at 5 0
   unfolding level_broken
   top-breaks_5 five = rw five
 
   module _ (five : is_ascending tags ≡ true) where
-    pub top-breaks_6 : is_ascending members ≡ false → level_broken members tags ≡ BrokenRule 6 0
+    pub top-breaks_6 : is_ascending members ≡ false → level_broken members tags ≡ broken_at 6 0
     unfolding level_broken
     top-breaks_6 six = rw (five, six)
 
-    pub top-breaks_7 : is_ascending members ≡ true → are_among members tags ≡ false → level_broken members tags ≡ BrokenRule 7 0
+    pub top-breaks_7 : is_ascending members ≡ true → are_among members tags ≡ false → level_broken members tags ≡ broken_at 7 0
     unfolding level_broken
     top-breaks_7 six seven = rw (five, six, seven)
 
-    pub top-unbroken : is_ascending members ≡ true → are_among members tags ≡ true → level_broken members tags ≡ Unbroken
+    pub top-unbroken : is_ascending members ≡ true → are_among members tags ≡ true → level_broken members tags ≡ None
     unfolding level_broken
     top-unbroken six seven = rw (five, six, seven)
 
@@ -149,65 +143,20 @@ module _ (row these those : List ℕ) (count first : ℕ) (within : count ≤ le
 pub pushed : (row held : List ℕ) (count word : ℕ) → count < length row → take count row ≡ held → take (count + 1) (set row count word) ≡ held ++ (word ∷ [])
 pushed row held count word inside is = rw add-one (take-suc-set row count word inside ∙ ap (λ (before : List ℕ). before ++ (word ∷ [])) is)
 
--- ---- block_in
-
-pub block_stores : (words : List ℕ) (at count delimiter members tags first second : ℕ) → first ≡ members → second ≡ tags
-    → set (set (set (set words at count) (at + 1) delimiter) (at + 2) first) (at + 3) second ≡ sets words at (count ∷ delimiter ∷ members ∷ tags ∷ [])
-block_stores words at count delimiter members tags first second of_members of_tags = rw (of_members, of_tags) (simp towards_suc)
-
-pub block_loads : (words : List ℕ) (depth members tags : ℕ) → members ≡ get_or words (4 * depth + 2) 0 → tags ≡ get_or words (4 * depth + 3) 0
-    → ◌≡◌ {A = OpenBlock} (record { count = get_or words (4 * depth) 0; delimiter = get_or words (4 * depth + 1) 0; members = members; tags = tags }) (block_in words depth)
-block_loads words depth members tags of_members of_tags = rw (of_members, of_tags)
-
 -- ---- BlocksHold
 
-pub blocks-later : (words : List ℕ) (at word : ℕ) (blocks : List Block) → 4 * length blocks ≤ at → BlocksHold words blocks → BlocksHold (set words at word) blocks
-blocks-later words at word [] behind hold = hold
-blocks-later words at word (block_of count delimiter flag around ∷ blocks) behind hold =
-    let depth = length blocks in (
-      record {
-        has_count = get_or-set_other words at (4 * depth) word 0 (λ (same : 4 * depth ≡ at). omega arith) ∙ hold.0.has_count;
-        has_delimiter = get_or-set_other words at (4 * depth + 1) word 0 (λ (same : 4 * depth + 1 ≡ at). omega arith) ∙ hold.0.has_delimiter;
-        has_members = get_or-set_other words at (4 * depth + 2) word 0 (λ (same : 4 * depth + 2 ≡ at). omega arith) ∙ hold.0.has_members;
-        has_tags = get_or-set_other words at (4 * depth + 3) word 0 (λ (same : 4 * depth + 3 ≡ at). omega arith) ∙ hold.0.has_tags;
-      },
-      blocks-later words at word blocks (omega arith) hold.1,
+blocks-later : (kept : List OpenBlock) (at : ℕ) (block : OpenBlock) (blocks : List Block) → length blocks ≤ at → BlocksHold kept blocks → BlocksHold (set kept at block) blocks
+blocks-later kept at block [] later hold = hold
+blocks-later kept at block (block_of count delimiter flag around ∷ blocks) later hold = (
+  λ other. get_or-set_other kept at (length blocks) block other (λ (same : length blocks ≡ at). omega arith) ∙ hold.0 other,
+  blocks-later kept at block blocks (omega arith) hold.1,
+)
+
+pub blocks-opened : (kept : List OpenBlock) (depth count delimiter members tags : ℕ) → depth < length kept → (level : Level) (blocks : List Block) (flag : Bool) → depth ≡ length blocks
+    → members ≡ length (held_members level blocks) → tags ≡ length (held_tags level blocks) → BlocksHold kept blocks
+    → BlocksHold (set kept depth (record { count = count; delimiter = delimiter; members = members; tags = tags })) (block_of count delimiter flag level ∷ blocks)
+blocks-opened kept depth count delimiter members tags room level blocks flag deep of_members of_tags hold =
+    let block : OpenBlock = record { count = count; delimiter = delimiter; members = members; tags = tags } in (
+      λ other. rw (← deep, ← of_members, ← of_tags) (get_or-set_same kept depth block other room),
+      blocks-later kept depth block blocks (omega arith) hold,
     )
-
-module _ (words : List ℕ) (depth count delimiter members tags : ℕ) (room : 4 * depth + 4 ≤ length words) where
-  block_opened : BlockHolds (sets words (4 * depth) (count ∷ delimiter ∷ members ∷ tags ∷ [])) depth count delimiter members tags
-  block_opened =
-      let at = 4 * depth in
-      let w1 = set words at count in
-      let w2 = set w1 (at + 1) delimiter in
-      let w3 = set w2 (at + 2) members in
-      let stores : set w3 (at + 3) tags ≡ sets words at (count ∷ delimiter ∷ members ∷ tags ∷ []) = block_stores words at count delimiter members tags members tags refl refl in
-      let size1 = length-set words at count in
-      let size2 = length-set w1 (at + 1) delimiter in
-      let size3 = length-set w2 (at + 2) members in
-      rw (← stores)
-      (record {
-        has_count =
-            get_or-set_other w3 (at + 3) at tags 0 (λ (same : at ≡ at + 3). omega arith)
-            ∙ get_or-set_other w2 (at + 2) at members 0 (λ (same : at ≡ at + 2). omega arith)
-            ∙ get_or-set_other w1 (at + 1) at delimiter 0 (λ (same : at ≡ at + 1). omega arith)
-            ∙ get_or-set_same words at count 0 (omega arith);
-        has_delimiter =
-            get_or-set_other w3 (at + 3) (at + 1) tags 0 (λ (same : at + 1 ≡ at + 3). omega arith)
-            ∙ get_or-set_other w2 (at + 2) (at + 1) members 0 (λ (same : at + 1 ≡ at + 2). omega arith)
-            ∙ get_or-set_same w1 (at + 1) delimiter 0 (omega (arith, size1));
-        has_members =
-            get_or-set_other w3 (at + 3) (at + 2) tags 0 (λ (same : at + 2 ≡ at + 3). omega arith)
-            ∙ get_or-set_same w2 (at + 2) members 0 (omega (arith, size1, size2));
-        has_tags = get_or-set_same w3 (at + 3) tags 0 (omega (arith, size1, size2, size3));
-      })
-
-  pub blocks-kept : (blocks : List Block) → depth ≡ length blocks → BlocksHold words blocks → BlocksHold (sets words (4 * depth) (count ∷ delimiter ∷ members ∷ tags ∷ [])) blocks
-  blocks-kept blocks deep hold =
-      let at = 4 * depth in
-      rw (← block_stores words at count delimiter members tags members tags refl refl)
-      (blocks-later _ (at + 3) tags blocks (omega arith) (blocks-later _ (at + 2) members blocks (omega arith) (blocks-later _ (at + 1) delimiter blocks (omega arith) (blocks-later words at count blocks (omega arith) hold))))
-
-  pub blocks-opened : (level : Level) (blocks : List Block) (flag : Bool) → depth ≡ length blocks → members ≡ length (held_members level blocks) → tags ≡ length (held_tags level blocks) → BlocksHold words blocks
-      → BlocksHold (sets words (4 * depth) (count ∷ delimiter ∷ members ∷ tags ∷ [])) (block_of count delimiter flag level ∷ blocks)
-  blocks-opened level blocks flag deep of_members of_tags hold = (rw (← deep, ← of_members, ← of_tags) block_opened, blocks-kept blocks deep hold)

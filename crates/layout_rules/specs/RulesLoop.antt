@@ -1,37 +1,36 @@
 -- The loop of `first_broken`, turn by turn: the lines before `first` were read, and no group that they close breaks a rule. The bounds on the
 -- rows follow from the bytes of the lines: 8 for a member, 12 for a block that is closed, 7 for one that is open. Assumes nothing.
 --
---   RulesSoFar text members tags words first depth member_count tag_count   `depth` blocks are open, and the rows hold so many members and tags
-use Rattle.std.specs.Prelude.{◌≡◌, ℕ, zero, suc, ◌+◌, ◌*◌, ◌-◌, ◌≤◌, ◌<◌, Bool, List, [], ◌∷◌, ◌++◌, length, get_or, set, take, drop}
+--   RulesSoFar text members tags kept first depth member_count tag_count    `depth` blocks are open, and the rows hold so many members and tags
+use Rattle.std.specs.Prelude.{◌≡◌, ℕ, ◌+◌, ◌*◌, ◌-◌, ◌≤◌, ◌<◌, Bool, true, false, List, [], ◌∷◌, ◌++◌, length, get_or, set, take, drop, Option, Some, None}
+use Rattle.std.specs.Option.{is_some}
 use Rattle.std.proofs.Math.Path.{refl}
-use Rattle.std.proofs.Common.{sym, subst, ap, ◌∙◌, append-nil, arith, length-append, length-set, length-take-le}
-use Rattle.std.proofs.lemmas.List.Edits.{sets}
-use Rattle.std.proofs.Math.Seq.{length-sets, take-length}
+use Rattle.std.proofs.Common.{sym, ap, ◌∙◌, arith, length-set, length-take-le}
 use Rattle.layouts.specs.Layout.{Level, group_of_lem, members_of, count_tags_of}
 use Rattle.layout_text.specs.declared.level_line.LevelLine.{LevelLine}
 use Rattle.layout_text.specs.declared.level_line.LevelLine.TheVariants.{MemberLine, RequiredLine, GroupLine, EndLine, OtherLine}
-use Rattle.layout_rules.specs.declared.layout_rules.FirstBroken.{FirstBroken}
-use Rattle.layout_rules.specs.declared.layout_rules.FirstBroken.TheVariants.{BrokenRule, Unbroken}
 use Rattle.layout_rules.specs.declared.layout_rules.OpenBlock.{OpenBlock}
 use Rattle.layout_text.specs.LevelLines.{lines_at, least_bytes}
 use Rattle.layout_text.specs.LevelLinesLaws.{lines_none}
 use Rattle.layout_text.specs.LayoutOfText.{with_member, with_required, with_group, empty_level, Block, block_of, layout_of}
+use Rattle.layout_text.specs.declared.layout_text.Part.{Part}
+use Rattle.layout_text.specs.declared.layout_text.Part.TheVariants.{Members, Required, Blocks}
 use Rattle.layout_text.specs.InOrder.{InOrder}
 use Rattle.layout_rules.specs.FirstBroken.{own_broken, top_broken, first_broken}
 use Rattle.layout_rules.specs.FirstBrokenLaws.{broken_from, first_broken-lines}
-use Rattle.layout_rules.specs.OpenBlocks.{group_broken, level_broken, held_members, held_tags, block_in, BlocksHold}
+use Rattle.layout_rules.specs.OpenBlocks.{group_broken, level_broken, held_members, held_tags, kept_of, BlocksHold}
 use Rattle.layout_rules.specs.OpenBlocksLaws.{group_broken-own, level_broken-top, held-member, held-tags_member, held-required, held-tags_required, held-group, held-tags_group, held-opened, held-tags_opened, on_top_count, on_top, below_top, pushed, blocks-opened}
 
-pub record RulesSoFar (text members tags words : List ℕ) (first depth member_count tag_count : ℕ) : Type 0 where
+pub record RulesSoFar (text members tags : List ℕ) (kept : List OpenBlock) (first depth member_count tag_count : ℕ) : Type 0 where
   -- the innermost open level, the open blocks, and what was read last of that level
   pub level : Level
   pub blocks : List Block
-  pub part : ℕ
+  pub part : Part
   pub within : first ≤ length text
   pub short : length text ≤ 65536
   pub member_room : length members ≡ 8192
   pub tag_room : length tags ≡ 5461
-  pub block_room : length words ≡ 160
+  pub block_room : length kept ≡ 40
   pub shallow : depth ≤ 40
   pub deep : depth ≡ length blocks
   pub few_members : 8 * member_count ≤ first
@@ -39,16 +38,16 @@ pub record RulesSoFar (text members tags words : List ℕ) (first depth member_c
   pub order : InOrder part depth (lines_at text first)
   pub members_held : take member_count members ≡ held_members level blocks
   pub tags_held : take tag_count tags ≡ held_tags level blocks
-  pub hold : BlocksHold words blocks
+  pub hold : BlocksHold kept blocks
   pub rest : first_broken (layout_of text) ≡ broken_from level blocks (lines_at text first)
 
-pub rules-begin : (text members tags words : List ℕ) → length text ≤ 65536 → InOrder 0 0 (lines_at text 0) → length members ≡ 8192 → length tags ≡ 5461 → length words ≡ 160
-    → RulesSoFar text members tags words 0 0 0 0
+pub rules-begin : (text members tags : List ℕ) (kept : List OpenBlock) → length text ≤ 65536 → InOrder Members 0 (lines_at text 0) → length members ≡ 8192 → length tags ≡ 5461 → length kept ≡ 40
+    → RulesSoFar text members tags kept 0 0 0 0
 unfolding held_members held_tags
-rules-begin text members tags words short order member_room tag_room block_room = record {
+rules-begin text members tags kept short order member_room tag_room block_room = record {
   level = empty_level;
   blocks = [];
-  part = 0;
+  part = Members;
   within = omega arith;
   short = short;
   member_room = member_room;
@@ -82,15 +81,17 @@ module _ (level : Level) (blocks : List Block) (lines later : List LevelLine) wh
   broken-group count delimiter flag is = rw is
 
   module _ (count delimiter : ℕ) (flag : Bool) (around : Level) (is : lines ≡ EndLine ∷ later) where
-    broken-here : (rule tag : ℕ) → own_broken (group_of_lem count delimiter flag level) ≡ BrokenRule rule tag
-        → broken_from level (block_of count delimiter flag around ∷ blocks) lines ≡ BrokenRule rule tag
+    broken-here : (broken : Option (ℕ × ℕ)) → is_some broken ≡ true → own_broken (group_of_lem count delimiter flag level) ≡ broken
+        → broken_from level (block_of count delimiter flag around ∷ blocks) lines ≡ broken
     unfolding broken_from
-    broken-here rule tag own = rw (is, own)
+    broken-here (Some (rule, tag)) some own = rw (is, own)
+    broken-here None some own = cc
 
-    broken-later : own_broken (group_of_lem count delimiter flag level) ≡ Unbroken
+    broken-later : (broken : Option (ℕ × ℕ)) → is_some broken ≡ false → own_broken (group_of_lem count delimiter flag level) ≡ broken
         → broken_from level (block_of count delimiter flag around ∷ blocks) lines ≡ broken_from (with_group (group_of_lem count delimiter flag level) around) blocks later
     unfolding broken_from
-    broken-later own = rw (is, own)
+    broken-later (Some (rule, tag)) none own = cc
+    broken-later None none own = rw (is, own)
 
 broken-top : (level : Level) (lines : List LevelLine) → lines ≡ [] → broken_from level [] lines ≡ top_broken level
 unfolding broken_from
@@ -137,7 +138,7 @@ least-end : least_bytes EndLine ≡ 5
 unfolding least_bytes
 least-end = refl
 
-module _ (text members tags words : List ℕ) (first depth member_count tag_count : ℕ) (so_far : RulesSoFar text members tags words first depth member_count tag_count) where
+module _ (text members tags : List ℕ) (kept : List OpenBlock) (first depth member_count tag_count : ℕ) (so_far : RulesSoFar text members tags kept first depth member_count tag_count) where
   held-count : member_count ≡ length (held_members so_far.level so_far.blocks)
   held-count = sym (length-take-le member_count members (omega (arith, so_far.few_members, so_far.within, so_far.short, so_far.member_room))) ∙ ap length so_far.members_held
 
@@ -145,17 +146,15 @@ module _ (text members tags words : List ℕ) (first depth member_count tag_coun
   held-tag_count = sym (length-take-le tag_count tags (omega (arith, so_far.few_tags, so_far.within, so_far.short, so_far.tag_room))) ∙ ap length so_far.tags_held
 
   -- the end of the text
-  pub rules-end : length text ≤ first → first_broken (layout_of text) ≡ level_broken (take (member_count - 0) members) (take (tag_count - 0) tags)
+  pub rules-end : length text ≤ first → first_broken (layout_of text) ≡ level_broken (take member_count members) (take tag_count tags)
   rules-end over = so_far.rest ∙ ended so_far.level so_far.blocks so_far.deep (rw (lines_none text first over) at so_far.order) so_far.members_held so_far.tags_held
     where
       ended : (level : Level) (blocks : List Block) → depth ≡ length blocks → depth ≡ 0 → take member_count members ≡ held_members level blocks → take tag_count tags ≡ held_tags level blocks
-          → broken_from level blocks (lines_at text first) ≡ level_broken (take (member_count - 0) members) (take (tag_count - 0) tags)
+          → broken_from level blocks (lines_at text first) ≡ level_broken (take member_count members) (take tag_count tags)
       ended level [] deep none of_members of_tags =
-          let all : member_count - 0 ≡ member_count = omega arith in
-          let all-tags : tag_count - 0 ≡ tag_count = omega arith in
           broken-top level (lines_at text first) (lines_none text first over)
           ∙ sym (level_broken-top level)
-          ∙ rw (all, all-tags, of_members, of_tags, (held-top level).0, (held-top level).1)
+          ∙ rw (of_members, of_tags, (held-top level).0, (held-top level).1)
       ended level (block ∷ blocks) deep none of_members of_tags = absurd (omega arith)
 
   module _ (line : LevelLine) (next : ℕ) (reads : lines_at text first ≡ line ∷ lines_at text next) (bounds : (first < next) × (next ≤ length text) × (first + least_bytes line ≤ next)) where
@@ -165,7 +164,7 @@ module _ (text members tags words : List ℕ) (first depth member_count tag_coun
     pub member-inside : (tag : ℕ) → line ≡ MemberLine tag → member_count < length members
     member-inside tag is = omega (arith, so_far.few_members, so_far.short, so_far.member_room, bounds.1, bounds.2, least_of line (MemberLine tag) is, least-member tag)
 
-    pub rules-member : (tag : ℕ) → line ≡ MemberLine tag → RulesSoFar text (set members member_count tag) tags words next depth (member_count + 1) tag_count
+    pub rules-member : (tag : ℕ) → line ≡ MemberLine tag → RulesSoFar text (set members member_count tag) tags kept next depth (member_count + 1) tag_count
     rules-member tag is = record {
       level = with_member tag so_far.level;
       blocks = so_far.blocks;
@@ -187,11 +186,11 @@ module _ (text members tags words : List ℕ) (first depth member_count tag_coun
       rest = so_far.rest ∙ broken-member so_far.level so_far.blocks (lines_at text first) (lines_at text next) tag (after (MemberLine tag) is);
     }
 
-    pub rules-required : (tag : ℕ) → line ≡ RequiredLine tag → RulesSoFar text members tags words next depth member_count tag_count
+    pub rules-required : (tag : ℕ) → line ≡ RequiredLine tag → RulesSoFar text members tags kept next depth member_count tag_count
     rules-required tag is = record {
       level = with_required tag so_far.level;
       blocks = so_far.blocks;
-      part = 1;
+      part = Required;
       within = bounds.1;
       short = so_far.short;
       member_room = so_far.member_room;
@@ -209,24 +208,22 @@ module _ (text members tags words : List ℕ) (first depth member_count tag_coun
     }
 
     module _ (count delimiter : ℕ) (flag : Bool) (is : line ≡ GroupLine count delimiter flag) where
-      opens : (depth < 40) × InOrder 0 (depth + 1) (lines_at text next)
+      opens : (depth < 40) × InOrder Members (depth + 1) (lines_at text next)
       opens = rw (after (GroupLine count delimiter flag) is) at so_far.order
 
-      pub room_of_block : (4 * depth + 4 ≤ length words) × (member_count < 4294967296) × (tag_count < 4294967296)
-      room_of_block =
-          (omega (arith, opens.0, so_far.block_room), omega (arith, so_far.few_members, so_far.within, so_far.short), omega (arith, so_far.few_tags, so_far.within, so_far.short))
+      pub room_of_block : depth < length kept
+      room_of_block = omega (arith, opens.0, so_far.block_room)
 
-      pub rules-group : (opened : List ℕ) → opened ≡ sets words (4 * depth) (count ∷ delimiter ∷ member_count ∷ tag_count ∷ [])
-          → RulesSoFar text members tags opened next (depth + 1) member_count tag_count
-      rules-group opened stored = record {
+      pub rules-group : RulesSoFar text members tags (set kept depth (record { count = count; delimiter = delimiter; members = member_count; tags = tag_count })) next (depth + 1) member_count tag_count
+      rules-group = record {
         level = empty_level;
         blocks = block_of count delimiter flag so_far.level ∷ so_far.blocks;
-        part = 0;
+        part = Members;
         within = bounds.1;
         short = so_far.short;
         member_room = so_far.member_room;
         tag_room = so_far.tag_room;
-        block_room = ap length stored ∙ length-sets words (4 * depth) (count ∷ delimiter ∷ member_count ∷ tag_count ∷ []) ∙ so_far.block_room;
+        block_room = length-set kept depth _ ∙ so_far.block_room;
         shallow = omega (arith, opens.0);
         deep = omega (arith, so_far.deep);
         few_members = omega (arith, so_far.few_members, bounds.0);
@@ -234,22 +231,18 @@ module _ (text members tags words : List ℕ) (first depth member_count tag_coun
         order = opens.1;
         members_held = so_far.members_held ∙ sym (held-opened so_far.level so_far.blocks count delimiter flag);
         tags_held = so_far.tags_held ∙ sym (held-tags_opened so_far.level so_far.blocks count delimiter flag);
-        hold =
-            subst
-            (λ now. BlocksHold now (block_of count delimiter flag so_far.level ∷ so_far.blocks))
-            (sym stored)
-            (blocks-opened words depth count delimiter member_count tag_count room_of_block.0 so_far.level so_far.blocks flag so_far.deep held-count held-tag_count so_far.hold);
+        hold = blocks-opened kept depth count delimiter member_count tag_count room_of_block so_far.level so_far.blocks flag so_far.deep held-count held-tag_count so_far.hold;
         rest = so_far.rest ∙ broken-group so_far.level so_far.blocks (lines_at text first) (lines_at text next) count delimiter flag (after (GroupLine count delimiter flag) is);
       }
 
     module _ (is : line ≡ EndLine) where
-      ends : (0 < depth) × InOrder 2 (depth - 1) (lines_at text next)
+      ends : (0 < depth) × InOrder Blocks (depth - 1) (lines_at text next)
       ends = rw (after EndLine is) at so_far.order
 
       pub end-open : 0 < depth
       end-open = ends.0
 
-      pub block_there : 4 * (depth - 1) + 4 ≤ length words
+      pub block_there : depth - 1 < length kept
       block_there = omega (arith, ends.0, so_far.shallow, so_far.block_room)
 
       inner : Innermost so_far.blocks
@@ -258,24 +251,24 @@ module _ (text members tags words : List ℕ) (first depth member_count tag_coun
       outer-deep : depth - 1 ≡ length inner.outer
       outer-deep = omega (arith, so_far.deep, ap length inner.is)
 
-      module _ (block : OpenBlock) (found : block ≡ block_in words (depth - 1)) where
-        same_place : (field : ℕ) → get_or words (4 * (depth - 1) + field) 0 ≡ get_or words (4 * length inner.outer + field) 0
-        same_place field = ap (λ (many : ℕ). get_or words (4 * many + field) 0) outer-deep
-
-        holds : BlocksHold words (block_of inner.count inner.delimiter inner.flag inner.around ∷ inner.outer)
+      module _ (block other : OpenBlock) (found : block ≡ get_or kept (depth - 1) other) where
+        holds : BlocksHold kept (block_of inner.count inner.delimiter inner.flag inner.around ∷ inner.outer)
         holds = rw inner.is at so_far.hold
 
+        block_is : block ≡ kept_of inner.count inner.delimiter inner.around inner.outer
+        block_is = found ∙ ap (λ (place : ℕ). get_or kept place other) outer-deep ∙ holds.0 other
+
         block_count : block.count ≡ inner.count
-        block_count = ap (λ (each : OpenBlock). each.count) found ∙ ap (λ (many : ℕ). get_or words (4 * many) 0) outer-deep ∙ holds.0.has_count
+        block_count = ap (λ (each : OpenBlock). each.count) block_is
 
         block_delimiter : block.delimiter ≡ inner.delimiter
-        block_delimiter = ap (λ (each : OpenBlock). each.delimiter) found ∙ same_place 1 ∙ holds.0.has_delimiter
+        block_delimiter = ap (λ (each : OpenBlock). each.delimiter) block_is
 
         block_members : block.members ≡ length (held_members inner.around inner.outer)
-        block_members = ap (λ (each : OpenBlock). each.members) found ∙ same_place 2 ∙ holds.0.has_members
+        block_members = ap (λ (each : OpenBlock). each.members) block_is
 
         block_tags : block.tags ≡ length (held_tags inner.around inner.outer)
-        block_tags = ap (λ (each : OpenBlock). each.tags) found ∙ same_place 3 ∙ holds.0.has_tags
+        block_tags = ap (λ (each : OpenBlock). each.tags) block_is
 
         on_members : take member_count members ≡ held_members inner.around inner.outer ++ members_of so_far.level
         on_members =
@@ -316,7 +309,7 @@ module _ (text members tags words : List ℕ) (first depth member_count tag_coun
           omega (arith, below-tags, so_far.few_tags, bounds.1, bounds.2, so_far.short, so_far.tag_room, ends.0, least_of line EndLine is, least-end),
         )
 
-        module _ (broken : FirstBroken)
+        module _ (broken : Option (ℕ × ℕ))
             (answer : broken ≡ group_broken (take (member_count - block.members) (drop block.members members)) block.delimiter (take (tag_count - block.tags) (drop block.tags tags)) block.count) where
           own : broken ≡ own_broken (group_of_lem inner.count inner.delimiter inner.flag so_far.level)
           own =
@@ -324,19 +317,19 @@ module _ (text members tags words : List ℕ) (first depth member_count tag_coun
               ∙ rw (own-members, own-tags, block_delimiter, block_count)
               (group_broken-own so_far.level inner.count inner.delimiter inner.flag)
 
-          pub rules-break : (rule tag : ℕ) → broken ≡ BrokenRule rule tag → first_broken (layout_of text) ≡ BrokenRule rule tag
-          rules-break rule tag breaks =
+          pub rules-break : is_some broken ≡ true → first_broken (layout_of text) ≡ broken
+          rules-break breaks =
               so_far.rest
               ∙ ap (λ (blocks : List Block). broken_from so_far.level blocks (lines_at text first)) inner.is
-              ∙ broken-here so_far.level inner.outer (lines_at text first) (lines_at text next) inner.count inner.delimiter inner.flag inner.around (after EndLine is) rule tag (sym own ∙ breaks)
+              ∙ broken-here so_far.level inner.outer (lines_at text first) (lines_at text next) inner.count inner.delimiter inner.flag inner.around (after EndLine is) broken breaks (sym own)
 
-          pub rules-close : broken ≡ Unbroken → RulesSoFar text members (set tags block.tags block.count) words next (depth - 1) block.members (block.tags + 1)
+          pub rules-close : is_some broken ≡ false → RulesSoFar text members (set tags block.tags block.count) kept next (depth - 1) block.members (block.tags + 1)
           rules-close unbroken =
               let group = group_of_lem inner.count inner.delimiter inner.flag so_far.level in
               record {
                 level = with_group group inner.around;
                 blocks = inner.outer;
-                part = 2;
+                part = Blocks;
                 within = bounds.1;
                 short = so_far.short;
                 member_room = so_far.member_room;
@@ -359,7 +352,7 @@ module _ (text members tags words : List ℕ) (first depth member_count tag_coun
                 rest =
                     so_far.rest
                     ∙ ap (λ (blocks : List Block). broken_from so_far.level blocks (lines_at text first)) inner.is
-                    ∙ broken-later so_far.level inner.outer (lines_at text first) (lines_at text next) inner.count inner.delimiter inner.flag inner.around (after EndLine is) (sym own ∙ unbroken);
+                    ∙ broken-later so_far.level inner.outer (lines_at text first) (lines_at text next) inner.count inner.delimiter inner.flag inner.around (after EndLine is) broken unbroken (sym own);
               }
 
     -- an accepted text has no other line

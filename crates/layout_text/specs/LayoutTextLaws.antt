@@ -1,6 +1,6 @@
 -- Laws of `LayoutText.antt`: what a step keeps, and the loop over the lines of a text, turn by turn. The lines still to be read are those of
 -- `drop first text`; a search for the line feed from `first` on stopped at `past`. Assumes nothing.
-use Rattle.std.specs.Prelude.{◌≡◌, ℕ, ◌+◌, ◌-◌, ◌≤◌, ◌<◌, Bool, true, false, cond, List, eqb, ltb, leb, length, get_or, take, drop}
+use Rattle.std.specs.Prelude.{◌≡◌, ℕ, ◌+◌, ◌-◌, ◌≤◌, ◌<◌, Bool, true, false, cond, List, eqb, ltb, length, get_or, take, drop, Option, Some, None, Result, Ok, Err, IfOk}
 use Rattle.std.proofs.Math.Path.{refl}
 use Rattle.std.proofs.Common.{◌∙◌, arith, ltb-true}
 use Rattle.std.proofs.Math.ListN.{length-drop}
@@ -10,63 +10,56 @@ use Rattle.refusals.specs.declared.refusal.Refusal.{Refusal}
 use Rattle.refusals.specs.declared.refusal.Refusal.TheVariants.{UnknownForm, NotAllowed}
 use Rattle.line_forms.specs.declared.line.Line.{Line}
 use Rattle.line_forms.specs.declared.line.Line.TheVariants.{Def, Value, BeginHeader, BeginTrailer, EndHeader, EndTrailer, Component, Message, Field, Group, Use, End, Member, RequiredTag, Unknown}
-use Rattle.lines.specs.declared.line_parts.Number32.{Number32}
-use Rattle.lines.specs.declared.line_parts.Number32.TheVariants.{Number, NoNumber}
-use Rattle.dictionary_order.specs.declared.dictionary_order.Fault.TheVariants.{NoFault, Faulty}
 use Rattle.layout_text.specs.declared.layout_text.LevelState.{LevelState}
-use Rattle.layout_text.specs.declared.layout_text.LevelStep.{LevelStep}
-use Rattle.layout_text.specs.declared.layout_text.LayoutTextOutcome.TheVariants.{Unordered}
+use Rattle.layout_text.specs.declared.layout_text.Part.TheVariants.{Required, Blocks}
 use Rattle.lines.specs.Lines.{position_of, lines_of, line_feed}
 use Rattle.lines.specs.LinesLaws.{found_within, cut-at_piece, cut-at_last, cut-nothing}
 use Rattle.line_forms.specs.LineForms.{line_of}
-use Rattle.dictionary_order.specs.DictionaryOrder.{is_number}
-use Rattle.layout_text.specs.LayoutText.{members, required, nested, level, top, in_part, taken_level, refused_level, open_level, close_open, close_level, numbered_end, level_step_of, layout_end, layout_order_from, layout_order_of}
+use Rattle.layout_text.specs.LayoutText.{takes_member, takes_required, level, top, in_part, open_level, close_open, close_level, numbered_end, level_step_of, layout_end, layout_order_from, layout_order_of}
 
 -- ---- level_step_of: at most 40 group blocks are open
 
-level-either : (test : Bool) (this that : LevelStep) → this.next.depth ≤ 40 → that.next.depth ≤ 40 → (cond test this that).next.depth ≤ 40
-level-either true this that one other = one
-level-either false this that one other = other
+abbrev FewOpen : Result LevelState Refusal → Type 0
+FewOpen step = IfOk step (λ next. next.depth ≤ 40)
 
-open_level_by : (count : ℕ) (state : LevelState) (number : ℕ) (room : Bool) → ltb state.depth 40 ≡ room → state.depth ≤ 40 → (open_level count state number).next.depth ≤ 40
-open_level_by count state number true test within = rw test (omega (arith, ltb-true state.depth 40 test))
-open_level_by count state number false test within = rw test within
+few-either : (test : Bool) (this that : Result LevelState Refusal) → FewOpen this → FewOpen that → FewOpen (cond test this that)
+few-either true this that one other = one
+few-either false this that one other = other
+
+open_level_by : (count : ℕ) (state : LevelState) (number : ℕ) (room : Bool) → ltb state.depth 40 ≡ room → FewOpen (open_level count state number)
+open_level_by count state number true test = rw test (omega (arith, ltb-true state.depth 40 test))
+open_level_by count state number false test = rw test tt
 
 module _ (state : LevelState) (number : ℕ) (within : state.depth ≤ 40) where
-  close_open_depth : (name : Number32) → (close_open name state number).next.depth ≤ 40
-  close_open_depth name =
-      let one_fewer : (level nested (state.depth - 1) state.counts).depth ≤ 40 = omega arith in
-      level-either
-      (is_number (get_or state.counts (state.depth - 1) 0) name)
-      (taken_level (level nested (state.depth - 1) state.counts))
-      (refused_level state (NotAllowed number))
-      one_fewer
-      within
+  close_level_depth : (count : ℕ) → FewOpen (close_level count state number)
+  close_level_depth count =
+      few-either (eqb state.depth 0) (Err (NotAllowed number)) (close_open count state number) tt
+      (few-either (eqb count (get_or state.counts (state.depth - 1) 0)) (Ok (level Blocks (state.depth - 1) state.counts)) (Err (NotAllowed number)) (omega arith) tt)
 
-  close_level_depth : (name : Number32) → (close_level name state number).next.depth ≤ 40
-  close_level_depth name = level-either (eqb state.depth 0) (refused_level state (NotAllowed number)) (close_open name state number) within (close_open_depth name)
+  numbered-depth : (name : Option ℕ) → FewOpen (numbered_end name state number)
+  numbered-depth (Some count) = close_level_depth count
+  numbered-depth None = tt
 
-  numbered-depth : (name : Number32) → (numbered_end name state number).next.depth ≤ 40
-  numbered-depth (Number count) = close_level_depth (Number count)
-  numbered-depth NoNumber = within
-
-  pub level-depth : (line : Line) → (level_step_of state number line).next.depth ≤ 40
+  level-depth : (line : Line) → FewOpen (level_step_of state number line)
   unfolding level_step_of
-  level-depth (Def tag place) = within
-  level-depth (Value admitted) = within
-  level-depth BeginHeader = within
-  level-depth BeginTrailer = within
-  level-depth EndHeader = within
-  level-depth EndTrailer = within
-  level-depth (Component name) = within
-  level-depth (Message letters app) = within
-  level-depth (Field tag flag) = within
-  level-depth (Group count delimiter flag) = open_level_by count state number (ltb state.depth 40) refl within
-  level-depth (Use name flag) = within
+  level-depth (Def tag place) = tt
+  level-depth (Value admitted) = tt
+  level-depth BeginHeader = tt
+  level-depth BeginTrailer = tt
+  level-depth EndHeader = tt
+  level-depth EndTrailer = tt
+  level-depth (Component name) = tt
+  level-depth (Message letters app) = tt
+  level-depth (Field tag flag) = tt
+  level-depth (Group count delimiter flag) = open_level_by count state number (ltb state.depth 40) refl
+  level-depth (Use name flag) = tt
   level-depth (End name read_letters) = numbered-depth name
-  level-depth (Member tag) = level-either (eqb state.part members) (taken_level state) (refused_level state (NotAllowed number)) within within
-  level-depth (RequiredTag tag) = level-either (leb state.part required) (taken_level (in_part required state)) (refused_level state (NotAllowed number)) within within
-  level-depth Unknown = within
+  level-depth (Member tag) = few-either (takes_member state.part) (Ok state) (Err (NotAllowed number)) within tt
+  level-depth (RequiredTag tag) = few-either (takes_required state.part) (Ok (in_part Required state)) (Err (NotAllowed number)) within tt
+  level-depth Unknown = tt
+
+  pub taken-depth : (line : Line) (next : LevelState) → level_step_of state number line ≡ Ok next → next.depth ≤ 40
+  taken-depth line next taken = rw taken at (level-depth line)
 
 -- ---- layout_order_from
 
@@ -76,18 +69,19 @@ module _ (state : LevelState) (lines : ℕ) (text : List ℕ) (first : ℕ) wher
   levels_end over = rw (cut-nothing line_feed text first over)
 
   module _ (past : ℕ) (within : first ≤ length text) (found : past ≡ first + position_of line_feed (drop first text)) where
-    levels_unended : first < length text → past ≡ length text → layout_order_from state lines (lines_of (drop first text)) ≡ Unordered (UnknownForm (lines + 1))
+    levels_unended : first < length text → past ≡ length text → layout_order_from state lines (lines_of (drop first text)) ≡ Err (UnknownForm (lines + 1))
     unfolding layout_order_from
     levels_unended inside at-end = rw (cut-at_last line_feed text first past within found at-end, non_empty-some (drop first text) (λ empty. omega (arith, length-drop first text)))
 
-    module _ (before-end : past ≡ length text → ⊥) (line : Line) (reads : line ≡ line_of (take (past - first) (drop first text))) (step : LevelStep) (steps : step ≡ level_step_of state (lines + 1) line) where
-      levels_go_on : step.fault ≡ NoFault → layout_order_from state lines (lines_of (drop first text)) ≡ layout_order_from step.next (lines + 1) (lines_of (drop (past + 1) text))
+    module _ (before-end : past ≡ length text → ⊥) (line : Line) (reads : line ≡ line_of (take (past - first) (drop first text))) where
+      levels_go_on : (next : LevelState) → level_step_of state (lines + 1) line ≡ Ok next
+          → layout_order_from state lines (lines_of (drop first text)) ≡ layout_order_from next (lines + 1) (lines_of (drop (past + 1) text))
       unfolding layout_order_from
-      levels_go_on good = rw (cut-at_piece line_feed text first past within found before-end, ← reads, ← steps, good)
+      levels_go_on next taken = rw (cut-at_piece line_feed text first past within found before-end, ← reads, taken)
 
-      levels_refuse : (refusal : Refusal) → step.fault ≡ Faulty refusal → layout_order_from state lines (lines_of (drop first text)) ≡ Unordered refusal
+      levels_refuse : (refusal : Refusal) → level_step_of state (lines + 1) line ≡ Err refusal → layout_order_from state lines (lines_of (drop first text)) ≡ Err refusal
       unfolding layout_order_from
-      levels_refuse refusal faulty = rw (cut-at_piece line_feed text first past within found before-end, ← reads, ← steps, faulty)
+      levels_refuse refusal faulty = rw (cut-at_piece line_feed text first past within found before-end, ← reads, faulty)
 
 -- the loop of `read_levels`: the lines before `first` were taken
 pub record LevelsSoFar (text : List ℕ) (first : ℕ) (state : LevelState) (lines : ℕ) : Type 0 where
@@ -105,19 +99,19 @@ module _ (text : List ℕ) (first : ℕ) (state : LevelState) (lines : ℕ) (so_
   levels_stop over = so_far.rest ∙ levels_end state lines text first over
 
   module _ (past : ℕ) (found : past ≡ first + position_of line_feed (drop first text)) where
-    pub levels_break : first < length text → past ≡ length text → layout_order_of text ≡ Unordered (UnknownForm (lines + 1))
+    pub levels_break : first < length text → past ≡ length text → layout_order_of text ≡ Err (UnknownForm (lines + 1))
     levels_break inside at-end = so_far.rest ∙ levels_unended state lines text first past so_far.within found inside at-end
 
-    module _ (before-end : past ≡ length text → ⊥) (line : Line) (reads : line ≡ line_of (take (past - first) (drop first text))) (step : LevelStep) (steps : step ≡ level_step_of state (lines + 1) line) where
-      pub levels_faulty : (refusal : Refusal) → step.fault ≡ Faulty refusal → layout_order_of text ≡ Unordered refusal
-      levels_faulty refusal faulty = so_far.rest ∙ levels_refuse state lines text first past so_far.within found before-end line reads step steps refusal faulty
+    module _ (before-end : past ≡ length text → ⊥) (line : Line) (reads : line ≡ line_of (take (past - first) (drop first text))) where
+      pub levels_faulty : (refusal : Refusal) → level_step_of state (lines + 1) line ≡ Err refusal → layout_order_of text ≡ Err refusal
+      levels_faulty refusal faulty = so_far.rest ∙ levels_refuse state lines text first past so_far.within found before-end line reads refusal faulty
 
-      pub levels_turn : step.fault ≡ NoFault → LevelsSoFar text (past + 1) step.next (lines + 1)
-      levels_turn good =
+      pub levels_turn : (next : LevelState) → level_step_of state (lines + 1) line ≡ Ok next → LevelsSoFar text (past + 1) next (lines + 1)
+      levels_turn next taken =
           let bounds = found_within line_feed text first past so_far.within found in
           record {
             within = omega (arith, bounds, before-end);
-            few_open = rw steps (level-depth state (lines + 1) so_far.few_open line);
+            few_open = taken-depth state (lines + 1) so_far.few_open line next taken;
             few_lines = omega (arith, bounds, so_far.few_lines);
-            rest = so_far.rest ∙ levels_go_on state lines text first past so_far.within found before-end line reads step steps good;
+            rest = so_far.rest ∙ levels_go_on state lines text first past so_far.within found before-end line reads next taken;
           }

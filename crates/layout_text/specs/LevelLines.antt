@@ -6,21 +6,19 @@
 --   lines_in pieces         the lines of a text that is cut at its line feeds
 --   lines_at text first     the lines of the text from the byte `first` on
 --   least_bytes line        how many bytes such a line has at least, with its line feed
-use Rattle.std.specs.Prelude.{ℕ, List, [], ◌∷◌, drop, if◌then◌else◌}
+use Rattle.std.specs.Prelude.{ℕ, List, [], ◌∷◌, drop, if◌then◌else◌, Option, Some, None}
 use Rattle.ascii.specs.Bytes.{non_empty}
 use Rattle.line_forms.specs.declared.line.Line.{Line}
 use Rattle.line_forms.specs.declared.line.Line.TheVariants.{Def, Value, BeginHeader, BeginTrailer, EndHeader, EndTrailer, Component, Message, Field, Group, Use, End, Member, RequiredTag, Unknown}
-use Rattle.lines.specs.declared.line_parts.Number32.{Number32}
-use Rattle.lines.specs.declared.line_parts.Number32.TheVariants.{Number, NoNumber}
 use Rattle.lines.specs.Lines.{Pieces, last, piece, lines_of}
 use Rattle.line_forms.specs.LineForms.{line_of}
 use Rattle.layout_text.specs.declared.level_line.LevelLine.{LevelLine}
 use Rattle.layout_text.specs.declared.level_line.LevelLine.TheVariants.{MemberLine, RequiredLine, GroupLine, EndLine, OtherLine}
 
 -- of the end lines a layout text knows only `end=COUNT`
-abbrev pub end_line_of : Number32 → LevelLine
-end_line_of (Number count) = EndLine
-end_line_of NoNumber = OtherLine
+abbrev pub end_line_of : Option ℕ → LevelLine
+end_line_of (Some count) = EndLine
+end_line_of None = OtherLine
 
 unfoldable pub level_line_of : Line → LevelLine
 level_line_of (Def tag place) = OtherLine

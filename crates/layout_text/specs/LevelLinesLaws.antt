@@ -1,44 +1,35 @@
 -- Laws of `LevelLines.antt`: the next line of a text, and how many bytes a line has at least. Assumes nothing.
-use Rattle.std.specs.Prelude.{◌≡◌, refl, ℕ, ◌+◌, ◌-◌, ◌≤◌, ◌<◌, Bool, true, false, cond, List, [], ◌∷◌, length, take}
+use Rattle.std.specs.Prelude.{◌≡◌, refl, ℕ, ◌+◌, ◌-◌, ◌≤◌, ◌<◌, Bool, true, false, cond, List, [], ◌∷◌, length, take, Option, Some, None}
 use Rattle.std.proofs.Common.{ap, ◌∙◌, arith, length-take-le}
 use Rattle.std.proofs.Math.ListN.{drop, length-drop}
 use Rattle.ascii.specs.Bytes.{ascii, non_empty}
 use Rattle.ascii.specs.BytesLaws.{non_empty-some}
 use Rattle.line_forms.specs.declared.line.Line.{Line}
 use Rattle.line_forms.specs.declared.line.Line.TheVariants.{EndHeader, EndTrailer, BeginHeader, BeginTrailer, Unknown}
-use Rattle.lines.specs.declared.line_parts.Number32.{Number32}
-use Rattle.lines.specs.declared.line_parts.Number32.TheVariants.{Number, NoNumber}
-use Rattle.lines.specs.declared.line_parts.Flag.{Flag}
-use Rattle.lines.specs.declared.line_parts.Flag.TheVariants.{Required, Optional, NoFlag}
-use Rattle.lines.specs.declared.line_parts.TypeName.{TypeName}
-use Rattle.lines.specs.declared.line_parts.TypeName.TheVariants.{TypeAt, NoType}
-use Rattle.lines.specs.declared.line_parts.MessageType.{MessageType}
-use Rattle.lines.specs.declared.line_parts.MessageType.TheVariants.{Letters, NoLetters}
-use Rattle.lines.specs.declared.line_parts.ValueText.{ValueText}
-use Rattle.lines.specs.declared.line_parts.ValueText.TheVariants.{Bytes, NoBytes}
-use Rattle.lines.specs.Lines.{position_of, before, behind, starts_with, is_same, lines_of, line_feed, comma}
+use Rattle.lines.specs.Lines.{position_of, before, behind, starts_with, is_same, line_feed, comma}
 use Rattle.lines.specs.LinesLaws.{starts_with_length, found_within, cut-at_piece, cut-at_last, cut-nothing}
 use Rattle.lines.specs.LineParts.{number_of, flag_of, type_of, message_type_of, value_of}
 use Rattle.line_forms.specs.LineForms.{def_with, def_of, value_with, begin_of, component_with, message_with, message_of, field_with, field_of, group_with, group_rest, group_of, use_with, use_of, end_with, end_of, member_with, required_with, block_line_of, definition_line_of, line_of}
 use Rattle.layout_text.specs.declared.level_line.LevelLine.{LevelLine}
 use Rattle.layout_text.specs.declared.level_line.LevelLine.TheVariants.{OtherLine}
 use Rattle.layout_text.specs.LevelLines.{level_line_of, lines_in, lines_at, least_bytes}
+use Rattle.lines.specs.declared.line_parts.Admitted.{Admitted}
 
 -- ---- least_bytes: a line has its key, and its line feed
 
 least : Line → ℕ
 least line = least_bytes (level_line_of line)
 
-least-def : (tag : Number32) (name : TypeName) → least (def_with tag name) ≡ 1
+least-def : (tag : Option ℕ) (name : Option ℕ) → least (def_with tag name) ≡ 1
 unfolding least least_bytes level_line_of
-least-def (Number tag) (TypeAt place) = refl
-least-def (Number tag) NoType = refl
-least-def NoNumber name = refl
+least-def (Some tag) (Some place) = refl
+least-def (Some tag) None = refl
+least-def None name = refl
 
-least-value : (value : ValueText) → least (value_with value) ≡ 1
+least-value : (value : Option Admitted) → least (value_with value) ≡ 1
 unfolding least least_bytes level_line_of
-least-value (Bytes admitted) = refl
-least-value NoBytes = refl
+least-value (Some admitted) = refl
+least-value None = refl
 
 least-begin : (header trailer : Bool) → least (cond header BeginHeader (cond trailer BeginTrailer Unknown)) ≡ 1
 unfolding least least_bytes level_line_of
@@ -46,49 +37,49 @@ least-begin true trailer = refl
 least-begin false true = refl
 least-begin false false = refl
 
-least-component : (name : Number32) → least (component_with name) ≡ 1
+least-component : (name : Option ℕ) → least (component_with name) ≡ 1
 unfolding least least_bytes level_line_of
-least-component (Number name) = refl
-least-component NoNumber = refl
+least-component (Some name) = refl
+least-component None = refl
 
-least-message_with : (name : MessageType) (app : Bool) → least (message_with name app) ≡ 1
+least-message_with : (name : Option ℕ) (app : Bool) → least (message_with name app) ≡ 1
 unfolding least least_bytes level_line_of
-least-message_with (Letters letters) app = refl
-least-message_with NoLetters app = refl
+least-message_with (Some letters) app = refl
+least-message_with None app = refl
 
-least-message : (name : MessageType) (app admin : Bool) → least (cond app (message_with name true) (cond admin (message_with name false) Unknown)) ≡ 1
+least-message : (name : Option ℕ) (app admin : Bool) → least (cond app (message_with name true) (cond admin (message_with name false) Unknown)) ≡ 1
 unfolding least least_bytes level_line_of
 least-message name true admin = least-message_with name true
 least-message name false true = least-message_with name false
 least-message name false false = refl
 
-least-field : (tag : Number32) (flag : Flag) → least (field_with tag flag) ≡ 1
+least-field : (tag : Option ℕ) (flag : Option Bool) → least (field_with tag flag) ≡ 1
 unfolding least least_bytes level_line_of
-least-field (Number tag) Required = refl
-least-field (Number tag) Optional = refl
-least-field (Number tag) NoFlag = refl
-least-field NoNumber flag = refl
+least-field (Some tag) (Some true) = refl
+least-field (Some tag) (Some false) = refl
+least-field (Some tag) None = refl
+least-field None flag = refl
 
-least-group : (count delimiter : Number32) (flag : Flag) → least (group_with count delimiter flag) ≤ 7
+least-group : (count delimiter : Option ℕ) (flag : Option Bool) → least (group_with count delimiter flag) ≤ 7
 unfolding least least_bytes level_line_of
-least-group (Number count) (Number delimiter) Required = omega arith
-least-group (Number count) (Number delimiter) Optional = omega arith
-least-group (Number count) (Number delimiter) NoFlag = omega arith
-least-group (Number count) NoNumber flag = omega arith
-least-group NoNumber delimiter flag = omega arith
+least-group (Some count) (Some delimiter) (Some true) = omega arith
+least-group (Some count) (Some delimiter) (Some false) = omega arith
+least-group (Some count) (Some delimiter) None = omega arith
+least-group (Some count) None flag = omega arith
+least-group None delimiter flag = omega arith
 
-least-use : (name : Number32) (flag : Flag) → least (use_with name flag) ≡ 1
+least-use : (name : Option ℕ) (flag : Option Bool) → least (use_with name flag) ≡ 1
 unfolding least least_bytes level_line_of
-least-use (Number name) Required = refl
-least-use (Number name) Optional = refl
-least-use (Number name) NoFlag = refl
-least-use NoNumber flag = refl
+least-use (Some name) (Some true) = refl
+least-use (Some name) (Some false) = refl
+least-use (Some name) None = refl
+least-use None flag = refl
 
-least-end_with : (number : Number32) (name : MessageType) → least (end_with number name) ≤ 5
+least-end_with : (number : Option ℕ) (name : Option ℕ) → least (end_with number name) ≤ 5
 unfolding least least_bytes level_line_of
-least-end_with (Number number) name = omega arith
-least-end_with NoNumber (Letters letters) = omega arith
-least-end_with NoNumber NoLetters = omega arith
+least-end_with (Some number) name = omega arith
+least-end_with None (Some letters) = omega arith
+least-end_with None None = omega arith
 
 least-end : (header trailer : Bool) (line : Line) → least line ≤ 5 → least (cond header EndHeader (cond trailer EndTrailer line)) ≤ 5
 unfolding least least_bytes level_line_of
@@ -96,15 +87,15 @@ least-end true trailer line short = omega arith
 least-end false true line short = omega arith
 least-end false false line short = short
 
-least-member : (tag : Number32) → least (member_with tag) ≤ 8
+least-member : (tag : Option ℕ) → least (member_with tag) ≤ 8
 unfolding least least_bytes level_line_of
-least-member (Number tag) = omega arith
-least-member NoNumber = omega arith
+least-member (Some tag) = omega arith
+least-member None = omega arith
 
-least-required : (tag : Number32) → least (required_with tag) ≤ 10
+least-required : (tag : Option ℕ) → least (required_with tag) ≤ 10
 unfolding least least_bytes level_line_of
-least-required (Number tag) = omega arith
-least-required NoNumber = omega arith
+least-required (Some tag) = omega arith
+least-required None = omega arith
 
 least-unknown : least Unknown ≡ 1
 unfolding least least_bytes level_line_of

@@ -1,9 +1,8 @@
 // The lines of a layout text, one at a time.
 ghost use Rattle.std.specs.Prelude.{◌≡◌, ◌∷◌, ◌+◌, ◌<◌, ◌≤◌, length};
-ghost use Rattle.layout_text.specs.LevelLines.{end_line_of, level_line_of, lines_at, least_bytes};
+ghost use Rattle.layout_text.specs.LevelLines.{level_line_of, lines_at, least_bytes};
 
 use line_forms::line::{Line, line_of};
-use lines::line_parts::Number32;
 use lines::lines::position_of;
 
 // A line of a layout text: what it adds to the innermost open level, opens or closes.
@@ -28,35 +27,22 @@ pub struct NextLine {
     pub next: usize,
 }
 
-fn end_line(name: Number32) -> LevelLine
-    ensures { result ≡ end_line_of name }
-{
-    match name {
-        Number32::Number(_) => LevelLine::EndLine,
-        Number32::NoNumber => LevelLine::OtherLine,
-    }
-}
-
-// What a line is to a layout text.
+// What a line is to a layout text. Of the end lines it knows only end=COUNT.
 fn level_line(line: Line) -> LevelLine
     ensures { result ≡ level_line_of line }
 {
     match line {
-        Line::Def(_, _) => LevelLine::OtherLine,
-        Line::Value(_) => LevelLine::OtherLine,
-        Line::BeginHeader => LevelLine::OtherLine,
-        Line::BeginTrailer => LevelLine::OtherLine,
-        Line::EndHeader => LevelLine::OtherLine,
-        Line::EndTrailer => LevelLine::OtherLine,
-        Line::Component(_) => LevelLine::OtherLine,
-        Line::Message(_, _) => LevelLine::OtherLine,
-        Line::Field(_, _) => LevelLine::OtherLine,
-        Line::Group(count, delimiter, required) => LevelLine::GroupLine(count, delimiter, required),
-        Line::Use(_, _) => LevelLine::OtherLine,
-        Line::End(name, _) => end_line(name),
         Line::Member(tag) => LevelLine::MemberLine(tag),
         Line::RequiredTag(tag) => LevelLine::RequiredLine(tag),
-        Line::Unknown => LevelLine::OtherLine,
+        Line::Group(count, delimiter, required) => LevelLine::GroupLine(count, delimiter, required),
+        Line::End(name, _) => {
+            if name.is_some() {
+                LevelLine::EndLine
+            } else {
+                LevelLine::OtherLine
+            }
+        }
+        _ => LevelLine::OtherLine,
     }
 }
 
@@ -66,7 +52,7 @@ pub fn line_at(text: &[u8], first: usize) -> NextLine
     ensures line { lines_at text.now first ≡ result.line ∷ lines_at text.now result.next }
     ensures bounds { (first < result.next) × (result.next ≤ length text.now) × (first + least_bytes result.line ≤ result.next) }
 {
-    let past = position_of(text, first, 10);
+    let past = position_of(text, first, b'\n');
     if past == text.len() {
         return NextLine {
             line: LevelLine::OtherLine,

@@ -2,7 +2,11 @@
 use Rattle.std.proofs.Math.Path.{◌≡◌, refl, sym, ap}
 use Rattle.std.proofs.Common.{◌∙◌, length-drop, length-take-le, get_or-take, get_or-drop}
 use Prim.Native.Nat.{ℕ, zero, suc, ◌+◌, ◌*◌, ◌-◌, ◌≤◌, ◌<◌}
-use Rattle.std.specs.Prelude.{Bool, true, ◌&&◌, take, if◌then◌else◌}
+use Rattle.std.specs.Prelude.{Bool, true, ◌&&◌, ◌||◌, take, if◌then◌else◌, Some, MatchBool}
+use Rattle.std.specs.Ordering.{is_some_and, nat_cmp, is_le}
+use Rattle.std.specs.List.{list_any, IsAllAdjacentAnswer}
+use Rattle.std.specs.List.Sorted.{IsNonDecreasing}
+use Rattle.std.proofs.lemmas.List.Sorted.{non_decreasing_from_is_sorted}
 use Rattle.std.proofs.Math.Bool.{false}
 use Rattle.std.proofs.lemmas.Bool.{false≢true}
 use mathlib.Core.List.{List, [], ◌∷◌}
@@ -11,64 +15,68 @@ use Rattle.std.proofs.Math.Numerals.{add-one}
 use Rattle.std.proofs.Math.ListN.{length, get_or, drop, drop_of_length-le}
 use Rattle.std.proofs.Math.Dec.{eqb, leb}
 use borrow.Author.Tests.{le-leb, lt-leb, leb-true, lt-ltb, le-ltb, eq-eqb, ne_eqb, eqb-true}
-use Rattle.ascii.specs.NotationLaws.{and_left, and_right}
-use Rattle.ascii.specs.Bytes.{every}
-use Rattle.ascii.specs.BytesLaws.{drop-step, non_empty-none, non_empty-some}
+use Rattle.ascii.specs.NotationLaws.{and_left, and_right, and_both}
+use Rattle.ascii.specs.BytesLaws.{drop-step}
 use Rattle.ascending.specs.Sort.{is_in}
 use Rattle.layouts.specs.Limits.{Limits}
 use Rattle.layouts.specs.LayoutRules.{◌∈ᵇ◌}
-use Rattle.layouts.specs.LayoutRulesLaws.{met_among, met_among-level, member-first, member-later}
+use Rattle.layouts.specs.LayoutRulesLaws.{met_among, met_among-level}
 use Rattle.layouts.specs.LayoutWords.{stretch, stretches, first_member, first_count_tag, first_delimiter, group_places}
 use Rattle.layouts.specs.LayoutWordsLaws.{StretchInside, stretches-next}
-use Rattle.layouts.specs.LayoutCheck.{never_falls, is_run, is_ahead, member_places_hold, required_places_hold, group_places_hold, is_flag, is_level, levels_hold, delimiters_hold, all_levels_hold, all_delimiters_hold, is_layout_of, is_layout}
+use Rattle.layouts.specs.LayoutCheck.{never_falls, is_run, is_ahead, member_places_hold, required_places_hold, group_places_hold, is_level, levels_hold, delimiters_hold, all_levels_hold, all_delimiters_hold}
 
--- ---- is_run: the places before `index` begin at `first` and do not fall, the last of them is `place`
+-- ---- is_run, and the answer of the library's `is_sorted` at words
 
-pub record RunSoFar (first : ℕ) (places : List ℕ) (index place : ℕ) : Type 0 where
-  pub within : index ≤ length places
-  pub passed : is_run first places ≡ never_falls place (drop index places)
-
-pub is_run-none : (first : ℕ) (places : List ℕ) → length places ≡ 0 → is_run first places ≡ false
+pub is_run-none : (first : ℕ) (places : List ℕ) → length places < 1 → is_run first places ≡ false
 unfolding is_run
 is_run-none first [] none = refl
 is_run-none first (place ∷ rest) none = absurd (omega arith)
 
-module _ (first : ℕ) (places : List ℕ) (some-place : length places ≡ 0 → ⊥) (place : ℕ) (read : place ≡ get_or places 0 0) where
-  pub is_run-other : (place ≡ first → ⊥) → is_run first places ≡ false
-  unfolding is_run
-  is_run-other other = at_first places some-place read
-    where
-      at_first : (places : List ℕ) → (length places ≡ 0 → ⊥) → place ≡ get_or places 0 0 → is_run first places ≡ false
-      at_first [] some-place read = absurd (some-place refl)
-      at_first (begin ∷ rest) some-place read = rw (ne_eqb begin first (λ (same : begin ≡ first). other (read ∙ same)))
+pub is_run-other : (first : ℕ) (places : List ℕ) → (get_or places 0 0 ≡ first → ⊥) → eqb (get_or places 0 0) first ≡ is_run first places
+unfolding is_run
+is_run-other first [] other = ne_eqb 0 first other
+is_run-other first (place ∷ rest) other = rw (ne_eqb place first other)
 
-  pub run-begins : place ≡ first → RunSoFar first places 1 place
-  unfolding is_run
-  run-begins same = at_first places some-place read
-    where
-      at_first : (places : List ℕ) → (length places ≡ 0 → ⊥) → place ≡ get_or places 0 0 → RunSoFar first places 1 place
-      at_first [] some-place read = absurd (some-place refl)
-      at_first (begin ∷ rest) some-place read = record {
-        within = omega arith;
-        passed = rw (eq-eqb begin first (sym read ∙ same), read);
-      }
+never_falls-rises : (place : ℕ) (rest : List ℕ) → never_falls place rest ≡ true → (number : ℕ) → number < length rest → get_or (place ∷ rest) number 0 ≤ get_or rest number 0
+unfolding never_falls
+never_falls-rises place [] holds number inside = absurd (omega arith)
+never_falls-rises place (next ∷ rest) holds zero inside = leb-true place next (and_left (leb place next) _ holds)
+never_falls-rises place (next ∷ rest) holds (suc number) inside = never_falls-rises next rest (and_right (leb place next) _ holds) number (omega arith)
 
-module _ (first : ℕ) (places : List ℕ) (index place : ℕ) (so_far : RunSoFar first places index place) where
-  pub run_ends : length places ≤ index → is_run first places ≡ true
-  unfolding never_falls
-  run_ends over = so_far.passed ∙ rw (drop_of_length-le places over)
+rises-never_falls : (place : ℕ) (rest : List ℕ) → ((number : ℕ) → number < length rest → get_or (place ∷ rest) number 0 ≤ get_or rest number 0) → never_falls place rest ≡ true
+unfolding never_falls
+rises-never_falls place [] rises = refl
+rises-never_falls place (next ∷ rest) rises =
+    and_both
+    (leb place next)
+    (never_falls next rest)
+    (le-leb place next (rises 0 (omega arith)))
+    (rises-never_falls next rest (λ number inside. rises (suc number) (omega arith)))
 
-  module _ (inside : index < length places) (next : ℕ) (read : next ≡ get_or places index 0) where
-    pub run-falls : next < place → is_run first places ≡ false
-    unfolding never_falls
-    run-falls below = so_far.passed ∙ rw (drop-step places index inside, ← read, lt-leb place next below)
+abbrev IsSortedAnswer : List ℕ → Bool → Type 0
+IsSortedAnswer places answer = MatchBool answer (IsNonDecreasing places) ((number : ℕ) × (number + 1 < length places) × ((other : ℕ) → get_or places (number + 1) other < get_or places number other))
 
-    pub run-goes_on : place ≤ next → RunSoFar first places (index + 1) next
-    unfolding never_falls
-    run-goes_on above = record {
-      within = omega arith;
-      passed = so_far.passed ∙ rw (drop-step places index inside, ← read, le-leb place next above);
-    }
+never_falls-answer : (place : ℕ) (rest : List ℕ) (answer : Bool) → IsSortedAnswer (place ∷ rest) answer → answer ≡ never_falls place rest
+never_falls-answer place rest true sorted =
+    sym (rises-never_falls place rest (λ number inside. rw add-one at (sorted number (number + 1) 0 (omega arith) (omega arith))))
+never_falls-answer place rest false falls = go (never_falls place rest) refl
+  where
+    go : (answer : Bool) → never_falls place rest ≡ answer → false ≡ answer
+    go true never =
+        let rises = never_falls-rises place rest never falls.0 (omega (arith, falls.1)) in
+        let below : get_or rest falls.0 0 < get_or (place ∷ rest) falls.0 0 = rw add-one at (falls.2 0) in
+        absurd (omega (arith, rises, below))
+    go false never = refl
+
+pub is_run-sorted : (first : ℕ) (places : List ℕ) (answer : Bool)
+    → 1 ≤ length places
+    → get_or places 0 0 ≡ first
+    → IsAllAdjacentAnswer (λ place next ordered. is_some_and is_le (Some (nat_cmp place next)) ≡ ordered) places answer
+    → answer ≡ is_run first places
+unfolding is_run
+is_run-sorted first [] answer some_place same sorted = absurd (omega arith)
+is_run-sorted first (place ∷ rest) answer some_place same sorted =
+    rw (eq-eqb place first same) (never_falls-answer place rest answer (non_decreasing_from_is_sorted (place ∷ rest) answer sorted))
 
 -- ---- is_ahead: the places before `index` are ahead, and `passed` is the number that the next one must be greater than
 
@@ -172,29 +180,12 @@ module _ (members tags : List ℕ) (index least met : ℕ) (so_far : LevelSoFar 
           passed = at_tag ∙ rw (ne_eqb tag member other, drop-step tags met some_left, ← tag_read, add-one member);
         }
 
--- ---- _∈ᵇ_: the tag is none of the members before `index`
+-- ---- _∈ᵇ_ as the library's test
 
-pub record MemberSoFar (tag : ℕ) (members : List ℕ) (index : ℕ) : Type 0 where
-  pub within : index ≤ length members
-  pub passed : tag ∈ᵇ members ≡ tag ∈ᵇ drop index members
-
-pub member-begins : (tag : ℕ) (members : List ℕ) → MemberSoFar tag members 0
-member-begins tag members = record { within = omega arith; passed = refl }
-
-module _ (tag : ℕ) (members : List ℕ) (index : ℕ) (so_far : MemberSoFar tag members index) where
-  pub member-ends : length members ≤ index → tag ∈ᵇ members ≡ false
-  unfolding is_in
-  member-ends over = so_far.passed ∙ rw (drop_of_length-le members over)
-
-  module _ (inside : index < length members) where
-    pub member-found : get_or members index 0 ≡ tag → tag ∈ᵇ members ≡ true
-    member-found same = so_far.passed ∙ ap (λ (rest : List ℕ). tag ∈ᵇ rest) (drop-step members index inside) ∙ member-first tag _ _ same
-
-    pub member-goes_on : (get_or members index 0 ≡ tag → ⊥) → MemberSoFar tag members (index + 1)
-    member-goes_on other = record {
-      within = omega arith;
-      passed = so_far.passed ∙ ap (λ (rest : List ℕ). tag ∈ᵇ rest) (drop-step members index inside) ∙ member-later tag _ _ other;
-    }
+pub is_in-any : (tag : ℕ) (members : List ℕ) → list_any (λ member. eqb member tag) members ≡ tag ∈ᵇ members
+unfolding is_in
+is_in-any tag [] = refl
+is_in-any tag (member ∷ rest) = ap (λ (others : Bool). eqb member tag || others) (is_in-any tag rest)
 
 -- ---- the places of every level
 
@@ -293,69 +284,11 @@ module _ (groups : ℕ) (words : List ℕ) (number : ℕ) (so_far : DelimitersSo
 
 -- ---- the three rows of places
 
--- the part of the words from `from` on, with so many words
-pub part_count : (words : List ℕ) (from past count : ℕ) → past ≡ from + count → take (past - from) (drop from words) ≡ take count (drop from words)
-part_count words from past count ends = let same : past - from ≡ count = omega arith in rw same
-
-module _ (limits : Limits) (groups : ℕ) (words : List ℕ) (answer : Bool) where
-  module _ (run : answer ≡ is_run (7 + 6 * groups) (take (groups + 3 - 1) (drop 1 words))) where
-    member-run : is_run (7 + 6 * groups) (take (groups + 2) (drop 1 words)) ≡ answer
-    member-run = sym (run ∙ ap (is_run (7 + 6 * groups)) (part_count words 1 (groups + 3) (groups + 2) (omega arith)))
-
-    pub member_places_hold-no_run : answer ≡ false → member_places_hold limits groups words ≡ false
-    unfolding member_places_hold
-    member_places_hold-no_run fails = rw (member-run, fails)
-
-    pub member_places_hold-run : answer ≡ true → (end : ℕ) → end ≡ get_or words (groups + 2) 0 → leb end (7 + 6 * groups + limits.members) ≡ member_places_hold limits groups words
-    unfolding member_places_hold
-    member_places_hold-run holds end read = rw (member-run, holds, read)
-
-  module _ (first : ℕ) (read : first ≡ get_or words (groups + 2) 0) (run : answer ≡ is_run first (take (5 + 2 * groups - (3 + groups)) (drop (3 + groups) words))) where
-    required-run : is_run (get_or words (groups + 2) 0) (take (groups + 2) (drop (3 + groups) words)) ≡ answer
-    required-run = sym (run ∙ rw (read, part_count words (3 + groups) (5 + 2 * groups) (groups + 2) (omega arith)))
-
-    pub required_places_hold-no_run : answer ≡ false → required_places_hold limits groups words ≡ false
-    unfolding required_places_hold
-    required_places_hold-no_run fails = rw (required-run, fails)
-
-    module _ (holds : answer ≡ true) (end : ℕ) (End-read : end ≡ get_or words (4 + 2 * groups) 0) where
-      pub required_places_hold-over : first + limits.required < end → required_places_hold limits groups words ≡ false
-      unfolding required_places_hold
-      required_places_hold-over over = rw (required-run, holds, ← End-read, ← read, lt-leb end (first + limits.required) over)
-
-      pub required_places_hold-run : end ≤ first + limits.required → leb end (length words) ≡ required_places_hold limits groups words
-      unfolding required_places_hold
-      required_places_hold-run within = rw (required-run, holds, ← End-read, ← read, le-leb end (first + limits.required) within)
-
-module _ (groups : ℕ) (words : List ℕ) (answer : Bool) (run : answer ≡ is_run (7 + 3 * groups) (take (7 + 3 * groups - (5 + 2 * groups)) (drop (5 + 2 * groups) words))) where
-  group-run : is_run (7 + 3 * groups) (take (groups + 2) (drop (5 + 2 * groups) words)) ≡ answer
-  group-run = sym (run ∙ ap (is_run (7 + 3 * groups)) (part_count words (5 + 2 * groups) (7 + 3 * groups) (groups + 2) (omega arith)))
-
-  pub group_places_hold-no_run : answer ≡ false → group_places_hold groups words ≡ false
-  unfolding group_places_hold
-  group_places_hold-no_run fails = rw (group-run, fails)
-
-  module _ (holds : answer ≡ true) (end : ℕ) (End-read : end ≡ get_or words (6 + 3 * groups) 0) where
-    pub group_places_hold-other_end : (end ≡ 7 + 4 * groups → ⊥) → group_places_hold groups words ≡ false
-    unfolding group_places_hold
-    group_places_hold-other_end other = rw (group-run, holds, ← End-read, ne_eqb end (7 + 4 * groups) other)
-
-    pub group_places_hold-run : end ≡ 7 + 4 * groups
-        → is_ahead (7 + 3 * groups) (take (6 + 3 * groups - (6 + 2 * groups)) (drop (6 + 2 * groups) words)) ≡ group_places_hold groups words
-    unfolding group_places_hold
-    group_places_hold-run same = rw (group-run, holds, ← End-read, eq-eqb end (7 + 4 * groups) same, part_count words (6 + 2 * groups) (6 + 3 * groups) groups (omega arith))
-
 -- what a row of `count + 1` places says, from `column` on
 pub record RunIn (words : List ℕ) (column count first : ℕ) : Type 0 where
   pub begins : get_or words column 0 ≡ first
   pub rises : (number : ℕ) → number < count → get_or words (column + number) 0 ≤ get_or words (column + number + 1) 0
   pub reaches : (number : ℕ) → number ≤ count → get_or words (column + number) 0 ≤ get_or words (column + count) 0
-
-never_falls-rises : (place : ℕ) (rest : List ℕ) → never_falls place rest ≡ true → (number : ℕ) → number < length rest → get_or (place ∷ rest) number 0 ≤ get_or rest number 0
-unfolding never_falls
-never_falls-rises place [] holds number inside = absurd (omega arith)
-never_falls-rises place (next ∷ rest) holds zero inside = leb-true place next (and_left (leb place next) _ holds)
-never_falls-rises place (next ∷ rest) holds (suc number) inside = never_falls-rises next rest (and_right (leb place next) _ holds) number (omega arith)
 
 never_falls-reaches : (place : ℕ) (rest : List ℕ) → never_falls place rest ≡ true → (number : ℕ) → number ≤ length rest → get_or (place ∷ rest) number 0 ≤ get_or (place ∷ rest) (length rest) 0
 unfolding never_falls
@@ -534,58 +467,5 @@ module _ (limits : Limits) (groups : ℕ) (words : List ℕ) (heads : first_memb
             within = omega (arith, same, end, run.reaches (number + 1) (omega arith), groups-end groups_hold_lem);
           }
 
-      pub places-inside : groups < 4294967296 → PlacesInside groups words
-      places-inside few = record { few = few; heads = heads; members = member-stretches; count_tags = count-tag_stretches }
-
--- ---- is_layout, test by test
-
-pub is_layout-empty : (limits : Limits) (words : List ℕ) → length words ≡ 0 → is_layout limits words ≡ false
-unfolding is_layout
-is_layout-empty limits words none = rw (non_empty-none words none)
-
-module _ (limits : Limits) (words : List ℕ) (some_word : length words ≡ 0 → ⊥) (groups : ℕ) (read : groups ≡ get_or words 0 0) where
-  is_layout-some : is_layout limits words ≡ is_layout_of limits groups words
-  unfolding is_layout
-  is_layout-some = rw (non_empty-some words some_word, read)
-
-  pub is_layout-short : length words < 7 + 6 * groups → is_layout limits words ≡ false
-  unfolding is_layout_of
-  is_layout-short short = is_layout-some ∙ rw (lt-leb (7 + 6 * groups) (length words) short)
-
-  module _ (heads : 7 + 6 * groups ≤ length words) where
-    pub is_layout-members : member_places_hold limits groups words ≡ false → is_layout limits words ≡ false
-    unfolding is_layout_of
-    is_layout-members fails = is_layout-some ∙ rw (le-leb (7 + 6 * groups) (length words) heads, fails)
-
-    module _ (members_hold : member_places_hold limits groups words ≡ true) where
-      pub is_layout-required : required_places_hold limits groups words ≡ false → is_layout limits words ≡ false
-      unfolding is_layout_of
-      is_layout-required fails = is_layout-some ∙ rw (le-leb (7 + 6 * groups) (length words) heads, members_hold, fails)
-
-      module _ (required_hold : required_places_hold limits groups words ≡ true) where
-        pub is_layout-groups : group_places_hold groups words ≡ false → is_layout limits words ≡ false
-        unfolding is_layout_of
-        is_layout-groups fails = is_layout-some ∙ rw (le-leb (7 + 6 * groups) (length words) heads, members_hold, required_hold, fails)
-
-        module _
-            (groups_hold_lem : group_places_hold groups words ≡ true)
-            (answer : Bool)
-            (flags-read : answer ≡ every is_flag (take (7 + 6 * groups - (7 + 5 * groups)) (drop (7 + 5 * groups) words)))
-          where
-            flags_are : every is_flag (take groups (drop (7 + 5 * groups) words)) ≡ answer
-            flags_are = sym (flags-read ∙ ap (every is_flag) (part_count words (7 + 5 * groups) (7 + 6 * groups) groups (omega arith)))
-
-            pub is_layout-flags : answer ≡ false → is_layout limits words ≡ false
-            unfolding is_layout_of
-            is_layout-flags fails = is_layout-some ∙ rw (le-leb (7 + 6 * groups) (length words) heads, members_hold, required_hold, groups_hold_lem, flags_are, fails)
-
-            module _ (flags_hold : answer ≡ true) where
-              pub is_layout-levels : all_levels_hold groups words ≡ false → is_layout limits words ≡ false
-              unfolding is_layout_of
-              is_layout-levels fails =
-                  is_layout-some ∙ rw (le-leb (7 + 6 * groups) (length words) heads, members_hold, required_hold, groups_hold_lem, flags_are, flags_hold, fails)
-
-              pub is_layout-delimiters : all_levels_hold groups words ≡ true → is_layout limits words ≡ all_delimiters_hold groups words
-              unfolding is_layout_of
-              is_layout-delimiters levels_hold_lem =
-                  is_layout-some ∙ rw (le-leb (7 + 6 * groups) (length words) heads, members_hold, required_hold, groups_hold_lem, flags_are, flags_hold, levels_hold_lem)
+      pub places_inside : groups < 4294967296 → PlacesInside groups words
+      places_inside few = record { few = few; heads = heads; members = member-stretches; count_tags = count-tag_stretches }

@@ -2,7 +2,7 @@
 -- Assumes nothing.
 --
 --   met_among least members tags   whether tags are met, in their order, among members that ascend from `least` on
-use Rattle.std.specs.Prelude.{◌≡◌, refl, ℕ, zero, suc, ◌≤◌, ◌<◌, Bool, true, false, ◌&&◌, List, [], ◌∷◌, length, get_or, leb, ltb, if◌then◌else◌}
+use Rattle.std.specs.Prelude.{◌≡◌, refl, ℕ, suc, ◌≤◌, ◌<◌, Bool, true, false, ◌&&◌, List, [], ◌∷◌, length, get_or, leb, ltb, if◌then◌else◌}
 use Rattle.std.proofs.Common.{sym, ap₂, ◌∙◌, arith, le-leb, leb-true, lt-ltb, ltb-true, eq-eqb, ne_eqb}
 use Rattle.std.proofs.lemmas.Bool.{false≢true}
 use Rattle.std.proofs.Math.Decide.{ℕ_discrete}

@@ -11,29 +11,20 @@ fn put_column(words: &mut [u32], to: usize, rows: &[u32], field: usize, count: u
     requires { (to + count ≤ length words.old) × (field + 6 * count ≤ length rows.now + 5) }
     ensures { words.new ≡ sets words.old to (column rows.now field count) }
 {
-    let mut index = 0;
-    let mut place = field;
-    while index < count {
-        words[to + index] = rows[place];
-        place += 6;
-        index += 1;
+    for index in 0..count {
+        words[to + index] = rows[field + 6 * index];
     }
 }
 
-// Writes the place `first`, and behind it the place of each end that stands in a column of the rows.
+// Writes the place `first`, and after it the place of each end that stands in a column of the rows.
 fn put_places(words: &mut [u32], to: usize, first: usize, rows: &[u32], field: usize, count: usize)
     requires { (to + 1 + count ≤ length words.old) × (field + 6 * count ≤ length rows.now + 5) × (first < 4294967296) × ((number : ℕ) → number < count → first + get_or rows.now (field + 6 * number) 0 < 4294967296) }
     ensures { words.new ≡ sets words.old to (first ∷ shifted first (column rows.now field count)) }
 {
     words[to] = narrow(first);
-    let mut index = 0;
-    let mut place = field;
-    while index < count {
-        let end = wide(rows[place]);
-        let past = first + end;
-        words[to + 1 + index] = narrow(past);
-        place += 6;
-        index += 1;
+    for index in 0..count {
+        let end = wide(rows[field + 6 * index]);
+        words[to + 1 + index] = narrow(first + end);
     }
 }
 
@@ -42,14 +33,10 @@ fn put_tags(words: &mut [u32], to: usize, tags: &[u32])
     requires { to + length tags.now ≤ length words.old }
     ensures { words.new ≡ sets words.old to tags.now }
 {
-    let mut index = 0;
-    while index < tags.len() {
-        words[to + index] = tags[index];
-        index += 1;
-    }
+    words[to..to + tags.len()].copy_from_slice(tags);
 }
 
-// Writes the words of the layout whose parts were gathered. Behind them the words stay as they were.
+// Writes the words of the layout whose parts were gathered. After them the words stay as they were.
 pub fn put_layout(words: &mut [u32], groups: usize, members: &[u32], required: &[u32], rows: &[u32])
     requires { (first_member groups + length members.now + length required.now ≤ length words.old) × (first_member groups + length members.now + length required.now < 4294967296) × RowsInside groups members.now required.now rows.now }
     ensures { words.new ≡ sets words.old 0 (gathered_words groups members.now required.now rows.now) }

@@ -1,30 +1,13 @@
--- `layout_check::layout_check::is_run` meets its contract. The loop's invariant is `RunSoFar`; the laws are those of layouts, specs/LayoutCheckLaws.antt.
+-- `layout_check::layout_check::is_run` meets its contract, by layouts, specs/LayoutCheckLaws.antt.
 use mathlib.Core.Path.{sym}
-use Prim.Native.Nat.{◌-◌}
-use lib.ListN.{length}
-use Rattle.layouts.specs.LayoutCheckLaws.{RunSoFar, is_run-none, is_run-other, run-begins, run-falls, run-goes_on, run_ends}
-use borrow.Author.Rules.{rules}
+use Rattle.layouts.specs.LayoutCheckLaws.{is_run-none, is_run-other, is_run-sorted}
 use Rattle.layout_check.proofs.layout_check.is_run.Goals as goal
 
--- return false;
-pub returns-then-places-eq0 : goal.returns-then-places-eq0
-returns-then-places-eq0 c = sym (is_run-none _ _ c.if-places-eq0.true)
+pub returns-in_default : goal.returns-in_default
+returns-in_default c = sym (is_run-none _ _ c.in_default.len_below)
 
--- return false;
 pub returns-then-place-first : goal.returns-then-place-first
-returns-then-place-first c = sym (is_run-other _ _ c.if-places-eq0.false _ c.wide-place.ensures c.if-place-first.true)
+returns-then-place-first c = is_run-sorted _ _ _ c.in-len1-up.len_at_least c.if-place-first.true c.is_sorted.ensures.cases
 
--- while index < places.len() {
-pub loop-index-init : goal.loop-index-init
-loop-index-init c = run-begins _ _ c.if-places-eq0.false _ c.wide-place.ensures c.if-place-first.false
-
--- return false;
-pub returns-then-next-place : goal.returns-then-next-place
-returns-then-next-place c = sym (run-falls _ _ _ _ c.loop-index.invariant c.loop-index-test.true _ c.wide-next.ensures c.if-next-place.true)
-
-pub loop-index-preserved : goal.loop-index-preserved
-loop-index-preserved c = run-goes_on _ _ _ _ c.loop-index.invariant c.loop-index-test.true _ c.wide-next.ensures c.if-next-place.false
-
--- fn is_run(places: &[u32], first: usize) -> bool
-pub returns : goal.returns
-returns c = sym (run_ends _ _ _ _ c.loop-index.invariant c.loop-index-test.false)
+pub returns-else-place-first : goal.returns-else-place-first
+returns-else-place-first c = is_run-other _ _ c.if-place-first.false

@@ -1,9 +1,7 @@
 -- `layout_parts::layout_parts::count_parts` meets its contract. The loop's invariant is `CountsSoFar` (specs/PartsLoops.antt).
 use Prim.Native.Nat.{◌-◌}
-use native.Mathlib.Omega.{arith}
 use lib.ListN.{length}
-use Rattle.layout_parts.specs.PartsLoops.{CountsSoFar, counts-begin, counts_end, counts-member, counts-required, counts-group, counts-close, counts-no_other}
-use borrow.Author.Rules.{rules}
+use Rattle.layout_parts.specs.PartsLoops.{CountsSoFar}
 use Rattle.layout_parts.proofs.layout_parts.count_parts.Given as goal
 
 abbrev pub invariant-loop-first : goal.invariant-loop-first

@@ -1,12 +1,10 @@
 -- `layout_parts::layout_parts::gather_layout` meets its contract. The loop's invariant is `GatherSoFar` (specs/GatherLoop.antt).
-use mathlib.Core.Path.{◌≡◌, refl, ◌∙◌}
+use mathlib.Core.Path.{◌≡◌}
 use Prim.Native.Nat.{◌-◌}
-use native.Mathlib.Omega.{arith}
 use lib.ListN.{length}
 use Rattle.layouts.specs.Layout.{all_groups}
 use Rattle.layout_text.specs.LayoutOfText.{layout_of}
-use Rattle.layout_parts.specs.GatherLoop.{GatherSoFar, top-room, gather_begins, gather_ends, start-inside, number_inside, next-room, next-sizes, gather_goes_on}
-use borrow.Author.Rules.{rules}
+use Rattle.layout_parts.specs.GatherLoop.{GatherSoFar}
 use Rattle.layout_parts.proofs.layout_parts.gather_layout.Given as goal
 
 abbrev pub invariant-loop-number : goal.invariant-loop-number

@@ -1,17 +1,7 @@
--- `layout_parts::layout_parts::put_group` meets its contract: three stores, one behind the other.
-use mathlib.Core.Path.{refl}
-use Prim.Native.Nat.{◌+◌, ◌*◌}
-use native.Mathlib.Omega.{arith}
-use lib.ListN.{length-set}
-use Rattle.layout_parts.specs.PartsLoops.{row-stores}
-use borrow.Author.Rules.{rules}
+-- `layout_parts::layout_parts::put_group` meets its contract: three words of a row are put (specs/PartsLoops.antt).
+use Rattle.std.proofs.Common.{arith}
+use Rattle.layout_parts.specs.PartsLoops.{row-put_flag}
 use Rattle.layout_parts.proofs.layout_parts.put_group.Goals as goal
 
-pub bounds-rows-first-2 : goal.bounds-rows-first-2
-bounds-rows-first-2 c = simp length-set (omega arith)
-
-pub bounds-rows-first-3 : goal.bounds-rows-first-3
-bounds-rows-first-3 c = simp length-set (omega arith)
-
 pub returns : goal.returns
-returns c = row-stores c.args.rows.now (6 * c.args.group + 6) _ _ _ c.args.count c.args.delimiter _ refl refl c.flag_word.ensures
+returns c = row-put_flag _ _ _ _ _ _ _ c.from.ensures c.copy_from_slice.ensures.after (omega arith)

@@ -1,9 +1,7 @@
 -- `layout_parts::layout_parts::put_groups` meets its contract. The loop's invariant is `BlocksSoFar` (specs/PartsLoops.antt).
 use Prim.Native.Nat.{◌-◌}
-use native.Mathlib.Omega.{arith}
 use lib.ListN.{length}
-use Rattle.layout_parts.specs.PartsLoops.{BlocksSoFar, blocks-begin, blocks_end, blocks-at_member, blocks-at_required, blocks-at_other, blocks-at_end, blocks-at_close, blocks-at_deeper, block_inside, blocks-at_group}
-use borrow.Author.Rules.{rules}
+use Rattle.layout_parts.specs.PartsLoops.{BlocksSoFar}
 use Rattle.layout_parts.proofs.layout_parts.put_groups.Given as goal
 
 abbrev pub invariant-loop-next : goal.invariant-loop-next

@@ -1,24 +1,18 @@
--- `layout_rules::layout_rules::are_among` meets its contract: the tags before the index are members (`EverySoFar`).
-use mathlib.Core.Path.{sym, ◌∙◌}
-use Prim.Native.Nat.{ℕ, ◌-◌}
-use lib.ListN.{length}
-use borrow.Author.Tests.{not-true, not-false}
-use Rattle.ascii.specs.BytesLaws.{EverySoFar, every-begins, every-goes_on, every-fails, every_holds}
+-- `layout_rules::layout_rules::are_among` meets its contract: `all` is the library's `list_all`.
+use Rattle.std.proofs.Common.{rules, ◌≡◌, ◌∙◌, sym, ap, refl, ℕ, Bool, ◌&&◌, List, [], ◌∷◌}
+use Rattle.std.proofs.lemmas.Iterator.{YieldsList-from_slice}
+use Rattle.std.proofs.lemmas.Iterator.Search.{all_from_yields_List}
+use Rattle.std.specs.List.{list_all}
+use Rattle.ascii.specs.Bytes.{every}
 use Rattle.layouts.specs.LayoutRules.{◌∈ᵇ◌}
-use borrow.Author.Rules.{rules}
 use Rattle.layout_rules.proofs.layout_rules.are_among.Goals as goal
 
--- while index < tags.len() {
-pub loop-index-init : goal.loop-index-init
-loop-index-init c = every-begins _ _
+every-all : (test : ℕ → Bool) (value : List ℕ) → every test value ≡ list_all test value
+unfolding every
+every-all test [] = refl
+every-all test (byte ∷ rest) = ap (λ (others : Bool). test byte && others) (every-all test rest)
 
--- return false;
-pub returns-then-not-is_member : goal.returns-then-not-is_member
-returns-then-not-is_member c = sym (every-fails _ _ _ c.loop-index.invariant c.loop-index-test.true (sym c.is_member.ensures ∙ not-true _ c.if-not-is_member.true-raw))
-
-pub loop-index-preserved : goal.loop-index-preserved
-loop-index-preserved c = every-goes_on _ _ _ c.loop-index.invariant c.loop-index-test.true (sym c.is_member.ensures ∙ not-false _ c.if-not-is_member.false-raw)
-
--- fn are_among(members: &[u32], tags: &[u32]) -> bool
 pub returns : goal.returns
-returns c = sym (every_holds _ _ _ c.loop-index.invariant c.loop-index-test.false)
+returns c =
+    all_from_yields_List (λ tag. tag ∈ᵇ c.args.members.now) _ _ c.all.result c.all.ensures.ran (YieldsList-from_slice c.args.tags.now c.iter.ensures.rest) (λ x b q called. search rules)
+    ∙ sym (every-all (λ tag. tag ∈ᵇ c.args.members.now) c.args.tags.now)

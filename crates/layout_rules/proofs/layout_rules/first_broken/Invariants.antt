@@ -1,11 +1,8 @@
 -- `layout_rules::layout_rules::first_broken` meets its contract. The loop's invariant is `RulesSoFar`; every answer cites a law of
 -- specs/RulesLoop.antt.
-use mathlib.Core.Path.{sym, refl, ◌∙◌}
 use Prim.Native.Nat.{◌-◌}
-use native.Mathlib.Omega.{arith}
-use lib.ListN.{length, length-replicate}
-use Rattle.layout_rules.specs.RulesLoop.{RulesSoFar, rules-begin, rules-end, member-inside, rules-member, rules-required, room_of_block, rules-group, end-open, block_there, block_parts, rules-break, rules-close, no_other}
-use borrow.Author.Rules.{rules}
+use lib.ListN.{length}
+use Rattle.layout_rules.specs.RulesLoop.{RulesSoFar}
 use Rattle.layout_rules.proofs.layout_rules.first_broken.Given as goal
 
 abbrev pub invariant-loop-first : goal.invariant-loop-first

@@ -3,10 +3,9 @@ use mathlib.Core.Path.{sym, ◌∙◌}
 use borrow.Author.Tests.{not-true, not-false}
 use Rattle.ascending.specs.SearchLaws.{is_strictly_ascending-true}
 use Rattle.layout_rules.specs.OpenBlocksLaws.{group-breaks_1, group-breaks_2, group-breaks_3, group-breaks_4, group-unbroken}
-use borrow.Author.Rules.{rules}
 use Rattle.layout_rules.proofs.layout_rules.group_broken.Goals as goal
 
--- return FirstBroken::BrokenRule(1, count);
+-- return Some((1, count));
 pub returns-then-not-is_strictly_ascending : goal.returns-then-not-is_strictly_ascending
 returns-then-not-is_strictly_ascending c = sym (group-breaks_1 _ _ _ _ (sym c.is_strictly_ascending.ensures.outcome ∙ not-true _ c.if-not-is_strictly_ascending.true-raw))
 
@@ -14,11 +13,11 @@ returns-then-not-is_strictly_ascending c = sym (group-breaks_1 _ _ _ _ (sym c.is
 pub is_member-requires : goal.is_member-requires
 is_member-requires c = is_strictly_ascending-true _ (sym c.is_strictly_ascending.ensures.outcome ∙ not-false _ c.if-not-is_strictly_ascending.false-raw)
 
--- return FirstBroken::BrokenRule(2, count);
+-- return Some((2, count));
 pub returns-then-not-is_member : goal.returns-then-not-is_member
 returns-then-not-is_member c = sym (group-breaks_2 _ _ _ _ (sym c.is_strictly_ascending.ensures.outcome ∙ not-false _ c.if-not-is_strictly_ascending.false-raw) (sym c.is_member.ensures ∙ not-true _ c.if-not-is_member.true-raw))
 
--- return FirstBroken::BrokenRule(3, count);
+-- return Some((3, count));
 pub returns-then-not-is_strictly_ascending-2 : goal.returns-then-not-is_strictly_ascending-2
 returns-then-not-is_strictly_ascending-2 c = sym (group-breaks_3 _ _ _ _ (sym c.is_strictly_ascending.ensures.outcome ∙ not-false _ c.if-not-is_strictly_ascending.false-raw) (sym c.is_member.ensures ∙ not-false _ c.if-not-is_member.false-raw) (sym c.is_strictly_ascending-2.ensures.outcome ∙ not-true _ c.if-not-is_strictly_ascending-2.true-raw))
 
@@ -26,10 +25,10 @@ returns-then-not-is_strictly_ascending-2 c = sym (group-breaks_3 _ _ _ _ (sym c.
 pub are_among-requires : goal.are_among-requires
 are_among-requires c = is_strictly_ascending-true _ (sym c.is_strictly_ascending.ensures.outcome ∙ not-false _ c.if-not-is_strictly_ascending.false-raw)
 
--- return FirstBroken::BrokenRule(4, count);
+-- return Some((4, count));
 pub returns-then-not-are_among : goal.returns-then-not-are_among
 returns-then-not-are_among c = sym (group-breaks_4 _ _ _ _ (sym c.is_strictly_ascending.ensures.outcome ∙ not-false _ c.if-not-is_strictly_ascending.false-raw) (sym c.is_member.ensures ∙ not-false _ c.if-not-is_member.false-raw) (sym c.is_strictly_ascending-2.ensures.outcome ∙ not-false _ c.if-not-is_strictly_ascending-2.false-raw) (sym c.are_among.ensures ∙ not-true _ c.if-not-are_among.true-raw))
 
--- fn group_broken(members: &[u32], delimiter: u32, tags: &[u32], count: u32) -> FirstBroken
+-- fn group_broken(members: &[u32], delimiter: u32, tags: &[u32], count: u32) -> Option<(u32, u32)>
 pub returns : goal.returns
 returns c = sym (group-unbroken _ _ _ _ (sym c.is_strictly_ascending.ensures.outcome ∙ not-false _ c.if-not-is_strictly_ascending.false-raw) (sym c.is_member.ensures ∙ not-false _ c.if-not-is_member.false-raw) (sym c.is_strictly_ascending-2.ensures.outcome ∙ not-false _ c.if-not-is_strictly_ascending-2.false-raw) (sym c.are_among.ensures ∙ not-false _ c.if-not-are_among.false-raw))

@@ -3,14 +3,13 @@ use mathlib.Core.Path.{sym, ◌∙◌}
 use borrow.Author.Tests.{not-true, not-false}
 use Rattle.ascending.specs.SearchLaws.{is_strictly_ascending-true}
 use Rattle.layout_rules.specs.OpenBlocksLaws.{top-breaks_5, top-breaks_6, top-breaks_7, top-unbroken}
-use borrow.Author.Rules.{rules}
 use Rattle.layout_rules.proofs.layout_rules.top_broken.Goals as goal
 
--- return FirstBroken::BrokenRule(5, 0);
+-- return Some((5, 0));
 pub returns-then-not-is_strictly_ascending : goal.returns-then-not-is_strictly_ascending
 returns-then-not-is_strictly_ascending c = sym (top-breaks_5 _ _ (sym c.is_strictly_ascending.ensures.outcome ∙ not-true _ c.if-not-is_strictly_ascending.true-raw))
 
--- return FirstBroken::BrokenRule(6, 0);
+-- return Some((6, 0));
 pub returns-then-not-is_strictly_ascending-2 : goal.returns-then-not-is_strictly_ascending-2
 returns-then-not-is_strictly_ascending-2 c = sym (top-breaks_6 _ _ (sym c.is_strictly_ascending.ensures.outcome ∙ not-false _ c.if-not-is_strictly_ascending.false-raw) (sym c.is_strictly_ascending-2.ensures.outcome ∙ not-true _ c.if-not-is_strictly_ascending-2.true-raw))
 
@@ -18,10 +17,10 @@ returns-then-not-is_strictly_ascending-2 c = sym (top-breaks_6 _ _ (sym c.is_str
 pub are_among-requires : goal.are_among-requires
 are_among-requires c = is_strictly_ascending-true _ (sym c.is_strictly_ascending-2.ensures.outcome ∙ not-false _ c.if-not-is_strictly_ascending-2.false-raw)
 
--- return FirstBroken::BrokenRule(7, 0);
+-- return Some((7, 0));
 pub returns-then-not-are_among : goal.returns-then-not-are_among
 returns-then-not-are_among c = sym (top-breaks_7 _ _ (sym c.is_strictly_ascending.ensures.outcome ∙ not-false _ c.if-not-is_strictly_ascending.false-raw) (sym c.is_strictly_ascending-2.ensures.outcome ∙ not-false _ c.if-not-is_strictly_ascending-2.false-raw) (sym c.are_among.ensures ∙ not-true _ c.if-not-are_among.true-raw))
 
--- fn top_broken(top: &[u32], counts: &[u32]) -> FirstBroken
+-- fn top_broken(top: &[u32], counts: &[u32]) -> Option<(u32, u32)>
 pub returns : goal.returns
 returns c = sym (top-unbroken _ _ (sym c.is_strictly_ascending.ensures.outcome ∙ not-false _ c.if-not-is_strictly_ascending.false-raw) (sym c.is_strictly_ascending-2.ensures.outcome ∙ not-false _ c.if-not-is_strictly_ascending-2.false-raw) (sym c.are_among.ensures ∙ not-false _ c.if-not-are_among.false-raw))

@@ -1,56 +1,10 @@
 -- `layout_text::layout_text::take_level_line` meets its contract, a form at a time.
+use Rattle.std.proofs.Common.{◌≡◌, Some, None, arith}
+use Rattle.std.proofs.lemmas.Grind.{common_steps}
+use Rattle.std.proofs.lemmas.Result.{err_from_is_err_and}
+use Rattle.refusals.specs.declared.refusal.Refusal.TheVariants.{UnknownForm}
 use Rattle.layout_text.specs.LayoutText.{level_step_of}
-use borrow.Author.Rules.{rules}
 use Rattle.layout_text.proofs.layout_text.take_level_line.Goals as goal
-
--- pub fn take_level_line(state: LevelState, number: u64, line: Line) -> LevelStep
-pub returns-in-Def : goal.returns-in-Def
-unfolding level_step_of
-returns-in-Def c = rw c.in-Def.is c.refuse.ensures
-
-pub returns-in-Value : goal.returns-in-Value
-unfolding level_step_of
-returns-in-Value c = rw c.in-Value.is c.refuse-in-Value.ensures
-
-pub returns-in-BeginHeader : goal.returns-in-BeginHeader
-unfolding level_step_of
-returns-in-BeginHeader c = rw c.in-BeginHeader.is c.refuse-in-BeginHeader.ensures
-
-pub returns-in-BeginTrailer : goal.returns-in-BeginTrailer
-unfolding level_step_of
-returns-in-BeginTrailer c = rw c.in-BeginTrailer.is c.refuse-in-BeginTrailer.ensures
-
-pub returns-in-EndHeader : goal.returns-in-EndHeader
-unfolding level_step_of
-returns-in-EndHeader c = rw c.in-EndHeader.is c.refuse-in-EndHeader.ensures
-
-pub returns-in-EndTrailer : goal.returns-in-EndTrailer
-unfolding level_step_of
-returns-in-EndTrailer c = rw c.in-EndTrailer.is c.refuse-in-EndTrailer.ensures
-
-pub returns-in-Component : goal.returns-in-Component
-unfolding level_step_of
-returns-in-Component c = rw c.in-Component.is c.refuse-in-Component.ensures
-
-pub returns-in-Message : goal.returns-in-Message
-unfolding level_step_of
-returns-in-Message c = rw c.in-Message.is c.refuse-in-Message.ensures
-
-pub returns-in-Field : goal.returns-in-Field
-unfolding level_step_of
-returns-in-Field c = rw c.in-Field.is c.refuse-in-Field.ensures
-
-pub returns-in-Group : goal.returns-in-Group
-unfolding level_step_of
-returns-in-Group c = rw c.in-Group.is c.open_level.ensures
-
-pub returns-in-Use : goal.returns-in-Use
-unfolding level_step_of
-returns-in-Use c = rw c.in-Use.is c.refuse-in-Use.ensures
-
-pub returns-in-End : goal.returns-in-End
-unfolding level_step_of
-returns-in-End c = rw c.in-End.is c.end_of_level.ensures
 
 pub returns-in-Member : goal.returns-in-Member
 unfolding level_step_of
@@ -60,6 +14,22 @@ pub returns-in-RequiredTag : goal.returns-in-RequiredTag
 unfolding level_step_of
 returns-in-RequiredTag c = rw c.in-RequiredTag.is c.required_step.ensures
 
-pub returns-in-Unknown : goal.returns-in-Unknown
+pub returns-in-Group : goal.returns-in-Group
 unfolding level_step_of
-returns-in-Unknown c = rw c.in-Unknown.is c.refuse-in-Unknown.ensures
+returns-in-Group c = rw c.in-Group.is c.open_level.ensures
+
+pub returns-in_ok-count-in-End : goal.returns-in_ok-count-in-End
+unfolding level_step_of
+returns-in_ok-count-in-End c = let some : c.in-End.name ≡ Some c.in_ok-count-in-End.count = grind arith in rw (c.in-End.is, some) c.close_level.ensures
+
+pub returns-in_err-count-in-End : goal.returns-in_err-count-in-End
+unfolding level_step_of
+returns-in_err-count-in-End c =
+    let none : c.in-End.name ≡ None = grind arith in
+    let refused : c.in_err-count-in-End.field-0.0 ≡ UnknownForm c.args.number = grind arith in
+    let same = err_from_is_err_and c.from_residual.result c.from_residual.ensures.1 in
+    rw (c.in-End.is, none, same.1, same.2, refused)
+
+pub returns-in_default : goal.returns-in_default
+unfolding level_step_of
+returns-in_default c = grind (arith, common_steps)

@@ -1,7 +1,6 @@
 -- `layout_text::level_line::line_at` meets its contract, by specs/LevelLinesLaws.antt.
 use native.Mathlib.Omega.{arith}
 use Rattle.layout_text.specs.LevelLinesLaws.{next-unended, next-line, next-long, least_other}
-use borrow.Author.Rules.{rules}
 use Rattle.layout_text.proofs.level_line.line_at.Goals as goal
 
 -- return NextLine {

@@ -1,6 +1,5 @@
 -- `layouts::layout_words::stretch_at` meets its contract: the part between the two places is the stretch.
 use Rattle.layouts.specs.LayoutWordsLaws.{stretch-part}
-use borrow.Author.Rules.{rules}
 use Rattle.layouts.proofs.layout_words.stretch_at.Goals as goal
 
 -- pub fn stretch_at(words: &[u32], place: usize) -> &[u32]

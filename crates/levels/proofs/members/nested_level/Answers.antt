@@ -1,30 +1,19 @@
 -- `levels::members::nested_level` meets its contract: the rank among the count tags of the level gives the group's number. The laws are
 -- those of specs/MembersLaws.antt.
-use mathlib.Core.Path.{sym}
-use native.Mathlib.Omega.{arith}
+use mathlib.Core.Path.{sym, ◌∙◌}
 use Rattle.layouts.specs.Limits.{gate_limits}
-use Rattle.levels.specs.MembersLaws.{nested_inside, nested-nothing, nested-place, nested-sum, nested-at}
-use borrow.Author.Rules.{rules}
+use Rattle.layouts.specs.LayoutCheckFacts.{count_tags-inside}
+use Rattle.levels.specs.MembersLaws.{nested-nothing, nested-place, nested-at}
 use Rattle.levels.proofs.members.nested_level.Goals as goal
 
--- let tags = stretch_at(words, place);
-pub stretch_at-tags-requires : goal.stretch_at-tags-requires
-stretch_at-tags-requires c = nested_inside gate_limits _ c.requires.0 _ c.requires.1 _ c.wide-groups.ensures
+pub stretch_at-requires : goal.stretch_at-requires
+stretch_at-requires c = count_tags-inside gate_limits _ c.requires.0 _ c.requires.1
 
-pub returns-in_default : goal.returns-in_default
-returns-in_default c = sym (nested-nothing gate_limits _ c.requires.0 _ c.requires.1 _ c.wide-groups.ensures _ c.stretch_at-tags.ensures _ _ c.binary_search.ensures.outcome c.in_default.is)
+pub returns-in_err-rank : goal.returns-in_err-rank
+returns-in_err-rank c = c.from_residual.ensures ∙ sym (nested-nothing gate_limits _ c.requires.0 _ c.requires.1 _ c.stretch_at.ensures _ _ c.binary_search.ensures.outcome c.in_err-rank.was)
 
-pub overflow_sub-before : goal.overflow_sub-before
-overflow_sub-before c = nested-place gate_limits _ c.requires.0 _ c.requires.1 _ c.wide-groups.ensures _ c.stretch_at-tags.ensures _ _ c.binary_search.ensures.outcome _ c.in-At.is _ c.wide-first.ensures
+pub overflow_sub-number : goal.overflow_sub-number
+overflow_sub-number c = nested-place gate_limits _ c.requires.0 _ c.requires.1 _ c.stretch_at.ensures _ _ c.binary_search.ensures.outcome _ c.in_ok-rank.was
 
--- let number = before + rank;
-pub overflow_add-number : goal.overflow_add-number
-overflow_add-number c = omega (arith, c.shared_slice_known-2-1.given 0, nested-sum gate_limits c.args.words.now c.requires.0 c.args.level c.requires.1 c.wide-groups.result c.wide-groups.ensures _ c.stretch_at-tags.ensures c.args.tag _ c.binary_search.ensures.outcome _ c.in-At.is _ c.wide-first.ensures)
-
--- Found::At(number + 1)
-pub overflow_add-result : goal.overflow_add-result
-overflow_add-result c = omega (arith, c.shared_slice_known-2-1.given 0, nested-sum gate_limits c.args.words.now c.requires.0 c.args.level c.requires.1 c.wide-groups.result c.wide-groups.ensures _ c.stretch_at-tags.ensures c.args.tag _ c.binary_search.ensures.outcome _ c.in-At.is _ c.wide-first.ensures)
-
--- pub fn nested_level(words: &[u32], level: usize, tag: u32) -> Found
 pub returns : goal.returns
-returns c = sym (nested-at gate_limits _ c.requires.0 _ c.requires.1 _ c.wide-groups.ensures _ c.stretch_at-tags.ensures _ _ c.binary_search.ensures.outcome _ c.in-At.is _ c.wide-first.ensures)
+returns c = sym (nested-at gate_limits _ c.requires.0 _ c.requires.1 _ c.stretch_at.ensures _ _ c.binary_search.ensures.outcome _ c.in_ok-rank.was)

@@ -1,11 +1,9 @@
 -- `read_layout::read_layout::write_layout` meets its contract, by specs/ReadLayoutLaws.antt.
 use mathlib.Core.Path.{refl, sym}
-use native.Mathlib.Omega.{arith}
 use Rattle.read_layout.specs.ReadLayoutLaws.{space_short, space-fits, gather_room, put-room, words_written}
-use borrow.Author.Rules.{rules}
 use Rattle.read_layout.proofs.read_layout.write_layout.Goals as goal
 
--- return ReadLayout::Refused(Refusal::SpaceShort(needed as u64));
+-- return Err(Refusal::SpaceShort(needed as u64));
 pub returns-then-words-needed : goal.returns-then-words-needed
 returns-then-words-needed c = record {
   outcome = sym (space_short _ _ c.requires _ refl _ c.if-words-needed.true);
