@@ -1,7 +1,7 @@
 -- Laws of `ArrangeGather.antt`, and the steps of arrange.rt. Assumes nothing.
 use Rattle.std.specs.Prelude.{◌≡◌, Bool, cond, eqb, take}
 use Rattle.std.proofs.Math.Path.{refl, sym, ap}
-use Rattle.std.proofs.Common.{ap₂, ◌∙◌, add-one, length-append, length-take, length-take-le, get_or-take, drop_at, take-take, eq-eqb, ne_eqb}
+use Rattle.std.proofs.Common.{ap₂, ◌∙◌, length-append, length-take, length-take-le, get_or-take, drop_at, take-take}
 use Prim.Native.Nat.{ℕ, zero, suc, ◌+◌, ◌*◌, ◌-◌, ◌≤◌, ◌<◌}
 use Rattle.std.proofs.Math.Bool.{true, false}
 use mathlib.Core.List.{List, [], ◌∷◌, ◌++◌, map, append-nil, append_assoc}
@@ -14,8 +14,8 @@ use Rattle.ascending.specs.Sort.{sorted}
 use Rattle.ascending.specs.SortLaws.{sorted-length}
 use Rattle.ascending.specs.Dedup.{deduped, deduped_in}
 use Rattle.ascending.specs.DedupLaws.{deduped-length, deduped_in-front, members_ascend}
-use Rattle.layouts.specs.Layout.{Level, Group, Layout, level_of_lem, group_of_lem, listed, grouped, members_of, required_of, groups_of, count_tag, count_tags_of, delimiter, is_required, entry, groups_below, level_order, all_groups, all_levels, joined}
-use Rattle.layouts.specs.LayoutLaws.{listed-grouped, map-append, group_total, group_total-append, group_total-first, groups_below-total, groups_with-total}
+use Rattle.layouts.specs.Layout.{Level, Group, Layout, listed, grouped, members_of, required_of, groups_of, count_tag, count_tags_of, delimiter, entry, level_order, all_groups, all_levels, joined}
+use Rattle.layouts.specs.LayoutLaws.{listed-grouped, map-append, group_total, group_total-first, groups_below-total, groups_with-total}
 use Rattle.layouts.specs.LayoutWords.{flag}
 use Rattle.layouts.specs.GatheredLayout.{column, ends_from, Gathered}
 use Rattle.layouts.specs.GatheredLayoutLaws.{column-set, column-set_next, ends_from-more}
@@ -24,13 +24,13 @@ use Rattle.arrange_level.specs.declared.arrange_level.OwnLevel.{OwnLevel}
 use Rattle.expansion.specs.Expansion.{OpenLevel, retained, sorted_groups, firsts_of, finish, finish_entry}
 use Rattle.expansion.specs.ExpansionLimits.{retained-length, size_listed, finished_groups}
 use Rattle.expansion.specs.ExpansionGroups.{one, levels_with}
-use Rattle.arrange_level.specs.ArrangeTrace.{Start, Own, nothing_own, finish_at, kept_required, kept_in, own_at, group_with, with_groups, level_at, group_at, top_start}
+use Rattle.arrange_level.specs.ArrangeTrace.{Start, Own, nothing_own, finish_at, kept_required, kept_in, own_at, with_groups, level_at, group_at, top_start}
 use Rattle.arrange_level.specs.ArrangeTraceLaws.{AllBehind, own_behind, own-past, level-told}
-use Rattle.arrange_level.specs.ArrangeGroups.{nowhere, first_named, count_tags, tags_in_order, in_order}
+use Rattle.arrange_level.specs.ArrangeGroups.{first_named, count_tags, tags_in_order, in_order}
 use Rattle.arrange_level.specs.ArrangeGroupsLaws.{groups-in_order}
-use Rattle.arrange_level.specs.ArrangeRows.{flag_of, RowIs, RowsPlaced}
+use Rattle.arrange_level.specs.ArrangeRows.{flag_of, RowsPlaced}
 use Rattle.arrange_level.specs.ArrangeRowsLaws.{RowRoom, PlacedAll}
-use Rattle.arrange_level.specs.ArrangeWeightLaws.{counted, weigh-all, weight_of, weight_all, weight_all-append, weight_all-first, weight_all-none, weight_in_order, counts_member, counts_required, counts_group, members-weight, required-weight, groups-weight, members-counted, required-counted}
+use Rattle.arrange_level.specs.ArrangeWeightLaws.{counted, weigh-all, weight_all, weight_all-append, weight_all-first, weight_all-none, weight_in_order, counts_member, counts_required, counts_group, members-weight, required-weight, groups-weight, members-counted, required-counted}
 use Rattle.arrange_level.specs.ArrangeLevelLaws.{ReadRoom, OwnRead}
 use Rattle.arrange.specs.ArrangeGather.{groups_told, levels_told, layout_told, level_count, GatherRoom, GatheredSoFar, GatheredIn, LevelKept}
 

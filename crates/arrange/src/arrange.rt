@@ -9,9 +9,9 @@ ghost use Rattle.arrange_level.specs.ArrangeRows.{RowsPlaced};
 ghost use Rattle.arrange.specs.ArrangeGather.{GatherRoom, GatheredSoFar, GatheredIn, LevelKept};
 ghost use Rattle.arrange.specs.ArrangeGatherLaws.{closed_row};
 
-use arrange_level::arrange_groups::{open_rows, place_groups, word_of};
+use arrange_level::arrange_groups::{open_rows, place_groups};
 use arrange_level::arrange_level::{in_order, keep_required, read_level};
-use layouts::layout_words::wide;
+use layouts::layout_words::{narrow, wide};
 
 // How many levels are gathered and how many are found, and where their members and required tags end.
 #[derive(Clone, Copy)]
@@ -46,7 +46,7 @@ fn order_required(
     from + kept
 }
 
-// Puts the groups of the level that begins at `first` in order, in rows behind those of so many levels: their count tags, in the order in
+// Puts the groups of the level that begins at `first` in order, in rows after those of so many levels: their count tags, in the order in
 // which the groups were added, are the first of `tags`. Returns how many groups stay.
 fn order_groups(
     trace: &[u64],
@@ -83,9 +83,9 @@ fn close_row(
 {
     let row = 6 * level;
     rows[1 + row] = delimiter;
-    rows[3 + row] = word_of(members);
-    rows[4 + row] = word_of(required);
-    rows[5 + row] = word_of(groups);
+    rows[3 + row] = narrow(members);
+    rows[4 + row] = narrow(required);
+    rows[5 + row] = narrow(groups);
 }
 
 // Gathers the next level.
@@ -101,24 +101,31 @@ fn gather_level(
     ensures gathered { GatheredSoFar trace.now members.new required.new rows.new result }
     ensures further { result.level ≡ state.level + 1 }
 {
-    let level = state.level;
-    let levels = state.levels;
-    let member = state.members;
-    let need = state.required;
-    let first = wide(rows[3 + 6 * level]);
-    let own = read_level(trace, first, members, member, required, need, tags);
-    let past = own.members;
-    let later = own.required;
-    let groups = own.groups;
-    let delimiter = own.delimiter;
-    let member_end = order_members(members, member, past);
-    let required_end = order_required(required, need, later, first, delimiter);
-    let kept = order_groups(trace, first, rows, levels, tags, groups);
-    let found = levels + kept;
-    close_row(rows, level, delimiter, member_end, required_end, found - 1);
+    let first = wide(rows[3 + 6 * state.level]);
+    let own = read_level(
+        trace,
+        first,
+        members,
+        state.members,
+        required,
+        state.required,
+        tags,
+    );
+    let member_end = order_members(members, state.members, own.members);
+    let required_end = order_required(required, state.required, own.required, first, own.delimiter);
+    let kept = order_groups(trace, first, rows, state.levels, tags, own.groups);
+    let levels = state.levels + kept;
+    close_row(
+        rows,
+        state.level,
+        own.delimiter,
+        member_end,
+        required_end,
+        levels - 1,
+    );
     Gathering {
-        level: level + 1,
-        levels: found,
+        level: state.level + 1,
+        levels,
         members: member_end,
         required: required_end,
     }
@@ -145,8 +152,7 @@ pub fn gather(
         required: 0,
     };
     while state.level < state.levels {
-        let next = gather_level(trace, members, required, tags, rows, state);
-        state = next;
+        state = gather_level(trace, members, required, tags, rows, state);
     }
     state
 }

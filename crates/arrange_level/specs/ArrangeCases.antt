@@ -3,7 +3,7 @@
 use Rattle.std.specs.Prelude.{◌≡◌, refl, ℕ, true, false, List, [], ◌∷◌}
 use Rattle.ascending.specs.Sort.{inserted, sorted}
 use Rattle.ascending.specs.Dedup.{deduped_after, deduped}
-use Rattle.arrange_level.specs.ArrangeTrace.{Start, Own, told, own_at}
+use Rattle.arrange_level.specs.ArrangeTrace.{Start, told, own_at}
 use Rattle.arrange_level.specs.ArrangeGroups.{first_named, in_order}
 
 abbrev trace : List ℕ

@@ -6,17 +6,17 @@
 --   Closed, Ends                   where the steps from a place on end with the top alone: the level in work is told up to its end, and where
 --                                  it is a group's, the steps go on behind the word that leaves it, which passing over finds too
 use Rattle.std.proofs.Math.Path.{◌≡◌, refl, sym, ap}
-use Rattle.std.proofs.Common.{◌∙◌, arith, add-one, length-drop, drop_of_length-le, drop-drop, eqb-true, eq-eqb, ne_eqb}
+use Rattle.std.proofs.Common.{◌∙◌, arith, drop_of_length-le, drop-drop, eqb-true, ne_eqb}
 use Prim.Native.Nat.{ℕ, zero, suc, ◌+◌, ◌≤◌, ◌<◌, ◌%◌, ◌/◌}
-use Rattle.std.specs.Prelude.{Bool, true, false, eqb, get_or, drop}
+use Rattle.std.specs.Prelude.{Bool, true, false, eqb, drop}
 use mathlib.Core.List.{List, [], ◌∷◌, ◌++◌, map}
 use Rattle.std.proofs.Math.ListN.{length}
 use Rattle.std.proofs.lemmas.Bool.{eqb-false}
 use Rattle.layouts.specs.Layout.{Group, group_of_lem}
 use Rattle.layouts.specs.LayoutLaws.{map-append}
-use Rattle.expansion.specs.Expansion.{OpenLevel, empty_level, finish, finish_entry}
+use Rattle.expansion.specs.Expansion.{OpenLevel, empty_level, finish_entry}
 use Rattle.expansion.specs.Trace.{Frame, with_level, with_member, with_required, left, tag_in, count_tag_in, after, run, at_start}
-use Rattle.arrange_level.specs.ArrangeTrace.{Start, Own, nothing_own, own_member, own_required, start_of, own_group, own_left, told, finish_at, own_at, group_with, with_groups, level_within, level_at, group_at}
+use Rattle.arrange_level.specs.ArrangeTrace.{Start, Own, nothing_own, own_member, own_required, start_of, own_group, own_left, told, own_at, group_with, with_groups, level_within, level_at, group_at}
 
 -- ---- the four steps
 

@@ -10,17 +10,17 @@
 use Rattle.std.specs.Prelude.{◌≡◌, Bool, true, false, cond, ◌||◌, eqb, length, drop, if◌then◌else◌}
 use Rattle.std.proofs.Math.Path.{refl}
 use Rattle.std.proofs.Common.{sym, ap, ◌∙◌, length-append, drop-drop}
-use Prim.Native.Nat.{ℕ, zero, suc, ◌+◌, ◌≤◌, ◌<◌, ◌%◌, ◌/◌}
+use Prim.Native.Nat.{ℕ, zero, suc, ◌+◌, ◌≤◌, ◌%◌}
 use mathlib.Core.List.{List, [], ◌∷◌, ◌++◌, map}
 use native.Mathlib.Omega.{arith}
-use borrow.Author.Tests.{eqb-true, eqb-false, eq-eqb, ne_eqb}
+use borrow.Author.Tests.{eqb-true, eq-eqb, ne_eqb}
 use Rattle.ascii.specs.Notation.{◌≡ᵇ◌}
 use Rattle.ascending.specs.Sort.{is_in}
 use Rattle.ascending.specs.Search.{StrictlyAbove, StrictlyAscending}
 use Rattle.ascending.specs.DedupLaws.{members_ascend, is_in-members}
 use Rattle.expansion.specs.Trace.{tag_in, count_tag_in}
 use Rattle.arrange_level.specs.ArrangeTrace.{Start, Own, nothing_own, own_member, own_required, start_of, own_group, own_left, told, own_at}
-use Rattle.arrange_level.specs.ArrangeTraceLaws.{Step, adds_member, adds_required, enters, leaves, step_of, told-member, told-required, told-group, told-left, passed-member, passed-required, passed-group, passed-left, told-ends}
+use Rattle.arrange_level.specs.ArrangeTraceLaws.{adds_member, adds_required, enters, leaves, step_of, told-member, told-required, told-group, told-left, passed-member, passed-required, passed-group, passed-left, told-ends}
 use Rattle.arrange_level.specs.ArrangeGroups.{first_named, count_tags, tags_in_order, in_order}
 
 module _ (counts : ℕ → ℕ) where

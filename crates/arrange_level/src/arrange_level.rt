@@ -7,6 +7,7 @@ ghost use Rattle.arrange_level.specs.ArrangeTrace.{own_at, kept_required, kept_i
 ghost use Rattle.arrange_level.specs.ArrangeLevelLaws.{Passes, ReadRoom, OwnRead};
 
 use ascending::dedup::dedup;
+use expansion::builder::{ADDS_MEMBER, ADDS_REQUIRED, ENTERS_GROUP, LEAVES_GROUP};
 use expansion::required::retain;
 use sorting::sort::sort_unstable;
 
@@ -33,26 +34,24 @@ pub fn count_tag_in(word: u64) -> u32
     (word / 8 % 4294967296) as u32
 }
 
-// The place behind the word that leaves the group that is open at `place`.
+// The place after the word that leaves the group that is open at `place`.
 pub fn behind_group(trace: &[u64], place: usize) -> usize
     requires { place ≤ length trace.now }
     ensures { Passes trace.now place result }
 {
     let mut groups: usize = 1;
-    let mut index = place;
-    while index < trace.len() {
+    for index in place..trace.len() {
         let step = trace[index] % 4;
-        index += 1;
-        if step == 2 {
+        if step == ENTERS_GROUP {
             groups += 1;
-        } else if step == 3 {
+        } else if step == LEAVES_GROUP {
             if groups == 1 {
-                return index;
+                return index + 1;
             }
             groups -= 1;
         }
     }
-    index
+    trace.len()
 }
 
 // Reads what the level that begins at `first` has of its own: its members from `member` on, its required tags from `need` on, and the
@@ -73,17 +72,18 @@ pub fn read_level(
     let mut past = member;
     let mut later = need;
     let mut group = 0;
+    // no `for`: the place jumps over the groups inside
     while place < trace.len() {
         let word = trace[place];
         place += 1;
         let step = word % 4;
-        if step == 0 {
+        if step == ADDS_MEMBER {
             members[past] = tag_in(word);
             past += 1;
-        } else if step == 1 {
+        } else if step == ADDS_REQUIRED {
             required[later] = tag_in(word);
             later += 1;
-        } else if step == 2 {
+        } else if step == ENTERS_GROUP {
             let tag = count_tag_in(word);
             members[past] = tag;
             past += 1;
@@ -107,7 +107,7 @@ pub fn read_level(
     }
 }
 
-// Sorts the words and drops those that repeat the one before; returns how many they are. Behind them stands what is left over.
+// Sorts the words and drops those that repeat the one before; returns how many they are. After them stands what is left over.
 pub fn in_order(words: &mut [u32]) -> usize
     ensures outcome { result ≡ length (deduped (sorted words.old)) }
     ensures memory { words.new ≡ deduped_in (sorted words.old) }
@@ -117,13 +117,14 @@ pub fn in_order(words: &mut [u32]) -> usize
 }
 
 // The required list of the level that begins at `first`: an entry drops its delimiter and later repeats, the top keeps all. Returns how
-// many they are. Behind them the words stay.
+// many they are. After them the words stay.
 pub fn keep_required(required: &mut [u32], first: usize, delimiter: u32) -> usize
     ensures outcome { result ≡ length (kept_required first delimiter required.old) }
     ensures memory { required.new ≡ kept_in first delimiter required.old }
 {
     if first == 0 {
-        return required.len();
+        required.len()
+    } else {
+        retain(required, delimiter)
     }
-    retain(required, delimiter)
 }

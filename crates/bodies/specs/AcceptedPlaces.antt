@@ -11,7 +11,7 @@
 --   is_definition line         a line `def=TAG,TYPE` or `value=V`
 --   Parted lines header       the lines before this place are definitions, and no other
 --   accepted-parted           the definitions of accepted lines stand before their header, and none behind it
-use Rattle.std.specs.Prelude.{◌≡◌, Bool, true, false, ◌&&◌, ◌||◌, cond, leb, ltb, eqb, length, get_or, drop}
+use Rattle.std.specs.Prelude.{◌≡◌, Bool, true, false, ◌&&◌, ◌||◌, cond, leb, ltb, eqb, length, get_or, drop, Option, Some, None}
 use Rattle.std.proofs.Math.Path.{refl}
 use Rattle.std.proofs.Common.{sym, ap, ◌∙◌, arith, add-one, leb-true, leb-false, ltb-true, ltb-false, eqb-true, ne_eqb}
 use Prim.Native.Nat.{ℕ, zero, suc, ◌+◌, ◌-◌, ◌≤◌, ◌<◌}
@@ -21,13 +21,8 @@ use Rattle.ascii.specs.Notation.{is_between}
 use Rattle.ascii.specs.NotationLaws.{and_left, and_right, is_between-range}
 use Rattle.line_forms.specs.declared.line.Line.{Line}
 use Rattle.line_forms.specs.declared.line.Line.TheVariants.{Def, Value, BeginHeader, BeginTrailer, EndHeader, EndTrailer, Component, Message, Field, Group, Use, End, Member, RequiredTag, Unknown}
-use Rattle.lines.specs.declared.line_parts.Number32.{Number32}
-use Rattle.lines.specs.declared.line_parts.Number32.TheVariants.{Number, NoNumber}
-use Rattle.lines.specs.declared.line_parts.MessageType.{MessageType}
-use Rattle.lines.specs.declared.line_parts.MessageType.TheVariants.{Letters, NoLetters}
 use Rattle.dictionary_order.specs.declared.dictionary_order.State.{State}
-use Rattle.dictionary_order.specs.declared.dictionary_order.Step.{Step}
-use Rattle.dictionary_order.specs.DictionaryOrder.{start, standing, taken, not_allowed, opened_block, closed_block, used_in, is_number, is_letters, open_group, close_group, close_component, close_message, end_step, step_of}
+use Rattle.dictionary_order.specs.DictionaryOrder.{start, standing, taken, not_allowed, opened_block, closed_block, used_in, is_number, is_letters, open_group, end_step, step_of}
 use Rattle.dictionary.specs.DictionaryWords.{is_of, name_of, place_of}
 use Rattle.dictionary.specs.DictionaryCheck.{is_taken, accepts}
 use Rattle.records.specs.LineLengths.{length_of}
@@ -101,7 +96,7 @@ module _ (state : State) (number : ℕ) where
   use_where true inside test other holds none = absurd (omega (arith, ltb-true 0 state.depth test))
   use_where false inside test other holds none = leb-true 7 state.stage (other ∙ holds)
 
-  end-moves : (name : Number32) (letters : MessageType) (deep component message : Bool)
+  end-moves : (name : Option ℕ) (letters : Option ℕ) (deep component message : Bool)
       → ltb 0 state.depth ≡ deep
       → eqb state.stage 7 ≡ component
       → eqb state.stage 8 ≡ message
@@ -646,7 +641,7 @@ trailer-at stage next same early no_trailer no_message = record {
   no_message = λ there. no_message (sym same ∙ there);
 }
 
-trailer-close : (number : Number32) (letters : MessageType) (state next : State) (rest : List Line)
+trailer-close : (number : Option ℕ) (letters : Option ℕ) (state next : State) (rest : List Line)
     → Closes state next
     → (TrailerComes next → place_of 4 0 rest < length rest)
     → TrailerComes state
@@ -710,11 +705,11 @@ pub record Parted (lines : List Line) (header : ℕ) : Type 0 where
   pub before_it : (number : ℕ) → number < header → is_definition (get_or lines number Unknown) ≡ true
   pub behind_it : (number : ℕ) → header ≤ number → number < length lines → is_definition (get_or lines number Unknown) ≡ false
 
-end-other : (number : Number32) (letters : MessageType) → is_definition (End number letters) ≡ false
+end-other : (number : Option ℕ) (letters : Option ℕ) → is_definition (End number letters) ≡ false
 unfolding is_of record_of
-end-other read_number (Letters letters) = refl
-end-other (Number number) NoLetters = refl
-end-other NoNumber NoLetters = refl
+end-other read_number (Some letters) = refl
+end-other (Some number) None = refl
+end-other None None = refl
 
 end-late : (state next : State) → Closes state next → 2 ≤ state.stage → 2 ≤ next.stage
 end-late state next (group_ends_lem deep stage part depth) late = omega arith

@@ -3,16 +3,12 @@
 --
 --   read_from words            what the words of a record tell
 --   Tells read line           what was read is this line; where it was no field, no group and no use, the line is none
-use Rattle.std.specs.Prelude.{◌≡◌, ℕ, ◌+◌, ◌*◌, ◌-◌, ◌<◌, true, false, List, get_or, take, drop, if◌then◌else◌}
+use Rattle.std.specs.Prelude.{◌≡◌, ℕ, ◌+◌, ◌*◌, ◌-◌, ◌<◌, true, false, List, get_or, take, drop, if◌then◌else◌, Option, Some, None}
 use Rattle.std.proofs.Math.Path.{refl}
 use Rattle.std.proofs.Common.{ap, ◌∙◌, arith, get_or-take, get_or-drop}
 use Rattle.ascii.specs.Notation.{◌≡ᵇ◌}
 use Rattle.line_forms.specs.declared.line.Line.{Line}
 use Rattle.line_forms.specs.declared.line.Line.TheVariants.{Def, Value, BeginHeader, BeginTrailer, EndHeader, EndTrailer, Component, Message, Field, Group, Use, End, Member, RequiredTag, Unknown}
-use Rattle.lines.specs.declared.line_parts.Number32.{Number32}
-use Rattle.lines.specs.declared.line_parts.Number32.TheVariants.{Number, NoNumber}
-use Rattle.lines.specs.declared.line_parts.MessageType.{MessageType}
-use Rattle.lines.specs.declared.line_parts.MessageType.TheVariants.{Letters, NoLetters}
 use Rattle.records.specs.Records.{record_of, Words32}
 use Rattle.dictionary.specs.DictionaryCheck.{is_dictionary}
 use Rattle.definitions.specs.Definitions.{line_numbered}
@@ -36,11 +32,11 @@ Tells (read.Use name required) line = line ≡ Use name required
 Tells read.Other line = IsOther line
 
 -- the record of an end is that of no other line of a body
-tells-end : (number : Number32) (letters : MessageType) → Tells (read_from (record_of (End number letters))) (End number letters)
+tells-end : (number : Option ℕ) (letters : Option ℕ) → Tells (read_from (record_of (End number letters))) (End number letters)
 unfolding read_from record_of
-tells-end read_number (Letters letters) = tt
-tells-end (Number number) NoLetters = tt
-tells-end NoNumber NoLetters = tt
+tells-end read_number (Some letters) = tt
+tells-end (Some number) None = tt
+tells-end None None = tt
 
 tells-line : (line : Line) → Tells (read_from (record_of line)) line
 unfolding read_from record_of

@@ -5,36 +5,21 @@
 --   body_at lines place, around_at lines place   what is left of the innermost body that is open at the place, and of those around it
 --   BodyAt lines place           a body is open there
 --   placed_body lines place       the body that begins behind the line at this place; none where the place is behind the last line
-use Rattle.std.specs.Prelude.{◌≡◌, Bool, ◌&&◌, ◌||◌, cond, ◌⊎◌, ltb, length, get_or, take, drop, if◌then◌else◌}
+use Rattle.std.specs.Prelude.{◌≡◌, Bool, ◌&&◌, cond, ◌⊎◌, ltb, length, get_or, Option, Some, None}
 use Rattle.std.proofs.Math.Path.{refl}
-use Rattle.std.proofs.Common.{sym, ap, ◌∙◌, inl, inr, add-one, length-drop, drop-drop, get_or-take, get_or-drop, get_or-append-add, length-take-le, take-take}
-use Prim.Native.Nat.{ℕ, zero, suc, ◌+◌, ◌*◌, ◌≤◌, ◌<◌}
+use Rattle.std.proofs.Common.{sym, ap, ◌∙◌, inl, inr}
+use Prim.Native.Nat.{ℕ, suc, ◌+◌, ◌*◌, ◌≤◌, ◌<◌}
 use Rattle.std.proofs.Math.Bool.{true, false}
-use Rattle.std.proofs.lemmas.Bool.{false≢true}
-use mathlib.Core.List.{List, [], ◌∷◌, ◌++◌, map}
+use mathlib.Core.List.{List, [], ◌∷◌}
 use native.Mathlib.Omega.{arith}
 use Rattle.std.proofs.Math.Dec.{eqb}
-use Rattle.std.proofs.lemmas.List.{length-map}
-use Rattle.std.proofs.Math.ListN.{get_or-map}
-use Rattle.std.proofs.Math.Seq.{take-append_seam}
-use borrow.Author.Tests.{ltb-true, ltb-false, lt-ltb, le-ltb, eqb-true, eqb-false}
+use borrow.Author.Tests.{ltb-true, ltb-false, lt-ltb, le-ltb, eqb-true}
 use Rattle.ascii.specs.Notation.{◌<ᵇ◌}
-use Rattle.ascending.specs.declared.search.Found.{Found}
-use Rattle.ascending.specs.declared.search.Found.TheVariants.{At, Nothing}
-use Rattle.ascending.specs.Sort.{sorted, is_in}
-use Rattle.ascending.specs.SortLaws.{sorted-length, is_in-sorted}
-use Rattle.ascending.specs.Search.{rank_from, rank_in, is_found}
-use Rattle.ascending.specs.SearchLaws.{is_found-rank}
 use Rattle.line_forms.specs.declared.line.Line.{Line}
 use Rattle.line_forms.specs.declared.line.Line.TheVariants.{Def, Value, BeginHeader, BeginTrailer, EndHeader, EndTrailer, Component, Message, Field, Group, Use, End, Member, RequiredTag, Unknown}
-use Rattle.lines.specs.declared.line_parts.Number32.{Number32}
-use Rattle.lines.specs.declared.line_parts.Number32.TheVariants.{Number, NoNumber}
-use Rattle.lines.specs.declared.line_parts.MessageType.{MessageType}
-use Rattle.lines.specs.declared.line_parts.MessageType.TheVariants.{Letters, NoLetters}
-use Rattle.dictionary_order.specs.DictionaryOrder.{start}
-use Rattle.records.specs.Records.{record_of, line_from, lines_from, Words32}
+use Rattle.records.specs.Records.{record_of, Words32}
 use Rattle.dictionary.specs.DictionaryWords.{is_of, name_of, place_of, word_lines}
-use Rattle.dictionary.specs.DictionaryCheck.{stands_at, is_index, tags_at, components_at, messages_at, size_of, is_dictionary}
+use Rattle.dictionary.specs.DictionaryCheck.{stands_at, components_at, messages_at, is_dictionary}
 use Rattle.definitions.specs.Definitions as Words
 use Rattle.definitions.specs.DefinitionsLaws.{is_dictionary-parts}
 use Rattle.definitions.specs.DefinitionsLaws as Passed
@@ -87,13 +72,13 @@ module _ {Answer : Type 0} (kind name : ℕ) (answer : Dictionary → Answer) (g
 
 -- ---- components, messages, the header and the trailer
 
-components-end : (name : ℕ) (number : Number32) (letters : MessageType) (blocks : Blocks)
+components-end : (name : ℕ) (number : Option ℕ) (letters : Option ℕ) (blocks : Blocks)
     → component_of (before (End number letters) blocks).whole name
     ≡ cond (is_of 5 (End number letters) && eqb (name_of (End number letters)) name) (Tree.Found (innermost blocks.opened)) (component_of blocks.whole name)
 unfolding is_of record_of
-components-end name read_number (Letters letters) blocks = refl
-components-end name (Number number) NoLetters blocks = refl
-components-end name NoNumber NoLetters blocks = refl
+components-end name read_number (Some letters) blocks = refl
+components-end name (Some number) None blocks = refl
+components-end name None None blocks = refl
 
 components-first : (name : ℕ) (line : Line) (blocks : Blocks)
     → component_of (before line blocks).whole name
@@ -115,13 +100,13 @@ components-first name (RequiredTag tag) blocks = refl
 components-first name Unknown blocks = refl
 components-first name (End number letters) blocks = components-end name number letters blocks
 
-messages-end : (name : ℕ) (number : Number32) (letters : MessageType) (blocks : Blocks)
+messages-end : (name : ℕ) (number : Option ℕ) (letters : Option ℕ) (blocks : Blocks)
     → message_of (before (End number letters) blocks).whole name
     ≡ cond (is_of 6 (End number letters) && eqb (name_of (End number letters)) name) (Tree.Found (innermost blocks.opened)) (message_of blocks.whole name)
 unfolding is_of record_of
-messages-end name read_number (Letters letters) blocks = refl
-messages-end name (Number number) NoLetters blocks = refl
-messages-end name NoNumber NoLetters blocks = refl
+messages-end name read_number (Some letters) blocks = refl
+messages-end name (Some number) None blocks = refl
+messages-end name None None blocks = refl
 
 messages-first : (name : ℕ) (line : Line) (blocks : Blocks)
     → message_of (before line blocks).whole name
@@ -143,13 +128,13 @@ messages-first name (RequiredTag tag) blocks = refl
 messages-first name Unknown blocks = refl
 messages-first name (End number letters) blocks = messages-end name number letters blocks
 
-header-end : (number : Number32) (letters : MessageType) (blocks : Blocks)
+header-end : (number : Option ℕ) (letters : Option ℕ) (blocks : Blocks)
     → (before (End number letters) blocks).whole.header
     ≡ cond (is_of 3 (End number letters) && eqb (name_of (End number letters)) 0) (innermost blocks.opened) blocks.whole.header
 unfolding is_of record_of
-header-end read_number (Letters letters) blocks = refl
-header-end (Number number) NoLetters blocks = refl
-header-end NoNumber NoLetters blocks = refl
+header-end read_number (Some letters) blocks = refl
+header-end (Some number) None blocks = refl
+header-end None None blocks = refl
 
 header-first : (line : Line) (blocks : Blocks)
     → (before line blocks).whole.header ≡ cond (is_of 3 line && eqb (name_of line) 0) (innermost blocks.opened) blocks.whole.header
@@ -170,13 +155,13 @@ header-first (RequiredTag tag) blocks = refl
 header-first Unknown blocks = refl
 header-first (End number letters) blocks = header-end number letters blocks
 
-trailer-end : (number : Number32) (letters : MessageType) (blocks : Blocks)
+trailer-end : (number : Option ℕ) (letters : Option ℕ) (blocks : Blocks)
     → (before (End number letters) blocks).whole.trailer
     ≡ cond (is_of 4 (End number letters) && eqb (name_of (End number letters)) 0) (innermost blocks.opened) blocks.whole.trailer
 unfolding is_of record_of
-trailer-end read_number (Letters letters) blocks = refl
-trailer-end (Number number) NoLetters blocks = refl
-trailer-end NoNumber NoLetters blocks = refl
+trailer-end read_number (Some letters) blocks = refl
+trailer-end (Some number) None blocks = refl
+trailer-end None None blocks = refl
 
 trailer-first : (line : Line) (blocks : Blocks)
     → (before line blocks).whole.trailer ≡ cond (is_of 4 line && eqb (name_of line) 0) (innermost blocks.opened) blocks.whole.trailer
@@ -221,11 +206,11 @@ module _ (kind : ℕ) (opened : List Body) (from : 3 ≤ kind) (to : kind ≤ 6)
   other_kind number (inl below) test = let same = eqb-true number kind test in absurd (omega arith)
   other_kind number (inr above) test = let same = eqb-true number kind test in absurd (omega arith)
 
-  end-opens : (number : Number32) (letters : MessageType) → is_of kind (End number letters) ≡ true → Opening
+  end-opens : (number : Option ℕ) (letters : Option ℕ) → is_of kind (End number letters) ≡ true → Opening
   unfolding is_of record_of
-  end-opens read_number (Letters letters) test = other_kind 12 (inr (omega arith)) test
-  end-opens (Number number) NoLetters test = other_kind 13 (inr (omega arith)) test
-  end-opens NoNumber NoLetters test = other_kind 0 (inl (omega arith)) test
+  end-opens read_number (Some letters) test = other_kind 12 (inr (omega arith)) test
+  end-opens (Some number) None test = other_kind 13 (inr (omega arith)) test
+  end-opens None None test = other_kind 0 (inl (omega arith)) test
 
   opening : (line : Line) → is_of kind line ≡ true → InPlace line opened → Opening
   unfolding Opening is_of record_of
@@ -258,11 +243,11 @@ body-there opened body around same = same ∙ sym (ap (λ (each : List Body). in
 
 -- ---- words that pass the check
 
-placed-at_by : (count place number : ℕ) (test : Bool) → ltb place count ≡ test → cond test (At place) Nothing ≡ At number → (place < count) × (place ≡ number)
+placed-at_by : (count place number : ℕ) (test : Bool) → ltb place count ≡ test → cond test (Some place) None ≡ Some number → (place < count) × (place ≡ number)
 placed-at_by count place number true test there = (ltb-true place count test, cc)
 placed-at_by count place number false test there = let never : ◌≡◌ {A = ℕ} 0 1 = cc in absurd (omega arith)
 
-placed-nothing_by : (count place : ℕ) (test : Bool) → ltb place count ≡ test → cond test (At place) Nothing ≡ Nothing → count ≤ place
+placed-nothing_by : (count place : ℕ) (test : Bool) → ltb place count ≡ test → cond test (Some place) None ≡ None → count ≤ place
 placed-nothing_by count place true test missing = let never : ◌≡◌ {A = ℕ} 0 1 = cc in absurd (omega arith)
 placed-nothing_by count place false test missing = ltb-false place count test
 
@@ -308,11 +293,11 @@ module _ (words : List ℕ) (small : Words32 words) (passes : is_dictionary word
       opening-uses kind (open_at lines (place + 1)) from high to
       (opening kind (open_at lines (place + 1)) from high (get_or lines place Unknown) (place-kind kind name lines inside) (in_place lines place lines-in_order inside))
 
-  found_at : (kind name number : ℕ) (found : Found)
+  found_at : (kind name number : ℕ) (found : Option ℕ)
       → 3 ≤ kind
       → kind ≤ 6
       → found ≡ placed_at lines (place_of kind name lines)
-      → found ≡ At number
+      → found ≡ Some number
       → Begins words number × (place_of kind name lines ≡ number)
   found_at kind name number found from to placed there =
       let place = placed-at_by (length lines) (place_of kind name lines) number (place_of kind name lines <ᵇ length lines) refl (sym placed ∙ there) in
@@ -324,7 +309,7 @@ module _ (words : List ℕ) (small : Words32 words) (passes : is_dictionary word
         same,
       )
 
-  missing_at : (kind name : ℕ) (found : Found) → found ≡ placed_at lines (place_of kind name lines) → found ≡ Nothing → length lines ≤ place_of kind name lines
+  missing_at : (kind name : ℕ) (found : Option ℕ) → found ≡ placed_at lines (place_of kind name lines) → found ≡ None → length lines ≤ place_of kind name lines
   missing_at kind name found placed missing =
       placed-nothing_by (length lines) (place_of kind name lines) (place_of kind name lines <ᵇ length lines) refl (sym placed ∙ missing)
 
@@ -336,7 +321,7 @@ module _ (words : List ℕ) (small : Words32 words) (passes : is_dictionary word
         record_in-line words small passes 5 (components_at words) (get_or words 2 0) (omega (arith, known.fits)) known.component_names name
 
     pub component-found : (number : ℕ)
-        → Words.component_of words name ≡ At number
+        → Words.component_of words name ≡ Some number
         → Begins words number × (component_of (dictionary_in words) name ≡ Tree.Found (body_at (word_lines words) (number + 1)))
     component-found number there =
         let found = found_at 5 name number (Words.component_of words name) (omega arith) (omega arith) component-placed there in
@@ -346,7 +331,7 @@ module _ (words : List ℕ) (small : Words32 words) (passes : is_dictionary word
               ∙ ap (λ (place : ℕ). Tree.Found (body_at lines (place + 1))) found.1,
         )
 
-    pub component-missing : Words.component_of words name ≡ Nothing → component_of (dictionary_in words) name ≡ Tree.NotFound
+    pub component-missing : Words.component_of words name ≡ None → component_of (dictionary_in words) name ≡ Tree.NotFound
     unfolding body_called
     component-missing missing =
         decided-outside 5 name (λ tree. component_of tree name) Tree.Found (components-first name) lines
@@ -354,7 +339,7 @@ module _ (words : List ℕ) (small : Words32 words) (passes : is_dictionary word
 
   -- .. and so is the message
   module _ (letters : ℕ) where
-    abbrev message_in : Found
+    abbrev message_in : Option ℕ
     message_in = Words.record_in (messages_at words) (get_or words 3 0) letters words
 
     message-placed : message_in ≡ placed_at lines (place_of 6 letters lines)
@@ -362,7 +347,7 @@ module _ (words : List ℕ) (small : Words32 words) (passes : is_dictionary word
         record_in-line words small passes 6 (messages_at words) (get_or words 3 0) (omega (arith, known.fits)) known.message_names letters
 
     pub message-found : (number : ℕ)
-        → message_in ≡ At number
+        → message_in ≡ Some number
         → Begins words number × (message_of (dictionary_in words) letters ≡ Tree.Found (body_at (word_lines words) (number + 1)))
     message-found number there =
         let found = found_at 6 letters number message_in (omega arith) (omega arith) message-placed there in
@@ -372,7 +357,7 @@ module _ (words : List ℕ) (small : Words32 words) (passes : is_dictionary word
               ∙ ap (λ (place : ℕ). Tree.Found (body_at lines (place + 1))) found.1,
         )
 
-    pub message-missing : message_in ≡ Nothing → message_of (dictionary_in words) letters ≡ Tree.NotFound
+    pub message-missing : message_in ≡ None → message_of (dictionary_in words) letters ≡ Tree.NotFound
     unfolding body_called
     message-missing missing =
         decided-outside 6 letters (λ tree. message_of tree letters) Tree.Found (messages-first letters) lines

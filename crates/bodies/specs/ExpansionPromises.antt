@@ -8,22 +8,19 @@
 --   Asks words depth path builder           dictionary words that passed, and a path that leaves room for the depths left in 33 names
 --   Fills change words place builder before filled after   the change is told by the trace, and the place that is given is behind the body at `place`
 --   Uses change builder before added after  the same for a use, which gives no place
-use Rattle.std.specs.Prelude.{◌≡◌, ℕ, ◌+◌, ◌-◌, ◌≤◌, ◌<◌, Bool, true, List, length, get_or}
+use Rattle.std.specs.Prelude.{◌≡◌, ℕ, ◌+◌, ◌-◌, ◌≤◌, ◌<◌, Bool, true, List, length, get_or, Result, Ok, Err}
 use Rattle.layouts.specs.Limits.{gate_limits}
 use Rattle.dictionary.specs.DictionaryCheck.{is_dictionary}
 use Rattle.expansion.specs.declared.builder.Builder.{Builder}
-use Rattle.expansion.specs.declared.builder.Added.{Added}
-use Rattle.expansion.specs.declared.builder.Added.TheVariants.{Done, Stopped}
-use Rattle.bodies.specs.declared.add_body.Filled.{Filled}
-use Rattle.bodies.specs.declared.add_body.Filled.TheVariants as filled
 use Rattle.bodies.specs.declared.add_body.GroupLine.{GroupLine}
 use Rattle.expansion.specs.Dictionary.{GroupDef, group_def}
 use Rattle.bodies.specs.DictionaryPlaces.{open_at}
 use Rattle.dictionary.specs.DictionaryWords.{word_lines}
 use Rattle.bodies.specs.DictionaryInWords.{dictionary_in}
-use Rattle.bodies.specs.DictionaryLookups.{body_at, around_at, BodyAt}
+use Rattle.bodies.specs.DictionaryLookups.{body_at, around_at}
 use Rattle.expansion.specs.Expansion.{Work, fill_body, add_group, add_component}
 use Rattle.expansion.specs.Trace.{Adds, Fits, Grows}
+use Rattle.expansion.specs.declared.builder.Stop.{Stop}
 
 abbrev pub group_at : List ℕ → GroupLine → GroupDef
 group_at words group = group_def group.count group.delimiter group.required (body_at (word_lines words) group.first)
@@ -36,9 +33,9 @@ fill_at words depth path collect place =
     collect
     (body_at (word_lines words) place)
 
-abbrev pub outcome_of : Filled → Added
-outcome_of (filled.UpTo place next) = Done next
-outcome_of (filled.Stopped stop) = Stopped stop
+abbrev pub outcome_of : Result (ℕ × Builder) Stop → Result Builder Stop
+outcome_of (Ok (place, next)) = Ok next
+outcome_of (Err stop) = Err stop
 
 -- "one of 4,096 nodes"
 abbrev pub nodes_left : Builder → ℕ
@@ -53,17 +50,17 @@ pub record Asks (words : List ℕ) (depth : ℕ) (path : List ℕ) (builder : Bu
   pub fits : Fits builder
 
 -- the place is behind the end of the body that was open at `place`
-abbrev pub Ends : List ℕ → ℕ → Filled → Type 0
-Ends words place (filled.UpTo behind next) =
+abbrev pub Ends : List ℕ → ℕ → Result (ℕ × Builder) Stop → Type 0
+Ends words place (Ok (behind, next)) =
     (place < behind)
     × ((behind ≤ get_or words 0 0) × (open_at (word_lines words) behind ≡ around_at (word_lines words) place))
-Ends words place (filled.Stopped stop) = Unit
+Ends words place (Err stop) = Unit
 
-pub record Fills (change : Work → Work) (words : List ℕ) (place : ℕ) (builder : Builder) (before : List ℕ) (filled : Filled) (after : List ℕ) : Type 0 where
+pub record Fills (change : Work → Work) (words : List ℕ) (place : ℕ) (builder : Builder) (before : List ℕ) (filled : Result (ℕ × Builder) Stop) (after : List ℕ) : Type 0 where
   pub adds : Adds change builder before (outcome_of filled) after
   pub grows : Grows builder (outcome_of filled)
   pub ends : Ends words place filled
 
-pub record Uses (change : Work → Work) (builder : Builder) (before : List ℕ) (added : Added) (after : List ℕ) : Type 0 where
+pub record Uses (change : Work → Work) (builder : Builder) (before : List ℕ) (added : Result Builder Stop) (after : List ℕ) : Type 0 where
   pub adds : Adds change builder before added after
   pub grows : Grows builder added

@@ -2,68 +2,35 @@
 -- Assumes nothing.
 --
 --   BodySoFar ..     a body was walked from its first line up to `at`: what is left of it decides what is added
-use Rattle.std.specs.Prelude.{◌≡◌, Bool, false, ◌&&◌, List, [], ◌∷◌, ◌++◌, length, get_or, take, set}
+use Rattle.std.specs.Prelude.{◌≡◌, Bool, false, ◌&&◌, List, [], ◌∷◌, length, get_or, take, Result, Ok, Err}
 use Rattle.std.proofs.Math.Path.{refl, sym}
-use Rattle.std.proofs.Common.{ap, ◌∙◌, arith, add-one, length-set, take_all, take-suc, take-suc-set}
+use Rattle.std.proofs.Common.{ap, ◌∙◌, arith}
 use Prim.Native.Nat.{ℕ, zero, suc, ◌+◌, ◌-◌, ◌≤◌, ◌<◌}
 use Rattle.std.proofs.Math.Bool.{true}
-use Rattle.refusals.specs.declared.refusal.Refusal.{Refusal}
 use Rattle.refusals.specs.declared.refusal.Refusal.TheVariants.{ComponentNotDefined}
 use Rattle.line_forms.specs.declared.line.Line.{Line}
-use Rattle.line_forms.specs.declared.line.Line.TheVariants.{Def, Value, BeginHeader, BeginTrailer, EndHeader, EndTrailer, Component, Message, Field, Group, Use, End, Member, RequiredTag, Unknown}
+use Rattle.line_forms.specs.declared.line.Line.TheVariants.{Field, Group, Use, Unknown}
 use Rattle.layouts.specs.Limits.{gate_limits}
 use Rattle.ascending.specs.Sort.{is_in}
 use Rattle.records.specs.Records.{Words32}
 use Rattle.dictionary.specs.DictionaryCheck.{is_dictionary}
 use Rattle.expansion.specs.declared.builder.Builder as Code
-use Rattle.expansion.specs.declared.builder.Added.{Added}
-use Rattle.expansion.specs.declared.builder.Added.TheVariants.{Done, Stopped}
 use Rattle.expansion.specs.declared.builder.Stop.{Stop}
 use Rattle.expansion.specs.declared.builder.Stop.TheVariants.{Error, NoRoom}
-use Rattle.bodies.specs.declared.add_body.Filled.{Filled}
-use Rattle.bodies.specs.declared.add_body.Filled.TheVariants as filled
-use Rattle.expansion.specs.Dictionary.{FieldRef, ComponentRef, Body, GroupDef, Dictionary, Found, NotFound, group_def, empty_body, with_field, with_group, with_use, innermost, around_it, component_of, fields_of, delimiter_of, count_tag_of}
-use Rattle.bodies.specs.DictionaryPlaces.{open_at, InOrder, OnlyUses, IsOther, inside-body, at_field, at-group, at-use, at-end}
+use Rattle.expansion.specs.Dictionary.{ComponentRef, Body, GroupDef, Dictionary, Found, NotFound, group_def, with_field, with_group, with_use, innermost, around_it, component_of, fields_of, count_tag_of}
+use Rattle.bodies.specs.DictionaryPlaces.{open_at, OnlyUses, IsOther, inside-body, at_field, at-group, at-use, at-end}
 use Rattle.dictionary.specs.DictionaryWords.{word_lines}
 use Rattle.bodies.specs.DictionaryInWords.{dictionary_in}
+use Rattle.definitions.specs.Definitions.{line_numbered}
 use Rattle.definitions.specs.WordLinesLaws.{lines-counted, line_at}
 use Rattle.bodies.specs.DictionaryLookups.{body_at, around_at, BodyAt, body-there, lines-in_order}
-use Rattle.expansion.specs.Expansion.{OpenLevel, Work, Granted, Denied, Spent, on_granted, spend, noted, add_member, add_field, open_entry, close_group, fill_body, add_group, add_component}
-use Rattle.expansion.specs.Trace.{Frame, First, InWork, with_level, builder_of, work_of, node_more, word_more, Adds, SpendsNode, Fits, Grown, Grows, Enters, Leaves, entered, left}
-use Rattle.expansion.specs.TraceLaws.{stops-later, same-work, adds_then, adds-stops, grown-then, grows_then, grown_grows, done-grown, stopped_grows}
+use Rattle.expansion.specs.Expansion.{OpenLevel, Work, Granted, spend, add_member, add_field, close_group, fill_body, add_group, add_component}
+use Rattle.expansion.specs.Trace.{Frame, InWork, with_level, work_of, Adds, SpendsNode, Fits, Grown, Grows, Enters, Leaves, entered, left}
+use Rattle.expansion.specs.TraceLaws.{stops-later, same-work, adds_then, adds-stops, grown-then, grown_grows, done-grown, stopped_grows}
 use Rattle.bodies.specs.FillLaws.{fill_field, fill_group, fill_use, fill_end, first-fill, adds_same}
-use Rattle.bodies.specs.ExpansionPromises.{fill_at, outcome_of, nodes_left, Asks, Ends, Fills, Uses}
+use Rattle.bodies.specs.ExpansionPromises.{fill_at, nodes_left, Fills, Uses}
 
--- ---- the names of a path: the loop of `open_component`
-
--- the new name and the first `count` of the path are written
-pub record NamesSoFar (room : ℕ) (path : List ℕ) (name : ℕ) (names : List ℕ) (count : ℕ) : Type 0 where
-  pub within : count ≤ length path
-  pub size : length names ≡ room
-  pub written : take (count + 1) names ≡ name ∷ take count path
-
-pub names-begin : (names path : List ℕ) (name : ℕ) → 0 < length names → NamesSoFar (length (set names 0 name)) path name (set names 0 name) 0
-names-begin names path name some = record {
-  within = omega arith;
-  size = refl;
-  written = take-suc-set names 0 name some;
-}
-
-module _ (room : ℕ) (path : List ℕ) (name : ℕ) (names : List ℕ) (count : ℕ) (so_far : NamesSoFar room path name names count) where
-  pub names_more : count < length path → length path < room → NamesSoFar room path name (set names (count + 1) (get_or path count 0)) (count + 1)
-  names_more inside enough =
-      let last = get_or path count 0 in
-      let here : count + 1 < length names = omega (arith, so_far.size) in
-      let longer : take (count + 1 + 1) (set names (count + 1) last) ≡ take (count + 1) names ++ (last ∷ []) = rw (add-one (count + 1)) (take-suc-set names (count + 1) last here) in
-      let more : take (count + 1) path ≡ take count path ++ (last ∷ []) = rw (add-one count) (take-suc path count 0 inside) in
-      record {
-        within = omega arith;
-        size = length-set names (count + 1) last ∙ so_far.size;
-        written = rw (longer, so_far.written, more);
-      }
-
-  pub names-end : length path ≤ count → take (count + 1) names ≡ name ∷ path
-  names-end over = so_far.written ∙ ap (λ (rest : List ℕ). name ∷ rest) (take_all count path over)
+-- ---- the names of a path
 
 -- the part of the names that is lent
 pub names-lent : (names path : List ℕ) (name count : ℕ) → take count names ≡ name ∷ path → take (count - 0) names ≡ name ∷ path
@@ -72,7 +39,7 @@ names-lent names path name count written = let all : count - 0 ≡ count = omega
 -- ---- a node
 
 -- a node that is granted leaves a depth
-pub spent-deep : (builder next : Code.Builder) (name depth : ℕ) → SpendsNode builder name depth (Done next) → 0 < depth
+pub spent-deep : (builder next : Code.Builder) (name depth : ℕ) → SpendsNode builder name depth (Ok next) → 0 < depth
 unfolding SpendsNode spend
 spent-deep builder next name zero spent =
     let granted = spent.1 (record { members = []; required = []; groups = [] }) in
@@ -80,7 +47,10 @@ spent-deep builder next name zero spent =
     absurd (omega arith)
 spent-deep builder next name (suc depth) spent = omega arith
 
-pub spent-room : (builder next : Code.Builder) (name depth : ℕ) → SpendsNode builder name depth (Done next)
+pub spent-below : (builder next : Code.Builder) (name depth : ℕ) → SpendsNode builder name depth (Ok next) → depth ≡ suc (depth - 1)
+spent-below builder next name depth spent = omega (arith, spent-deep builder next name depth spent)
+
+pub spent-room : (builder next : Code.Builder) (name depth : ℕ) → SpendsNode builder name depth (Ok next)
     → next.len + suc (builder.members + builder.required + builder.nodes) ≤ builder.len + (next.members + next.required + next.nodes)
 unfolding SpendsNode
 spent-room builder next name depth spent =
@@ -89,7 +59,7 @@ spent-room builder next name depth spent =
 
 -- a node that is granted is one node less, and its body is one depth down
 pub spent-falls : (builder node : Code.Builder) (name depth : ℕ)
-    → SpendsNode builder name depth (Done node)
+    → SpendsNode builder name depth (Ok node)
     → Fits node
     → (depth - 1 < depth) × (nodes_left node < nodes_left builder)
 unfolding SpendsNode
@@ -99,7 +69,7 @@ spent-falls builder node name depth spent fits =
 
 -- the node is no word of the trace
 spent-stands : (builder node : Code.Builder) (name depth : ℕ) (trace : List ℕ) (frame : Frame) (outer : List Frame)
-    → SpendsNode builder name depth (Done node)
+    → SpendsNode builder name depth (Ok node)
     → InWork builder trace frame outer
     → InWork node trace frame outer
 unfolding SpendsNode
@@ -116,7 +86,7 @@ module _ (dictionary : Dictionary) (path : List ℕ) (collect : Bool) (count del
   abbrev fills_entry : Work → Work
   fills_entry = fill_body gate_limits (add_group gate_limits dictionary less path true) (add_component gate_limits dictionary less path true) true inner
 
-  module _ (node : Code.Builder) (spent : SpendsNode builder count depth (Done node)) where
+  module _ (node : Code.Builder) (spent : SpendsNode builder count depth (Ok node)) where
     group_is : (level : OpenLevel)
         → adds_group (work_of builder level)
         ≡ close_group (group_def count delimiter required inner) (required && collect) (add_member gate_limits count (work_of node level))
@@ -127,10 +97,10 @@ module _ (dictionary : Dictionary) (path : List ℕ) (collect : Bool) (count del
         rw (same-depth, granted) refl
 
     pub group-added : (entry filled last : Code.Builder) (middle inside after : List ℕ)
-        → Enters count (required && collect) delimiter node before (Done entry) middle
-        → Adds fills_entry entry middle (Done filled) inside
-        → Leaves delimiter filled inside (Done last) after
-        → Adds adds_group builder before (Done last) after
+        → Enters count (required && collect) delimiter node before (Ok entry) middle
+        → Adds fills_entry entry middle (Ok filled) inside
+        → Leaves delimiter filled inside (Ok last) after
+        → Adds adds_group builder before (Ok last) after
     unfolding Adds Enters Leaves
     group-added entry filled last middle inside after enters fills leaves = λ frame outer stands.
         let begun = work_of node frame.level in
@@ -144,8 +114,8 @@ module _ (dictionary : Dictionary) (path : List ℕ) (collect : Bool) (count del
         rw (group_is frame.level, equal) (three.0, two.1 ∙ sym three.1)
 
     pub group-entry_over : (stop : Stop) (middle : List ℕ)
-        → Enters count (required && collect) delimiter node before (Stopped stop) middle
-        → Adds adds_group builder before (Stopped stop) middle
+        → Enters count (required && collect) delimiter node before (Err stop) middle
+        → Adds adds_group builder before (Err stop) middle
     unfolding Adds Enters
     group-entry_over stop middle enters = λ frame outer stands.
         let first = enters frame outer (spent-stands builder node count depth before frame outer spent stands) in
@@ -155,16 +125,16 @@ module _ (dictionary : Dictionary) (path : List ℕ) (collect : Bool) (count del
 
     -- with whatever delimiter it is left
     pub group-left_over : (last : ℕ) (filled : Code.Builder) (stop : Stop) (inside after : List ℕ)
-        → Leaves last filled inside (Stopped stop) after
-        → Adds adds_group builder before (Stopped stop) after
+        → Leaves last filled inside (Err stop) after
+        → Adds adds_group builder before (Err stop) after
     unfolding Adds Leaves
     group-left_over last filled (Error refusal) inside after leaves = absurd leaves
     group-left_over last filled NoRoom inside after leaves = λ frame outer stands. leaves
 
     pub group-body_over : (entry : Code.Builder) (stop : Stop) (middle inside : List ℕ)
-        → Enters count (required && collect) delimiter node before (Done entry) middle
-        → Adds fills_entry entry middle (Stopped stop) inside
-        → Adds adds_group builder before (Stopped stop) inside
+        → Enters count (required && collect) delimiter node before (Ok entry) middle
+        → Adds fills_entry entry middle (Err stop) inside
+        → Adds adds_group builder before (Err stop) inside
     unfolding Adds Enters
     group-body_over entry stop middle inside enters fills = λ frame outer stands.
         let begun = work_of node frame.level in
@@ -175,12 +145,12 @@ module _ (dictionary : Dictionary) (path : List ℕ) (collect : Bool) (count del
         rw (group_is frame.level, equal) first
 
 module _ (dictionary : Dictionary) (path : List ℕ) (collect : Bool) (depth : ℕ) (builder : Code.Builder) (before after : List ℕ) where
-  pub group-denied : (group : GroupDef) (stop : Stop) → SpendsNode builder (count_tag_of group) depth (Stopped stop)
-      → Adds (add_group gate_limits dictionary depth path collect group) builder before (Stopped stop) after
+  pub group-denied : (group : GroupDef) (stop : Stop) → SpendsNode builder (count_tag_of group) depth (Err stop)
+      → Adds (add_group gate_limits dictionary depth path collect group) builder before (Err stop) after
   group-denied group stop spent = denied depth stop spent
     where
-      denied : (depth : ℕ) (stop : Stop) → SpendsNode builder (count_tag_of group) depth (Stopped stop)
-          → Adds (add_group gate_limits dictionary depth path collect group) builder before (Stopped stop) after
+      denied : (depth : ℕ) (stop : Stop) → SpendsNode builder (count_tag_of group) depth (Err stop)
+          → Adds (add_group gate_limits dictionary depth path collect group) builder before (Err stop) after
       denied zero (Error refusal) spent = unfold add_group Adds SpendsNode in λ frame outer stands. rw (spent frame.level) ([], refl)
       denied (suc left) (Error refusal) spent = unfold add_group Adds SpendsNode in λ frame outer stands. rw (spent frame.level) ([], refl)
       denied depth NoRoom spent = absurd (unfold SpendsNode in spent)
@@ -188,7 +158,7 @@ module _ (dictionary : Dictionary) (path : List ℕ) (collect : Bool) (depth : �
 -- ---- add_component
 
 module _ (dictionary : Dictionary) (path : List ℕ) (collect : Bool) (component : ComponentRef) (depth less : ℕ) (same-depth : depth ≡ suc less)
-    (builder node : Code.Builder) (before : List ℕ) (spent : SpendsNode builder component.name depth (Done node)) where
+    (builder node : Code.Builder) (before : List ℕ) (spent : SpendsNode builder component.name depth (Ok node)) where
   abbrev adds_component : Work → Work
   adds_component = add_component gate_limits dictionary depth path collect component
 
@@ -197,17 +167,17 @@ module _ (dictionary : Dictionary) (path : List ℕ) (collect : Bool) (component
   component-granted level = rw same-depth at (spent.1 level)
 
   pub component-undefined : (after : List ℕ) → component_of dictionary component.name ≡ NotFound
-      → Adds adds_component builder before (Stopped (Error (ComponentNotDefined component.name))) after
+      → Adds adds_component builder before (Err (Error (ComponentNotDefined component.name))) after
   unfolding add_component Adds
   component-undefined after missing = λ frame outer stands. rw (same-depth, component-granted frame.level, missing) ([], refl)
 
   module _ (body : Body) (found : component_of dictionary component.name ≡ Found body) where
-    pub component-open : is_in component.name path ≡ true → Adds adds_component builder before (Done node) before
+    pub component-open : is_in component.name path ≡ true → Adds adds_component builder before (Ok node) before
     unfolding add_component Adds
     component-open again = λ frame outer stands.
         rw (same-depth, component-granted frame.level, found, again) (spent-stands builder node component.name depth before frame outer spent stands, refl)
 
-    pub component-added : (names : List ℕ) (needed : Bool) (added : Added) (after : List ℕ)
+    pub component-added : (names : List ℕ) (needed : Bool) (added : Result Code.Builder Stop) (after : List ℕ)
         → is_in component.name path ≡ false
         → names ≡ component.name ∷ path
         → needed ≡ (collect && component.required)
@@ -215,16 +185,16 @@ module _ (dictionary : Dictionary) (path : List ℕ) (collect : Bool) (component
         node before added after
         → Adds adds_component builder before added after
     unfolding add_component Adds
-    component-added names needed (Done next) after new longer same adds = λ frame outer stands.
+    component-added names needed (Ok next) after new longer same adds = λ frame outer stands.
         let one = adds frame outer (spent-stands builder node component.name depth before frame outer spent stands) in
         rw (same-depth, component-granted frame.level, found, new, ← longer, ← same) one
-    component-added names needed (Stopped stop) after new longer same adds = λ frame outer stands.
+    component-added names needed (Err stop) after new longer same adds = λ frame outer stands.
         let one = adds frame outer (spent-stands builder node component.name depth before frame outer spent stands) in
         rw (same-depth, component-granted frame.level, found, new, ← longer, ← same) one
 
 module _ (dictionary : Dictionary) (path : List ℕ) (collect : Bool) (builder : Code.Builder) (before after : List ℕ) where
-  pub component-denied : (depth : ℕ) (component : ComponentRef) (stop : Stop) → SpendsNode builder component.name depth (Stopped stop)
-      → Adds (add_component gate_limits dictionary depth path collect component) builder before (Stopped stop) after
+  pub component-denied : (depth : ℕ) (component : ComponentRef) (stop : Stop) → SpendsNode builder component.name depth (Err stop)
+      → Adds (add_component gate_limits dictionary depth path collect component) builder before (Err stop) after
   unfolding add_component Adds SpendsNode
   component-denied zero component (Error refusal) spent = λ frame outer stands. rw (spent frame.level) ([], refl)
   component-denied (suc left) component (Error refusal) spent = λ frame outer stands. rw (spent frame.level) ([], refl)
@@ -239,7 +209,7 @@ pub record BodySoFar (words : List ℕ) (depth : ℕ) (path : List ℕ) (collect
   pub from : place ≤ at
   pub grown : Grown builder so_far
   pub size : length written ≡ length before
-  pub rest : (added : Added) (after : List ℕ)
+  pub rest : (added : Result Code.Builder Stop) (after : List ℕ)
       → Adds (fill_at words depth path collect at) so_far written added after
       → Adds (fill_at words depth path collect place) builder before added after
 
@@ -257,12 +227,12 @@ body-begins words depth path collect place builder before there fits = record {
 }
 
 -- nothing is added where nothing is left
-adds_none : (builder : Code.Builder) (trace : List ℕ) (change : Work → Work) → ((work : Work) → change work ≡ work) → Adds change builder trace (Done builder) trace
+adds_none : (builder : Code.Builder) (trace : List ℕ) (change : Work → Work) → ((work : Work) → change work ≡ work) → Adds change builder trace (Ok builder) trace
 unfolding Adds
 adds_none builder trace change none = λ frame outer stands. rw (none (work_of builder frame.level)) (stands, refl)
 
-module _ (words : List ℕ) (small : Words32 words) (passed : is_dictionary words ≡ true) (depth : ℕ) (path : List ℕ) (collect : Bool) (place : ℕ)
-    (builder : Code.Builder) (before : List ℕ) (at : ℕ) (so_far : Code.Builder) (written : List ℕ)
+module _ {words : List ℕ} (small : Words32 words) (passed : is_dictionary words ≡ true) {depth : ℕ} {path : List ℕ} {collect : Bool} {place : ℕ}
+    {builder : Code.Builder} {before : List ℕ} {at : ℕ} {so_far : Code.Builder} {written : List ℕ}
     (walked : BodySoFar words depth path collect place builder before at so_far written) where
   abbrev lines : List Line
   lines = word_lines words
@@ -272,6 +242,14 @@ module _ (words : List ℕ) (small : Words32 words) (passed : is_dictionary word
   body-inside =
       let over = inside-body lines at (body_at lines at) (around_at lines at) walked.there in
       omega (arith, lines-counted words, over)
+
+  -- the line there, as it is read from its record
+  line_here : (line : Line) → line_numbered words at ≡ line → get_or lines at Unknown ≡ line
+  line_here line read = sym (line_at words at body-inside) ∙ read
+
+  -- and there is room for one more
+  pub body-next : at + 1 < 18446744073709551616
+  body-next = omega (arith, body-inside, small 0)
 
   line-inside : at < length lines
   line-inside = omega (arith, lines-counted words, body-inside)
@@ -290,7 +268,7 @@ module _ (words : List ℕ) (small : Words32 words) (passed : is_dictionary word
       → Splits change left
       → at ≤ further
       → open_at lines further ≡ left ∷ around_at lines at
-      → Adds change so_far written (Done next) after
+      → Adds change so_far written (Ok next) after
       → Grown so_far next
       → length after ≡ length written
       → BodySoFar words depth path collect place builder before further next after
@@ -309,14 +287,14 @@ module _ (words : List ℕ) (small : Words32 words) (passed : is_dictionary word
 
   stops : (change : Work → Work) (left : Body) (stop : Stop) (after : List ℕ)
       → Splits change left
-      → Adds change so_far written (Stopped stop) after
-      → Fills (fill_at words depth path collect place) words place builder before (filled.Stopped stop) after
+      → Adds change so_far written (Err stop) after
+      → Fills (fill_at words depth path collect place) words place builder before (Err stop) after
   stops change left stop after splits changed =
       let fill : Work → Work = λ work. fill_body gate_limits groups uses collect left work in
       record {
         adds =
-            walked.rest (Stopped stop) after
-            (adds_same (λ work. fill (change work)) (fill_at words depth path collect at) so_far written (Stopped stop) after
+            walked.rest (Err stop) after
+            (adds_same (λ work. fill (change work)) (fill_at words depth path collect at) so_far written (Err stop) after
             (λ work. sym (splits work))
             (adds-stops change fill so_far written after stop changed
             (λ refusal work first. first-fill gate_limits refusal (dictionary_in words) depth path collect collect left work first)));
@@ -325,10 +303,10 @@ module _ (words : List ℕ) (small : Words32 words) (passed : is_dictionary word
       }
 
   -- a line `field=TAG,R`
-  module _ (tag : ℕ) (required needed : Bool) (line : get_or lines at Unknown ≡ Field tag required) (same : needed ≡ (collect && required)) where
+  module _ (tag : ℕ) (required needed : Bool) (read : line_numbered words at ≡ Field tag required) (same : needed ≡ (collect && required)) where
     abbrev field_parts : (rest : Body)
         × ((open_at lines (at + 1) ≡ rest ∷ around_at lines at) × (body_at lines at ≡ with_field (record { tag = tag; required = required }) rest))
-    field_parts = at_field lines at line-inside (lines-in_order words small passed) (body_at lines at) (around_at lines at) walked.there tag required line
+    field_parts = at_field lines at line-inside (lines-in_order words small passed) (body_at lines at) (around_at lines at) walked.there tag required (line_here (Field tag required) read)
 
     field_splits : Splits (add_field gate_limits tag needed) field_parts.0
     field_splits work =
@@ -337,8 +315,8 @@ module _ (words : List ℕ) (small : Words32 words) (passed : is_dictionary word
         ∙ ap (λ (flag : Bool). fill_body gate_limits groups uses collect field_parts.0 (add_field gate_limits tag flag work)) (sym same)
 
     pub body-field : (next : Code.Builder) (after : List ℕ)
-        → Adds (add_field gate_limits tag needed) so_far written (Done next) after
-        → Grows so_far (Done next)
+        → Adds (add_field gate_limits tag needed) so_far written (Ok next) after
+        → Grows so_far (Ok next)
         → length after ≡ length written
         → BodySoFar words depth path collect place builder before (at + 1) next after
     body-field next after changed grows kept =
@@ -347,12 +325,12 @@ module _ (words : List ℕ) (small : Words32 words) (passed : is_dictionary word
         kept
 
     pub body-field_over : (stop : Stop) (after : List ℕ)
-        → Adds (add_field gate_limits tag needed) so_far written (Stopped stop) after
-        → Fills (fill_at words depth path collect place) words place builder before (filled.Stopped stop) after
+        → Adds (add_field gate_limits tag needed) so_far written (Err stop) after
+        → Fills (fill_at words depth path collect place) words place builder before (Err stop) after
     body-field_over stop after changed = stops (add_field gate_limits tag needed) field_parts.0 stop after field_splits changed
 
   -- a line `group=COUNT,DELIMITER,R`
-  module _ (count delimiter : ℕ) (required : Bool) (line : get_or lines at Unknown ≡ Group count delimiter required) where
+  module _ (count delimiter : ℕ) (required : Bool) (read : line_numbered words at ≡ Group count delimiter required) where
     abbrev group_there : GroupDef
     group_there = group_def count delimiter required (body_at lines (at + 1))
 
@@ -360,7 +338,7 @@ module _ (words : List ℕ) (small : Words32 words) (passed : is_dictionary word
         × ((rest : Body)
         × ((open_at lines (at + 1) ≡ inner ∷ rest ∷ around_at lines at)
         × ((body_at lines at ≡ with_group (group_def count delimiter required inner) rest) × (fields_of rest ≡ []))))
-    group_parts = at-group lines at line-inside (lines-in_order words small passed) (body_at lines at) (around_at lines at) walked.there count delimiter required line
+    group_parts = at-group lines at line-inside (lines-in_order words small passed) (body_at lines at) (around_at lines at) walked.there count delimiter required (line_here (Group count delimiter required) read)
 
     -- the body of the group is open behind its line
     pub group-there : BodyAt lines (at + 1)
@@ -374,7 +352,7 @@ module _ (words : List ℕ) (small : Words32 words) (passed : is_dictionary word
         (sym (ap innermost group_parts.1.1.0))
 
     pub body-group : (behind : ℕ) (next : Code.Builder) (after : List ℕ)
-        → Fills (groups group_there) words (at + 1) so_far written (filled.UpTo behind next) after
+        → Fills (groups group_there) words (at + 1) so_far written (Ok (behind, next)) after
         → length after ≡ length written
         → BodySoFar words depth path collect place builder before behind next after
     body-group behind next after fills kept =
@@ -385,17 +363,17 @@ module _ (words : List ℕ) (small : Words32 words) (passed : is_dictionary word
         kept
 
     pub body-group_over : (stop : Stop) (after : List ℕ)
-        → Fills (groups group_there) words (at + 1) so_far written (filled.Stopped stop) after
-        → Fills (fill_at words depth path collect place) words place builder before (filled.Stopped stop) after
+        → Fills (groups group_there) words (at + 1) so_far written (Err stop) after
+        → Fills (fill_at words depth path collect place) words place builder before (Err stop) after
     body-group_over stop after fills = stops (groups group_there) group_parts.1.0 stop after group-splits fills.adds
 
   -- a line `use=N,R`
-  module _ (name : ℕ) (required : Bool) (line : get_or lines at Unknown ≡ Use name required) where
+  module _ (name : ℕ) (required : Bool) (read : line_numbered words at ≡ Use name required) where
     abbrev use_there : ComponentRef
     use_there = record { name = name; required = required }
 
     abbrev use_parts : (rest : Body) × ((open_at lines (at + 1) ≡ rest ∷ around_at lines at) × ((body_at lines at ≡ with_use use_there rest) × OnlyUses rest))
-    use_parts = at-use lines at line-inside (lines-in_order words small passed) (body_at lines at) (around_at lines at) walked.there name required line
+    use_parts = at-use lines at line-inside (lines-in_order words small passed) (body_at lines at) (around_at lines at) walked.there name required (line_here (Use name required) read)
 
     use_splits : Splits (uses use_there) use_parts.0
     use_splits work =
@@ -403,7 +381,7 @@ module _ (words : List ℕ) (small : Words32 words) (passed : is_dictionary word
         ∙ fill_use gate_limits groups uses collect work use_there use_parts.0 use_parts.1.1.1
 
     pub body-use : (next : Code.Builder) (after : List ℕ)
-        → Uses (uses use_there) so_far written (Done next) after
+        → Uses (uses use_there) so_far written (Ok next) after
         → length after ≡ length written
         → BodySoFar words depth path collect place builder before (at + 1) next after
     body-use next after changed kept =
@@ -412,20 +390,20 @@ module _ (words : List ℕ) (small : Words32 words) (passed : is_dictionary word
         kept
 
     pub body-use_over : (stop : Stop) (after : List ℕ)
-        → Uses (uses use_there) so_far written (Stopped stop) after
-        → Fills (fill_at words depth path collect place) words place builder before (filled.Stopped stop) after
+        → Uses (uses use_there) so_far written (Err stop) after
+        → Fills (fill_at words depth path collect place) words place builder before (Err stop) after
     body-use_over stop after changed = stops (uses use_there) use_parts.0 stop after use_splits changed.adds
 
   -- any other line ends the body
   pub body-ends : (line : Line)
-      → get_or lines at Unknown ≡ line
+      → line_numbered words at ≡ line
       → IsOther line
-      → Fills (fill_at words depth path collect place) words place builder before (filled.UpTo (at + 1) so_far) written
-  body-ends line same other =
-      let parts = at-end lines at line-inside (lines-in_order words small passed) (body_at lines at) (around_at lines at) walked.there line same other in
+      → Fills (fill_at words depth path collect place) words place builder before (Ok ((at + 1), so_far)) written
+  body-ends line read other =
+      let parts = at-end lines at line-inside (lines-in_order words small passed) (body_at lines at) (around_at lines at) walked.there line (line_here line read) other in
       record {
         adds =
-            walked.rest (Done so_far) written
+            walked.rest (Ok so_far) written
             (adds_none so_far written (fill_at words depth path collect at)
             (λ work.
             ap (λ (body : Body). fill_body gate_limits groups uses collect body work) parts.0
@@ -436,12 +414,12 @@ module _ (words : List ℕ) (small : Words32 words) (passed : is_dictionary word
 
 -- ---- the word that leaves a group has its place: the group's node
 
-module _ (builder node entry filled : Code.Builder) (name depth : ℕ) (spent : SpendsNode builder name depth (Done node))
+module _ (builder node entry filled : Code.Builder) (name depth : ℕ) (spent : SpendsNode builder name depth (Ok node))
     (enters : Grown node entry) (fills : Grown entry filled) where
   pub group-room : Fits builder → filled.len < filled.members + filled.required + filled.nodes
   group-room fits = omega (arith, fits.len, spent-room builder node name depth spent, enters.slack, fills.slack)
 
-  pub group-grown : Fits node → (delimiter : ℕ) (inside after : List ℕ) (last : Code.Builder) → Leaves delimiter filled inside (Done last) after → Grown builder last
+  pub group-grown : Fits node → (delimiter : ℕ) (inside after : List ℕ) (last : Code.Builder) → Leaves delimiter filled inside (Ok last) after → Grown builder last
   unfolding Leaves
   group-grown fits delimiter inside after last leaves = record {
     fits = leaves.1.1;

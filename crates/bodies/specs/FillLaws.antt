@@ -1,19 +1,18 @@
 -- A body is filled line by line: what `fill_body` does with a body is what it does with the rest of it once its first line is added. And the
 -- first error met stays the first, whatever is added behind it. Assumes nothing.
-use Rattle.std.specs.Prelude.{◌≡◌, ℕ, Bool, ◌&&◌, List, [], ◌∷◌, ◌++◌}
+use Rattle.std.specs.Prelude.{◌≡◌, ℕ, Bool, ◌&&◌, List, [], ◌∷◌, ◌++◌, Result, Ok, Err}
 use Rattle.std.proofs.Math.Path.{refl}
 use Rattle.std.proofs.Common.{sym, ap, ◌∙◌}
 use Rattle.refusals.specs.declared.refusal.Refusal.{Refusal}
 use Rattle.layouts.specs.Limits.{Limits}
 use Rattle.expansion.specs.declared.builder.Builder as Code
-use Rattle.expansion.specs.declared.builder.Added.{Added}
-use Rattle.expansion.specs.declared.builder.Added.TheVariants.{Done, Stopped}
 use Rattle.expansion.specs.Dictionary.{FieldRef, ComponentRef, Body, body_of, GroupDef, Dictionary, fields_of, group_defs_of, uses_of, empty_body, with_field, with_group, with_use, count_tag_of, delimiter_of}
 use Rattle.bodies.specs.DictionaryPlaces.{OnlyUses}
-use Rattle.expansion.specs.Expansion.{Work, Builder, empty_level, add_member, add_field, each_field, each_group, each_use, fill_body, add_group, add_component}
+use Rattle.expansion.specs.Expansion.{Work, empty_level, add_member, add_field, each_field, each_group, each_use, fill_body, add_group, add_component}
 use Rattle.expansion.specs.ExpansionInduction.{Steps, keeps_fields, keeps_groups, keeps_uses, keeps_group, keeps_component}
 use Rattle.expansion.specs.Trace.{First, with_level, work_of, Adds}
 use Rattle.expansion.specs.TraceLaws.{first_member, first-required, stops_same}
+use Rattle.expansion.specs.declared.builder.Stop.{Stop}
 
 -- ---- the first line of a body
 
@@ -90,18 +89,18 @@ module _ (limits : Limits) (refusal : Refusal) where
 
 -- ---- the same change, said otherwise
 
-pub adds_same : (change other : Work → Work) (builder : Code.Builder) (before : List ℕ) (added : Added) (trace : List ℕ)
+pub adds_same : (change other : Work → Work) (builder : Code.Builder) (before : List ℕ) (added : Result Code.Builder Stop) (trace : List ℕ)
     → ((work : Work) → change work ≡ other work)
     → Adds change builder before added trace
     → Adds other builder before added trace
 unfolding Adds
-adds_same change other builder before (Done next) trace same adds = λ frame outer stands.
+adds_same change other builder before (Ok next) trace same adds = λ frame outer stands.
     let one = adds frame outer stands in
     let equal = same (work_of builder frame.level) in (
       one.0 ∙ ap (λ (work : Work). with_level work.level frame ∷ outer) equal,
       ap (λ (work : Work). work.builder) (sym equal) ∙ one.1,
     )
-adds_same change other builder before (Stopped stop) trace same adds = λ frame outer stands.
+adds_same change other builder before (Err stop) trace same adds = λ frame outer stands.
     stops_same stop trace (change (work_of builder frame.level)).builder (other (work_of builder frame.level)).builder
     (ap (λ (work : Work). work.builder) (same (work_of builder frame.level)))
     (adds frame outer stands)

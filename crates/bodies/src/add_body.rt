@@ -9,13 +9,11 @@ ghost use Rattle.dictionary.specs.DictionaryWords.{word_lines};
 ghost use Rattle.bodies.specs.DictionaryInWords.{dictionary_in};
 ghost use Rattle.bodies.specs.DictionaryLookups.{BodyAt};
 ghost use Rattle.expansion.specs.Expansion.{add_group, add_component};
-ghost use Rattle.bodies.specs.ExpansionPromises.{group_at, fill_at, outcome_of, Asks, Fills, Uses};
+ghost use Rattle.bodies.specs.ExpansionPromises.{group_at, fill_at, Asks, Fills, Uses};
 
 use crate::body_line::{BodyLine, body_line};
-use ascending::search::Found;
 use definitions::definitions::component_of;
-use expansion::builder::{Added, Builder, Stop, add_field, enter_group, leave_group, spend};
-use expansion::seen::contains;
+use expansion::builder::{Builder, Stop, add_field, enter_group, leave_group, spend};
 use refusals::refusal::Refusal;
 
 // A line `group=COUNT,DELIMITER,R`, and the place of the first line of its body.
@@ -27,42 +25,16 @@ pub struct GroupLine {
     pub first: usize,
 }
 
-// The place behind the end of a body that was added, and what is spent and added then; or why no more was added.
-#[derive(Clone, Copy)]
-pub enum Filled {
-    UpTo(usize, Builder),
-    Stopped(Stop),
-}
-
-pub fn outcome(filled: Filled) -> Added
-    ensures { result ≡ outcome_of filled }
-{
-    match filled {
-        Filled::UpTo(_, builder) => Added::Done(builder),
-        Filled::Stopped(stop) => Added::Stopped(stop),
-    }
-}
-
-fn both(one: bool, other: bool) -> bool
-    ensures { result ≡ one && other }
-{
-    one && other
-}
-
 // Writes the names of a path with one more open component, and returns how many they are.
 fn open_component(names: &mut [u32], path: &[u32], name: u32) -> usize
     requires { length path.now < length names.old }
     ensures count { result ≡ length path.now + 1 }
     ensures names { take result names.new ≡ name ∷ path.now }
 {
+    let past = path.len() + 1;
     names[0] = name;
-    let mut count = 0;
-    while count < path.len() {
-        let open = path[count];
-        count += 1;
-        names[count] = open;
-    }
-    count + 1
+    names[1..past].copy_from_slice(path);
+    past
 }
 
 // Adds what is left of the body that is open at `place`, a line at a time: fields, groups and uses.
@@ -75,7 +47,7 @@ pub fn add_body(
     collect: bool,
     trace: &mut [u64],
     builder: Builder,
-) -> Filled
+) -> Result<(usize, Builder), Stop>
     requires { Asks words.now depth_left path.now builder × BodyAt (word_lines words.now) place }
     ensures { Fills (fill_at words.now depth_left path.now collect place) words.now place
         builder trace.old result trace.new }
@@ -85,51 +57,30 @@ pub fn add_body(
     loop {
         match body_line(words, at) {
             BodyLine::Field(tag, required) => {
-                let needed = both(collect, required);
-                match add_field(trace, so_far, tag, needed) {
-                    Added::Done(next) => {
-                        so_far = next;
-                        at += 1;
-                    }
-                    Added::Stopped(stop) => {
-                        return Filled::Stopped(stop);
-                    }
-                }
+                so_far = add_field(trace, so_far, tag, collect && required)?;
+                at += 1;
             }
             BodyLine::Group(count, delimiter, required) => {
-                let first = at + 1;
                 let group = GroupLine {
                     count,
                     delimiter,
                     required,
-                    first,
+                    first: at + 1,
                 };
-                match add_group(words, group, depth_left, path, collect, trace, so_far) {
-                    Filled::UpTo(behind, next) => {
-                        at = behind;
-                        so_far = next;
-                    }
-                    Filled::Stopped(stop) => {
-                        return Filled::Stopped(stop);
-                    }
-                }
+                let (past, filled) = add_group(
+                    words, group, depth_left, path, collect, trace, so_far,
+                )?;
+                at = past;
+                so_far = filled;
             }
             BodyLine::Use(name, required) => {
-                match add_component(
+                so_far = add_component(
                     words, name, required, depth_left, path, collect, trace, so_far,
-                ) {
-                    Added::Done(next) => {
-                        so_far = next;
-                        at += 1;
-                    }
-                    Added::Stopped(stop) => {
-                        return Filled::Stopped(stop);
-                    }
-                }
+                )?;
+                at += 1;
             }
             BodyLine::Other => {
-                let behind = at + 1;
-                return Filled::UpTo(behind, so_far);
+                return Ok((at + 1, so_far));
             }
         }
     }
@@ -145,32 +96,18 @@ fn add_group(
     collect: bool,
     trace: &mut [u64],
     builder: Builder,
-) -> Filled
+) -> Result<(usize, Builder), Stop>
     requires { Asks words.now depth_left path.now builder × BodyAt (word_lines words.now) group.first }
     ensures { Fills (add_group gate_limits (dictionary_in words.now) depth_left path.now collect (group_at words.now group))
         words.now group.first builder trace.old result trace.new }
 {
-    match spend(builder, group.count, depth_left) {
-        Added::Stopped(stop) => Filled::Stopped(stop),
-        Added::Done(node) => {
-            let required = both(group.required, collect);
-            match enter_group(trace, node, group.count, required, group.delimiter) {
-                Added::Stopped(stop) => Filled::Stopped(stop),
-                Added::Done(entry) => {
-                    let below = depth_left - 1;
-                    match add_body(words, group.first, below, path, true, trace, entry) {
-                        Filled::Stopped(stop) => Filled::Stopped(stop),
-                        Filled::UpTo(behind, filled) => {
-                            match leave_group(trace, filled, group.delimiter) {
-                                Added::Stopped(stop) => Filled::Stopped(stop),
-                                Added::Done(last) => Filled::UpTo(behind, last),
-                            }
-                        }
-                    }
-                }
-            }
-        }
-    }
+    let node = spend(builder, group.count, depth_left)?;
+    let required = group.required && collect;
+    let entry = enter_group(trace, node, group.count, required, group.delimiter)?;
+    let below = depth_left - 1;
+    let (past, filled) = add_body(words, group.first, below, path, true, trace, entry)?;
+    let last = leave_group(trace, filled, group.delimiter)?;
+    Ok((past, last))
 }
 
 // Expands a component reference into the level in work.
@@ -184,27 +121,23 @@ fn add_component(
     collect: bool,
     trace: &mut [u64],
     builder: Builder,
-) -> Added
+) -> Result<Builder, Stop>
     requires { Asks words.now depth_left path.now builder }
     ensures { Uses (add_component gate_limits (dictionary_in words.now) depth_left path.now collect
         (record { name = name; required = required })) builder trace.old result trace.new }
 {
-    match spend(builder, name, depth_left) {
-        Added::Stopped(stop) => Added::Stopped(stop),
-        Added::Done(node) => {
-            let Found::At(number) = component_of(words, name) else {
-                return Added::Stopped(Stop::Error(Refusal::ComponentNotDefined(name)));
-            };
-            if contains(path, name) {
-                return Added::Done(node);
-            }
-            let mut names = [0u32; 33];
-            let open = open_component(&mut names, path, name);
-            let collects = both(collect, required);
-            let first = number + 1;
-            let below = depth_left - 1;
-            let filled = add_body(words, first, below, &names[0..open], collects, trace, node);
-            outcome(filled)
-        }
+    let node = spend(builder, name, depth_left)?;
+    let Some(number) = component_of(words, name) else {
+        return Err(Stop::Error(Refusal::ComponentNotDefined(name)));
+    };
+    if path.contains(&name) {
+        return Ok(node);
     }
+    let mut names = [0u32; 33];
+    let open = open_component(&mut names, path, name);
+    let collects = collect && required;
+    let first = number + 1;
+    let below = depth_left - 1;
+    let (_, filled) = add_body(words, first, below, &names[0..open], collects, trace, node)?;
+    Ok(filled)
 }

@@ -31,16 +31,16 @@ fn line_from(words: &[u32]) -> BodyLine
     ensures { result ≡ read_from words.now }
 {
     let kind = words[0];
+    // no match on the kind: what its last arm knows, that the kind is none of these, reaches no proof
     if kind == FIELD {
-        return BodyLine::Field(words[1], words[2] == 1);
+        BodyLine::Field(words[1], words[2] == 1)
+    } else if kind == GROUP {
+        BodyLine::Group(words[1], words[2], words[3] == 1)
+    } else if kind == USE {
+        BodyLine::Use(words[1], words[2] == 1)
+    } else {
+        BodyLine::Other
     }
-    if kind == GROUP {
-        return BodyLine::Group(words[1], words[2], words[3] == 1);
-    }
-    if kind == USE {
-        return BodyLine::Use(words[1], words[2] == 1);
-    }
-    BodyLine::Other
 }
 
 // The line of the record with this number.
@@ -48,7 +48,6 @@ pub fn body_line(words: &[u32], number: usize) -> BodyLine
     requires { (is_dictionary words.now ≡ true) × (number < get_or words.now 0 0) }
     ensures { Tells result (line_numbered words.now number) }
 {
-    let at = 4 + 10 * number;
-    let past = at + RECORD;
-    line_from(&words[at..past])
+    let at = 4 + RECORD * number;
+    line_from(&words[at..at + RECORD])
 }

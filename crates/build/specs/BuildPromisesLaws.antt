@@ -1,42 +1,34 @@
 -- Laws of `BuildPromises.antt`, and the steps of the functions of src/build.rt: the line that opens the header or the trailer, the three bodies of the message
 -- level one behind the other, and the choice of the message. Assumes nothing.
-use Rattle.std.specs.Prelude.{◌≡◌, Bool, not, ◌&&◌, ◌||◌, eqb, length, get_or, drop}
+use Rattle.std.specs.Prelude.{◌≡◌, Bool, not, ◌&&◌, ◌||◌, eqb, get_or, drop, Option, Some, None, Result, Ok, Err}
 use Rattle.std.proofs.Math.Path.{refl, sym, ap}
 use Rattle.std.proofs.Common.{◌∙◌, arith, add-one, drop-cons}
-use Prim.Native.Nat.{ℕ, zero, suc, ◌+◌, ◌*◌, ◌≤◌, ◌<◌}
+use Prim.Native.Nat.{ℕ, suc, ◌+◌, ◌*◌, ◌≤◌, ◌<◌}
 use Rattle.std.proofs.Math.Bool.{true, false}
 use Rattle.std.proofs.lemmas.Bool.{false≢true}
 use mathlib.Core.List.{List, [], ◌∷◌}
 use Rattle.refusals.specs.declared.refusal.Refusal.{Refusal}
 use Rattle.refusals.specs.declared.refusal.Refusal.TheVariants.{TypeNotDefined}
-use Rattle.line_forms.specs.declared.line.Line.{Line}
 use Rattle.line_forms.specs.declared.line.Line.TheVariants.{Unknown}
-use Rattle.lines.specs.declared.line_parts.MessageType.{MessageType}
-use Rattle.lines.specs.declared.line_parts.MessageType.TheVariants.{Letters, NoLetters}
 use Rattle.lines.specs.LineParts.{message_type_of}
 use Rattle.layouts.specs.Limits.{gate_limits}
-use Rattle.ascending.specs.declared.search.Found.{Found}
-use Rattle.ascending.specs.declared.search.Found.TheVariants.{At, Nothing}
 use Rattle.records.specs.Records.{Words32}
 use Rattle.dictionary.specs.DictionaryWords.{is_of, name_of, place_of, word_lines}
-use Rattle.dictionary.specs.DictionaryCheck.{stands_at, messages_at, is_dictionary}
+use Rattle.dictionary.specs.DictionaryCheck.{stands_at, is_dictionary}
 use Rattle.definitions.specs.Definitions as Words
 use Rattle.expansion.specs.declared.builder.Builder as Code
-use Rattle.expansion.specs.declared.builder.Added.{Added}
-use Rattle.expansion.specs.declared.builder.Added.TheVariants.{Done, Stopped}
 use Rattle.expansion.specs.declared.builder.Stop.{Stop}
 use Rattle.expansion.specs.declared.builder.Stop.TheVariants.{Error, NoRoom}
-use Rattle.expansion.specs.Dictionary.{Body, uses_of, message_of}
-use Rattle.expansion.specs.Dictionary as Tree
-use Rattle.bodies.specs.AcceptedPlaces.{Parted, is_definition, place-behind}
-use Rattle.bodies.specs.DictionaryInWords.{dictionary_in, expansion_in}
+use Rattle.expansion.specs.Dictionary.{Body, uses_of}
+use Rattle.bodies.specs.AcceptedPlaces.{is_definition, place-behind}
+use Rattle.bodies.specs.DictionaryInWords.{dictionary_in}
 use Rattle.definitions.specs.WordLinesLaws.{lines-counted}
 use Rattle.bodies.specs.DictionaryLookups.{body_at, kind_at, stands-line, definitions-first, header-comes, Begins, header-begins, trailer-begins, message-found, message-missing}
 use Rattle.expansion.specs.Expansion.{Work, Builder, OpenLevel, empty_level, nothing_spent, each_use, add_envelope, add_message, build, outcome_of, expand_of, Expanded, finish}
 use Rattle.expansion.specs.Expansion as Definition
-use Rattle.expansion.specs.Trace.{Frame, First, InWork, run, at_start, builder_of, work_of, Fits, Grown, Grows, Adds}
+use Rattle.expansion.specs.Trace.{First, run, Fits, Grows, Adds}
 use Rattle.expansion.specs.TraceLaws.{adds_then, adds-stops, grows_then, done-grown, stopped_grows}
-use Rattle.bodies.specs.FillLaws.{first-fill, adds_same}
+use Rattle.bodies.specs.FillLaws.{first-fill}
 use Rattle.bodies.specs.ExpansionPromises.{fill_at, Uses}
 use Rattle.build.specs.BuildPromises.{built_of, top_frame, Built, Traced}
 
@@ -157,37 +149,37 @@ module _ (words : List ℕ) (small : Words32 words) (passed : is_dictionary word
       (envelope_is words trailer (dictionary_in words).trailer second.1.0 second.1.1
       (add_envelope gate_limits (dictionary_in words) (dictionary_in words).header (record { builder = nothing_spent; level = empty_level })))
 
-  built-by : (before after : List ℕ) (added : Added) → Adds all_three nothing_added before added after → Grows nothing_added added → Built words message added after
+  built-by : (before after : List ℕ) (added : Result Code.Builder Stop) → Adds all_three nothing_added before added after → Grows nothing_added added → Built words message added after
   unfolding Adds Grows Built run
-  built-by before after (Done builder) adds grows =
+  built-by before after (Ok builder) adds grows =
       let start = adds (top_frame empty_level) [] refl in
       (rw (← all-is) start.0, (rw (← all-is) start.1, grows.fits))
-  built-by before after (Stopped stop) adds grows = rw (← all-is) (adds (top_frame empty_level) [] refl)
+  built-by before after (Err stop) adds grows = rw (← all-is) (adds (top_frame empty_level) [] refl)
 
   module _ (before first : List ℕ) where
     pub built-header_over : (stop : Stop)
-        → Uses (fill_at words 33 [] true (header + 1)) nothing_added before (Stopped stop) first
-        → Built words message (Stopped stop) first
+        → Uses (fill_at words 33 [] true (header + 1)) nothing_added before (Err stop) first
+        → Built words message (Err stop) first
     built-header_over stop over =
-        built-by before first (Stopped stop)
+        built-by before first (Err stop)
         (adds-stops (top_fill words header) (λ work. top_fill words message (top_fill words trailer work)) nothing_added before first stop over.adds
         (λ refusal work met. first-top words message refusal (top_fill words trailer work) (first-top words trailer refusal work met)))
         (stopped_grows nothing_added stop)
 
-    module _ (head : Code.Builder) (has-header : Uses (fill_at words 33 [] true (header + 1)) nothing_added before (Done head) first) where
+    module _ (head : Code.Builder) (has-header : Uses (fill_at words 33 [] true (header + 1)) nothing_added before (Ok head) first) where
       pub built-trailer_over : (stop : Stop) (second : List ℕ)
-          → Uses (fill_at words 33 [] true (trailer + 1)) head first (Stopped stop) second
-          → Built words message (Stopped stop) second
+          → Uses (fill_at words 33 [] true (trailer + 1)) head first (Err stop) second
+          → Built words message (Err stop) second
       built-trailer_over stop second over =
-          built-by before second (Stopped stop)
-          (adds_then (top_fill words header) (λ work. top_fill words message (top_fill words trailer work)) nothing_added before first head (Stopped stop) second
+          built-by before second (Err stop)
+          (adds_then (top_fill words header) (λ work. top_fill words message (top_fill words trailer work)) nothing_added before first head (Err stop) second
           has-header.adds
           (adds-stops (top_fill words trailer) (top_fill words message) head first second stop over.adds
           (λ refusal work met. first-top words message refusal work met)))
           (stopped_grows nothing_added stop)
 
-      pub built-message : (envelope : Code.Builder) (second after : List ℕ) (added : Added)
-          → Uses (fill_at words 33 [] true (trailer + 1)) head first (Done envelope) second
+      pub built-message : (envelope : Code.Builder) (second after : List ℕ) (added : Result Code.Builder Stop)
+          → Uses (fill_at words 33 [] true (trailer + 1)) head first (Ok envelope) second
           → Uses (fill_at words 33 [] true (message + 1)) envelope second added after
           → Built words message added after
       built-message envelope second after added has-trailer last =
@@ -201,36 +193,36 @@ module _ (words : List ℕ) (small : Words32 words) (passed : is_dictionary word
 -- ---- the message of a type
 
 module _ (words : List ℕ) (small : Words32 words) (passed : is_dictionary words ≡ true) (value : List ℕ) where
-  message-begins_by : (type : MessageType) (number : ℕ)
-      → Words.message_with words type ≡ At number
+  message-begins_by : (type : Option ℕ) (number : ℕ)
+      → Words.message_with words type ≡ Some number
       → Begins words number
       × (Definition.on_type gate_limits (dictionary_in words) (dictionary_in words) type ≡ outcome_of (built_of words number))
-  message-begins_by (Letters letters) number there =
+  message-begins_by (Some letters) number there =
       let found = message-found words small passed letters number there in
       (found.0, ap (Definition.on_message gate_limits (dictionary_in words) (dictionary_in words)) found.1)
-  message-begins_by NoLetters number there = let never : ◌≡◌ {A = ℕ} 0 1 = cc in absurd (omega arith)
+  message-begins_by None number there = let never : ◌≡◌ {A = ℕ} 0 1 = cc in absurd (omega arith)
 
-  message-none_by : (type : MessageType)
-      → Words.message_with words type ≡ Nothing
+  message-none_by : (type : Option ℕ)
+      → Words.message_with words type ≡ None
       → Definition.on_type gate_limits (dictionary_in words) (dictionary_in words) type ≡ Definition.Refused TypeNotDefined
-  message-none_by (Letters letters) missing =
+  message-none_by (Some letters) missing =
       ap (Definition.on_message gate_limits (dictionary_in words) (dictionary_in words)) (message-missing words small passed letters missing)
-  message-none_by NoLetters missing = refl
+  message-none_by None missing = refl
 
-  pub message-begins : (number : ℕ) → Words.message_of words value ≡ At number → Begins words number
+  pub message-begins : (number : ℕ) → Words.message_of words value ≡ Some number → Begins words number
   unfolding Words.message_of
   message-begins number there = (message-begins_by (message_type_of value) number there).0
 
-  pub traced_undefined : (trace : List ℕ) → Words.message_of words value ≡ Nothing → Traced words value (Stopped (Error TypeNotDefined)) trace
+  pub traced_undefined : (trace : List ℕ) → Words.message_of words value ≡ None → Traced words value (Err (Error TypeNotDefined)) trace
   unfolding Words.message_of Traced expand_of
   traced_undefined trace missing = message-none_by (message_type_of value) missing
 
-  pub traced_built : (number : ℕ) (added : Added) (trace : List ℕ)
-      → Words.message_of words value ≡ At number
+  pub traced_built : (number : ℕ) (added : Result Code.Builder Stop) (trace : List ℕ)
+      → Words.message_of words value ≡ Some number
       → Built words number added trace
       → Traced words value added trace
   unfolding Words.message_of Traced Built expand_of outcome_of
-  traced_built number (Done builder) trace there built = (
+  traced_built number (Ok builder) trace there built = (
     (built_of words number).level,
     (
       built.0,
@@ -241,7 +233,7 @@ module _ (words : List ℕ) (small : Words32 words) (passed : is_dictionary word
       ),
     ),
   )
-  traced_built number (Stopped NoRoom) trace there built = built
-  traced_built number (Stopped (Error refusal)) trace there built =
+  traced_built number (Err NoRoom) trace there built = built
+  traced_built number (Err (Error refusal)) trace there built =
       (message-begins_by (message_type_of value) number there).1
       ∙ ap (λ (errors : List Refusal). Definition.answered errors (built_of words number)) built.1

@@ -8,11 +8,10 @@ ghost use Rattle.expansion.specs.Trace.{Fits};
 ghost use Rattle.bodies.specs.ExpansionPromises.{fill_at, Uses};
 ghost use Rattle.build.specs.BuildPromises.{Built, Traced};
 
-use ascending::search::Found;
-use bodies::add_body::{add_body, outcome};
+use bodies::add_body::add_body;
 use definitions::definitions::message_of;
 use dictionary::dictionary_check::stands_at;
-use expansion::builder::{Added, Builder, Stop};
+use expansion::builder::{Builder, Stop};
 use refusals::refusal::Refusal;
 
 // Document 01: "top 0; over 32 refuses". So 33 depths are left at the top.
@@ -29,13 +28,10 @@ const BEGIN_TRAILER: u32 = 4;
 fn is_definition(kind: u32) -> bool
     ensures { result ≡ (kind ≡ᵇ 1 || kind ≡ᵇ 2) }
 {
-    if kind == DEFINITION {
-        return true;
-    }
-    kind == VALUE
+    kind == DEFINITION || kind == VALUE
 }
 
-// The place of the line that opens the header: the definitions stand before it, and none behind it. So it is found by halving.
+// The place of the line that opens the header: the definitions stand before it, and none after it. So it is found by halving.
 fn header_of(words: &[u32]) -> usize
     requires { is_dictionary words.now ≡ true }
     ensures { result ≡ place_of 3 0 (word_lines words.now) }
@@ -53,7 +49,7 @@ fn header_of(words: &[u32]) -> usize
     first
 }
 
-// The place of the line that opens the trailer, which stands behind the header's.
+// The place of the line that opens the trailer, which stands after the header's.
 fn trailer_of(words: &[u32], header: usize) -> usize
     requires { (is_dictionary words.now ≡ true) × (header ≡ place_of 3 0 (word_lines words.now)) }
     ensures { result ≡ place_of 4 0 (word_lines words.now) }
@@ -67,19 +63,17 @@ fn trailer_of(words: &[u32], header: usize) -> usize
     }
 }
 
-// Adds the body behind a line to the message level.
-fn add_top(words: &[u32], line: usize, trace: &mut [u64], builder: Builder) -> Added
+// Adds the body after a line to the message level.
+fn add_top(words: &[u32], line: usize, trace: &mut [u64], builder: Builder) -> Result<Builder, Stop>
     requires { (is_dictionary words.now ≡ true) × (Begins words.now line × Fits builder) }
     ensures { Uses (fill_at words.now 33 [] true (line + 1)) builder trace.old result trace.new }
 {
-    let nothing_open = &words[0..0];
-    let first = line + 1;
-    let filled = add_body(words, first, DEPTHS, nothing_open, true, trace, builder);
-    outcome(filled)
+    let (_, filled) = add_body(words, line + 1, DEPTHS, &[], true, trace, builder)?;
+    Ok(filled)
 }
 
 // Builds the message level: header and trailer, then the fields, groups and uses of the message whose line is at this place.
-pub fn build(words: &[u32], message: usize, trace: &mut [u64]) -> Added
+pub fn build(words: &[u32], message: usize, trace: &mut [u64]) -> Result<Builder, Stop>
     requires { (is_dictionary words.now ≡ true) × Begins words.now message }
     ensures { Built words.now message result trace.new }
 {
@@ -91,22 +85,18 @@ pub fn build(words: &[u32], message: usize, trace: &mut [u64]) -> Added
         required: 0,
         len: 0,
     };
-    match add_top(words, header, trace, nothing) {
-        Added::Stopped(stop) => Added::Stopped(stop),
-        Added::Done(head) => match add_top(words, trailer, trace, head) {
-            Added::Stopped(stop) => Added::Stopped(stop),
-            Added::Done(envelope) => add_top(words, message, trace, envelope),
-        },
-    }
+    let head = add_top(words, header, trace, nothing)?;
+    let envelope = add_top(words, trailer, trace, head)?;
+    add_top(words, message, trace, envelope)
 }
 
 // Writes the trace of the expansion of the message type.
-pub fn expand(words: &[u32], value: &[u8], trace: &mut [u64]) -> Added
+pub fn expand(words: &[u32], value: &[u8], trace: &mut [u64]) -> Result<Builder, Stop>
     requires { is_dictionary words.now ≡ true }
     ensures { Traced words.now value.now result trace.new }
 {
-    match message_of(words, value) {
-        Found::Nothing => Added::Stopped(Stop::Error(Refusal::TypeNotDefined)),
-        Found::At(number) => build(words, number, trace),
-    }
+    let Some(number) = message_of(words, value) else {
+        return Err(Stop::Error(Refusal::TypeNotDefined));
+    };
+    build(words, number, trace)
 }

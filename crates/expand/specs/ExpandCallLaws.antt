@@ -1,6 +1,6 @@
 -- Laws of `ExpandCall.antt`, and the steps of `expand`. `expanded-is_layout`: what `expand` wrote passes the check of lent layout words; `expanded-fits`: it is
 -- no more than was lent; `expanded-few`: the nodes spent are at most 4,096. Assumes nothing.
-use Rattle.std.specs.Prelude.{◌≡◌, refl, ℕ, suc, ◌+◌, ◌*◌, ◌-◌, ◌≤◌, ◌<◌, Bool, true, false, cond, List, [], ◌∷◌, ◌++◌, leb, take, drop}
+use Rattle.std.specs.Prelude.{◌≡◌, refl, ℕ, suc, ◌+◌, ◌*◌, ◌-◌, ◌≤◌, ◌<◌, Bool, true, false, cond, List, [], ◌++◌, leb, take, drop, Result, Ok, Err}
 use Rattle.std.proofs.Common.{sym, ◌∙◌, length-take-le, le-leb, leb-true}
 use Rattle.std.proofs.Math.Path.{ap}
 use native.Mathlib.Omega.{arith}
@@ -11,7 +11,7 @@ use Rattle.refusals.specs.declared.refusal.Refusal.{Refusal}
 use Rattle.refusals.specs.declared.refusal.Refusal.TheVariants.{UnknownForm, SpaceShort}
 use Rattle.dictionary.specs.DictionaryCheck.{is_dictionary}
 use Rattle.layouts.specs.Limits.{gate_limits}
-use Rattle.layouts.specs.Layout.{Layout, groups_of, groups_below, entry}
+use Rattle.layouts.specs.Layout.{Layout, groups_of}
 use Rattle.layouts.specs.LayoutLaws.{group_total, group_total-first, groups_below-total}
 use Rattle.layouts.specs.LayoutWords.{first_member, arranged}
 use Rattle.layouts.specs.LayoutCheck.{is_layout}
@@ -19,12 +19,9 @@ use Rattle.layouts.specs.LayoutCheckComplete.{arranged-is_layout}
 use Rattle.layouts.specs.GatheredLayout.{Gathered, RowsInside, gathered_words}
 use Rattle.layouts.specs.GatheredLayoutLaws.{gathered-needed, gathered-written, gathered-inside}
 use Rattle.expansion.specs.declared.builder.Builder as Code
-use Rattle.expansion.specs.declared.builder.Added.{Added}
-use Rattle.expansion.specs.declared.builder.Added.TheVariants as added
 use Rattle.expansion.specs.declared.builder.Stop.TheVariants.{Error, NoRoom}
 use Rattle.arrange.specs.declared.arrange.Gathering.{Gathering}
 use Rattle.expand.specs.declared.expand_call.Expanded.{Expanded}
-use Rattle.expand.specs.declared.expand_call.Expanded.TheVariants.{Done, Refused}
 use Rattle.bodies.specs.DictionaryInWords.{dictionary_in, expansion_in}
 use Rattle.expansion.specs.Expansion as definition
 use Rattle.expansion.specs.Expansion.{OpenLevel, finish}
@@ -41,42 +38,30 @@ use Rattle.arrange.specs.ArrangeGather.{layout_told, level_count, GatherRoom, Ga
 use Rattle.arrange.specs.ArrangeGatherLaws.{level_count-within}
 use Rattle.expand.specs.ExpandCall.{layout_answer, layout_with, expanded_of, expanded_in}
 use Rattle.expand.specs.ExpandSteps.{told_answer, told_with}
+use Rattle.expansion.specs.declared.builder.Builder.{Builder}
+use Rattle.expansion.specs.declared.builder.Stop.{Stop}
 
 -- ---- the memory for arranging
 
-module _ (size : ℕ) (small : size ≤ 1024) (trace : List ℕ) (short : length trace ≤ size) where
-  pub short-levels : level_count trace ≤ size + 1
-  short-levels = omega (arith, level_count-within trace, groups-counted trace, short)
+-- a trace of so many words tells of a level for each word at most, and of the top
+pub short-levels : (size : ℕ) (trace : List ℕ) → length trace ≤ size → level_count trace ≤ size + 1
+short-levels size trace short = omega (arith, level_count-within trace, groups-counted trace, short)
 
-  pub short-room : (members required tags rows : List ℕ)
-      → length members ≡ size
-      → length required ≡ size
-      → length tags ≡ size
-      → length rows ≡ 6 * size + 6
-      → GatherRoom trace members required tags rows
-  short-room members required tags rows one two three four = record {
-    short = omega (arith, short);
-    for_members = omega (arith, members-counted trace, short, one);
-    for_required = omega (arith, required-counted trace, short, two);
-    for_tags = omega (arith, groups-counted trace, short, three);
-    for_rows = omega (arith, short-levels, four);
-    few = omega (arith, short-levels);
-  }
-
-pub long_room : (trace members required tags rows : List ℕ)
-    → length trace ≤ 14336
+pub gather_room : (size : ℕ) (trace members required tags rows : List ℕ)
+    → size ≤ 14336
+    → length trace ≤ size
     → level_count trace ≤ 4097
-    → length members ≡ 14336
-    → length required ≡ 14336
-    → length tags ≡ 14336
-    → length rows ≡ 24582
+    → length members ≡ size
+    → length required ≡ size
+    → length tags ≡ size
+    → 6 * level_count trace ≤ length rows
     → GatherRoom trace members required tags rows
-long_room trace members required tags rows short few one two three four = record {
-  short = omega (arith, short);
+gather_room size trace members required tags rows small short few one two three four = record {
+  short = omega (arith, short, small);
   for_members = omega (arith, members-counted trace, short, one);
   for_required = omega (arith, required-counted trace, short, two);
   for_tags = omega (arith, groups-counted trace, short, three);
-  for_rows = omega (arith, few, four);
+  for_rows = four;
   few = omega (arith, few);
 }
 
@@ -90,33 +75,25 @@ module _ (trace members required rows : List ℕ) (nodes : ℕ) (all : Gathering
 
     -- what `put_layout` is lent
     abbrev lent_members : List ℕ
-    lent_members = take (all.members - 0) members
+    lent_members = take all.members members
 
     abbrev lent_required : List ℕ
-    lent_required = take (all.required - 0) required
+    lent_required = take all.required required
 
     abbrev lent_rows : List ℕ
-    lent_rows = take (6 * all.levels - 0) rows
+    lent_rows = take (6 * all.levels) rows
 
     abbrev needed : ℕ
     needed = 7 + 6 * groups + all.members + all.required
 
     parts-lent : Gathered (layout_told trace) groups lent_members lent_required lent_rows
-    parts-lent =
-        let one : all.members - 0 ≡ all.members = omega arith in
-        let two : all.required - 0 ≡ all.required = omega arith in
-        let three : 6 * all.levels - 0 ≡ 6 * all.levels = omega arith in
-        rw (one, two, three) gathered.parts
+    parts-lent = gathered.parts
 
     members-lent : length lent_members ≡ all.members
-    members-lent =
-        let one : all.members - 0 ≡ all.members = omega arith in
-        rw one (length-take-le all.members members gathered.members_inside)
+    members-lent = length-take-le all.members members gathered.members_inside
 
     required-lent : length lent_required ≡ all.required
-    required-lent =
-        let two : all.required - 0 ≡ all.required = omega arith in
-        rw two (length-take-le all.required required gathered.required_inside)
+    required-lent = length-take-le all.required required gathered.required_inside
 
     whole : length (arranged (layout_told trace)) ≡ needed
     whole = omega (arith, gathered-needed (layout_told trace) groups lent_members lent_required lent_rows parts-lent, members-lent, required-lent)
@@ -124,7 +101,7 @@ module _ (trace members required rows : List ℕ) (nodes : ℕ) (all : Gathering
     pub needed-fits : needed < 4294967296
     needed-fits = omega (arith, gathered.few_levels, few, gathered.members_inside, gathered.required_inside, short, also)
 
-    pub layout-short : length words < needed → (Refused (SpaceShort needed) ≡ told_answer trace nodes (length words)) × (words ≡ told_with trace nodes words)
+    pub layout-short : length words < needed → (Err (SpaceShort needed) ≡ told_answer trace nodes (length words)) × (words ≡ told_with trace nodes words)
     layout-short small = rw (whole, lt-leb needed (length words) small) (refl, refl)
 
     module _ (room : needed ≤ length words) where
@@ -139,47 +116,46 @@ module _ (trace members required rows : List ℕ) (nodes : ℕ) (all : Gathering
 
       pub layout-written : (words_now : List ℕ)
           → words_now ≡ sets words 0 (gathered_words groups lent_members lent_required lent_rows)
-          → (Done nodes needed ≡ told_answer trace nodes (length words)) × (words_now ≡ told_with trace nodes words)
+          → (Ok (record { nodes = nodes; words = needed }) ≡ told_answer trace nodes (length words)) × (words_now ≡ told_with trace nodes words)
       layout-written words_now written =
           let layout = layout_told trace in
           let put : words_now ≡ arranged layout ++ drop (length (arranged layout)) words =
           written ∙ gathered-written layout groups lent_members lent_required lent_rows parts-lent words (omega (arith, members-lent, required-lent, room)) in
           let fits : length (arranged layout) ≤ length words = omega (arith, whole, room) in
-          rw (le-leb (length (arranged layout)) (length words) fits) (ap (λ (count : ℕ). Done nodes count) (sym whole), put)
+          rw (le-leb (length (arranged layout)) (length words) fits) (ap (λ (count : ℕ). Ok (record { nodes = nodes; words = count })) (sym whole), put)
 
 -- ---- expand
 
 module _ (dictionary type : List ℕ) (words : List ℕ) where
   pub expand_no_dictionary : is_dictionary dictionary ≡ false
-      → (Refused (UnknownForm 0) ≡ expanded_of dictionary type (length words)) × (words ≡ expanded_in dictionary type words)
+      → (Err (UnknownForm 0) ≡ expanded_of dictionary type (length words)) × (words ≡ expanded_in dictionary type words)
   unfolding expanded_of expanded_in
   expand_no_dictionary fails = rw fails (refl, refl)
 
-  module _ (passes : is_dictionary dictionary ≡ true) (outcome : Added) (trace : List ℕ) (traced : Traced dictionary type outcome trace) where
+  module _ (passes : is_dictionary dictionary ≡ true) (outcome : Result Builder Stop) (trace : List ℕ) (traced : Traced dictionary type outcome trace) where
     pub expand_refused : (refusal : Refusal)
-        → outcome ≡ added.Stopped (Error refusal)
-        → (Refused refusal ≡ expanded_of dictionary type (length words)) × (words ≡ expanded_in dictionary type words)
+        → outcome ≡ Err (Error refusal)
+        → (Err refusal ≡ expanded_of dictionary type (length words)) × (words ≡ expanded_in dictionary type words)
     unfolding Traced expanded_of expanded_in
     expand_refused refusal is = let given : expansion_in dictionary type ≡ definition.Refused refusal = rw is at traced in rw (passes, given) (refl, refl)
 
     -- a trace that has a word for each step that the limits allow has room
-    pub expand_room : outcome ≡ added.Stopped NoRoom → 14336 ≤ length trace → ⊥
+    pub expand_room : outcome ≡ Err NoRoom → length trace < 14336
     unfolding Traced
-    expand_room is size = let short : length trace < 14336 = rw is at traced in omega arith
+    expand_room is = rw is at traced
 
-    module _ (builder : Code.Builder) (is : outcome ≡ added.Done builder) where
+    module _ (builder : Code.Builder) (is : outcome ≡ Ok builder) where
       abbrev pub told : List ℕ
-      told = take (builder.len - 0) trace
+      told = take builder.len trace
 
-      done : Traced dictionary type (added.Done builder) trace
+      done : Traced dictionary type (Ok builder) trace
       done = rw is at traced
 
       same_layout : expansion_in dictionary type ≡ definition.Expanded (layout_told told) builder.nodes
       unfolding Traced
       same_layout =
           let level = done.0 in
-          let all : builder.len - 0 ≡ builder.len = omega arith in
-          let stands = trace-told told (top_frame level) (rw all done.1.0) in
+          let stands = trace-told told (top_frame level) done.1.0 in
           done.1.1.0 ∙ ap (λ (reached : OpenLevel). definition.Expanded (finish reached) builder.nodes) stands
 
       fits : Fits builder
@@ -190,12 +166,10 @@ module _ (dictionary type : List ℕ) (words : List ℕ) where
       trace-short = omega (arith, fits.nodes, fits.members, fits.required, fits.len)
 
       pub told-length : builder.len ≤ length trace → length told ≡ builder.len
-      told-length inside =
-          let all : builder.len - 0 ≡ builder.len = omega arith in
-          rw all (length-take-le builder.len trace inside)
+      told-length inside = length-take-le builder.len trace inside
 
-      pub told-short : 14336 ≤ length trace → length told ≤ 14336
-      told-short size = omega (arith, told-length (omega (arith, trace-short, size)), trace-short)
+      pub told-short : builder.len ≤ length trace → length told ≤ 14336
+      told-short inside = omega (arith, told-length inside, trace-short)
 
       pub few_levels : level_count told ≤ 4097
       few_levels =
@@ -207,7 +181,7 @@ module _ (dictionary type : List ℕ) (words : List ℕ) where
             expanded-groups gate_limits (dictionary_in dictionary) (dictionary_in dictionary) type (layout_told told) builder.nodes same_layout,
           )
 
-      pub expand_arranged : (answer : Expanded) (words_now : List ℕ)
+      pub expand_arranged : (answer : Result Expanded Refusal) (words_now : List ℕ)
           → answer ≡ told_answer told builder.nodes (length words)
           → words_now ≡ told_with told builder.nodes words
           → (answer ≡ expanded_of dictionary type (length words)) × (words_now ≡ expanded_in dictionary type words)
@@ -216,17 +190,25 @@ module _ (dictionary type : List ℕ) (words : List ℕ) where
 
 -- ---- what was written is a layout's
 
+abbrev words_in : Result Expanded Refusal → ℕ
+words_in (Ok expanded) = expanded.words
+words_in (Err refusal) = 0
+
+abbrev nodes_in : Result Expanded Refusal → ℕ
+nodes_in (Ok expanded) = expanded.nodes
+nodes_in (Err refusal) = 0
+
 module _ (dictionary type words : List ℕ) (nodes written : ℕ) where
   room_by : (test : Bool) (layout : Layout) (spent : ℕ)
       → is_layout gate_limits (arranged layout ++ drop (length (arranged layout)) words) ≡ true
-      → cond test (Done spent (length (arranged layout))) (Refused (SpaceShort (length (arranged layout)))) ≡ Done nodes written
+      → cond {A = Result Expanded Refusal} test (Ok (record { nodes = spent; words = (length (arranged layout)) })) (Err (SpaceShort (length (arranged layout)))) ≡ Ok (record { nodes = nodes; words = written })
       → is_layout gate_limits (cond test (arranged layout ++ drop (length (arranged layout)) words) words) ≡ true
   room_by true layout spent holds given = holds
   room_by false layout spent holds given = let never : ◌≡◌ {A = ℕ} 0 1 = cc in absurd (omega arith)
 
   expansion_by : (expansion : definition.Expansion)
       → expansion_in dictionary type ≡ expansion
-      → layout_answer expansion (length words) ≡ Done nodes written
+      → layout_answer expansion (length words) ≡ Ok (record { nodes = nodes; words = written })
       → is_layout gate_limits (layout_with expansion words) ≡ true
   expansion_by (definition.Expanded layout spent) is given =
       room_by (leb (length (arranged layout)) (length words)) layout spent
@@ -237,50 +219,50 @@ module _ (dictionary type words : List ℕ) (nodes written : ℕ) where
   expansion_by (definition.Refused refusal) is given = let never : ◌≡◌ {A = ℕ} 0 1 = cc in absurd (omega arith)
 
   check_by : (test : Bool)
-      → cond test (layout_answer (expansion_in dictionary type) (length words)) (Refused (UnknownForm 0)) ≡ Done nodes written
+      → cond test (layout_answer (expansion_in dictionary type) (length words)) (Err (UnknownForm 0)) ≡ Ok (record { nodes = nodes; words = written })
       → is_layout gate_limits (cond test (layout_with (expansion_in dictionary type) words) words) ≡ true
   check_by true given = expansion_by (expansion_in dictionary type) refl given
   check_by false given = let never : ◌≡◌ {A = ℕ} 0 1 = cc in absurd (omega arith)
 
   -- the words that were written were lent
-  fits_by : (test : Bool) (size spent : ℕ) → leb size (length words) ≡ test → cond test (Done spent size) (Refused (SpaceShort size)) ≡ Done nodes written → written ≤ length words
-  fits_by true size spent inside given = let same : size ≡ written = cc in omega (arith, leb-true size (length words) inside, same)
+  fits_by : (test : Bool) (size spent : ℕ) → leb size (length words) ≡ test → cond {A = Result Expanded Refusal} test (Ok (record { nodes = spent; words = size })) (Err (SpaceShort size)) ≡ Ok (record { nodes = nodes; words = written }) → written ≤ length words
+  fits_by true size spent inside given = let same : size ≡ written = ap words_in given in omega (arith, leb-true size (length words) inside, same)
   fits_by false size spent inside given = let never : ◌≡◌ {A = ℕ} 0 1 = cc in absurd (omega arith)
 
-  answer-fits : (expansion : definition.Expansion) → layout_answer expansion (length words) ≡ Done nodes written → written ≤ length words
+  answer-fits : (expansion : definition.Expansion) → layout_answer expansion (length words) ≡ Ok (record { nodes = nodes; words = written }) → written ≤ length words
   answer-fits (definition.Expanded layout spent) given = fits_by (leb (length (arranged layout)) (length words)) (length (arranged layout)) spent refl given
   answer-fits (definition.Refused refusal) given = let never : ◌≡◌ {A = ℕ} 0 1 = cc in absurd (omega arith)
 
-  check_fits : (test : Bool) → cond test (layout_answer (expansion_in dictionary type) (length words)) (Refused (UnknownForm 0)) ≡ Done nodes written → written ≤ length words
+  check_fits : (test : Bool) → cond test (layout_answer (expansion_in dictionary type) (length words)) (Err (UnknownForm 0)) ≡ Ok (record { nodes = nodes; words = written }) → written ≤ length words
   check_fits true given = answer-fits (expansion_in dictionary type) given
   check_fits false given = let never : ◌≡◌ {A = ℕ} 0 1 = cc in absurd (omega arith)
 
-  pub expanded-fits : expanded_of dictionary type (length words) ≡ Done nodes written → written ≤ length words
+  pub expanded-fits : expanded_of dictionary type (length words) ≡ Ok (record { nodes = nodes; words = written }) → written ≤ length words
   unfolding expanded_of
   expanded-fits given = check_fits (is_dictionary dictionary) given
 
-  pub expanded-is_layout : expanded_of dictionary type (length words) ≡ Done nodes written → is_layout gate_limits (expanded_in dictionary type words) ≡ true
+  pub expanded-is_layout : expanded_of dictionary type (length words) ≡ Ok (record { nodes = nodes; words = written }) → is_layout gate_limits (expanded_in dictionary type words) ≡ true
   unfolding expanded_of expanded_in
   expanded-is_layout given = check_by (is_dictionary dictionary) given
 
 -- ---- the nodes spent
 
 module _ (dictionary type : List ℕ) (space nodes written : ℕ) where
-  few-by : (test : Bool) (size spent : ℕ) → spent ≤ 4096 → cond test (Done spent size) (Refused (SpaceShort size)) ≡ Done nodes written → nodes ≤ 4096
-  few-by true size spent few given = let same : spent ≡ nodes = cc in omega (arith, few, same)
+  few-by : (test : Bool) (size spent : ℕ) → spent ≤ 4096 → cond {A = Result Expanded Refusal} test (Ok (record { nodes = spent; words = size })) (Err (SpaceShort size)) ≡ Ok (record { nodes = nodes; words = written }) → nodes ≤ 4096
+  few-by true size spent few given = let same : spent ≡ nodes = ap nodes_in given in omega (arith, few, same)
   few-by false size spent few given = let never : ◌≡◌ {A = ℕ} 0 1 = cc in absurd (omega arith)
 
-  answer-few : (expansion : definition.Expansion) → expansion_in dictionary type ≡ expansion → layout_answer expansion space ≡ Done nodes written → nodes ≤ 4096
+  answer-few : (expansion : definition.Expansion) → expansion_in dictionary type ≡ expansion → layout_answer expansion space ≡ Ok (record { nodes = nodes; words = written }) → nodes ≤ 4096
   answer-few (definition.Expanded layout spent) is given =
       few-by (leb (length (arranged layout)) space) (length (arranged layout)) spent
       (expanded-nodes gate_limits (dictionary_in dictionary) (dictionary_in dictionary) type layout spent is)
       given
   answer-few (definition.Refused refusal) is given = let never : ◌≡◌ {A = ℕ} 0 1 = cc in absurd (omega arith)
 
-  check_few : (test : Bool) → cond test (layout_answer (expansion_in dictionary type) space) (Refused (UnknownForm 0)) ≡ Done nodes written → nodes ≤ 4096
+  check_few : (test : Bool) → cond test (layout_answer (expansion_in dictionary type) space) (Err (UnknownForm 0)) ≡ Ok (record { nodes = nodes; words = written }) → nodes ≤ 4096
   check_few true given = answer-few (expansion_in dictionary type) refl given
   check_few false given = let never : ◌≡◌ {A = ℕ} 0 1 = cc in absurd (omega arith)
 
-  pub expanded-few : expanded_of dictionary type space ≡ Done nodes written → nodes ≤ 4096
+  pub expanded-few : expanded_of dictionary type space ≡ Ok (record { nodes = nodes; words = written }) → nodes ≤ 4096
   unfolding expanded_of
   expanded-few given = check_few (is_dictionary dictionary) given

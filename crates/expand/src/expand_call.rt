@@ -1,22 +1,21 @@
 // The expansion of a message type, on lent words: from a dictionary's words to those of the type's layout.
-ghost use Rattle.std.specs.Prelude.{◌≡◌, true, ◌≤◌, length};
+ghost use Rattle.std.specs.Prelude.{◌≡◌, true, ◌*◌, ◌≤◌, length};
 ghost use Rattle.dictionary.specs.DictionaryCheck.{is_dictionary};
 ghost use Rattle.arrange.specs.ArrangeGather.{level_count, GatherRoom};
 ghost use Rattle.expand.specs.ExpandCall.{expanded_of, expanded_in};
-ghost use Rattle.expand.specs.ExpandSteps.{told_answer, told_with};
+ghost use Rattle.expand.specs.ExpandSteps.{told_answer, told_with, ExpandedIn};
 
 use arrange::arrange::gather;
 use dictionary::dictionary_check::is_dictionary;
-use expansion::builder::{Added, Stop};
+use expansion::builder::Stop;
 use layouts::put_layout::put_layout;
 use refusals::refusal::Refusal;
 
 // What the expansion of a message type gives.
 #[derive(Clone, Copy)]
-pub enum Expanded {
-    // how many nodes were spent, and how many words were written
-    Done { nodes: usize, words: usize },
-    Refused(Refusal),
+pub struct Expanded {
+    pub nodes: usize,
+    pub words: usize,
 }
 
 // Writes the layout that the trace tells of, gathered in the memory that is lent for it.
@@ -28,44 +27,47 @@ fn arrange(
     tags: &mut [u32],
     rows: &mut [u32],
     layout: &mut [u32],
-) -> Expanded
+) -> Result<Expanded, Refusal>
     requires { GatherRoom trace.now members.old required.old tags.old rows.old × (length members.old ≤ 14336) × (length required.old ≤ 14336) × (level_count trace.now ≤ 4097) }
     ensures outcome { result ≡ told_answer trace.now nodes (length layout.old) }
     ensures memory { layout.new ≡ told_with trace.now nodes layout.old }
 {
     let all = gather(trace, members, required, tags, rows);
-    let levels = all.levels;
-    let member_count = all.members;
-    let required_count = all.required;
-    let groups = levels - 1;
-    let row_words = 6 * levels;
-    let needed = 7 + 6 * groups + member_count + required_count;
+    let groups = all.levels - 1;
+    let row_words = 6 * all.levels;
+    let needed = 7 + 6 * groups + all.members + all.required;
     if layout.len() < needed {
-        return Expanded::Refused(Refusal::SpaceShort(needed as u64));
+        return Err(Refusal::SpaceShort(needed as u64));
     }
     put_layout(
         layout,
         groups,
-        &members[0..member_count],
-        &required[0..required_count],
-        &rows[0..row_words],
+        &members[..all.members],
+        &required[..all.required],
+        &rows[..row_words],
     );
-    Expanded::Done {
+    Ok(Expanded {
         nodes,
         words: needed,
-    }
+    })
 }
 
-// A trace of up to 512 words, as a message type mostly has, takes little memory: less to clear.
-fn arrange_short(trace: &[u64], nodes: usize, layout: &mut [u32]) -> Expanded
-    requires { length trace.now ≤ 512 }
+// Writes the layout that the trace tells of, gathered in memory for so many words and rows. It is
+// compiled by itself, so that a call takes no more memory than it needs.
+#[inline(never)]
+fn arrange_in<const WORDS: usize, const ROWS: usize>(
+    trace: &[u64],
+    nodes: usize,
+    layout: &mut [u32],
+) -> Result<Expanded, Refusal>
+    requires { (WORDS ≤ 14336) × (ROWS ≤ 24582) × (length trace.now ≤ WORDS) × (level_count trace.now ≤ 4097) × (6 * level_count trace.now ≤ ROWS) }
     ensures outcome { result ≡ told_answer trace.now nodes (length layout.old) }
     ensures memory { layout.new ≡ told_with trace.now nodes layout.old }
 {
-    let mut members = [0u32; 512];
-    let mut required = [0u32; 512];
-    let mut tags = [0u32; 512];
-    let mut rows = [0u32; 3078];
+    let mut members = [0u32; WORDS];
+    let mut required = [0u32; WORDS];
+    let mut tags = [0u32; WORDS];
+    let mut rows = [0u32; ROWS];
     arrange(
         trace,
         nodes,
@@ -77,102 +79,62 @@ fn arrange_short(trace: &[u64], nodes: usize, layout: &mut [u32]) -> Expanded
     )
 }
 
-// A trace of up to 1,024 words.
-fn arrange_middle(trace: &[u64], nodes: usize, layout: &mut [u32]) -> Expanded
-    requires { length trace.now ≤ 1024 }
-    ensures outcome { result ≡ told_answer trace.now nodes (length layout.old) }
-    ensures memory { layout.new ≡ told_with trace.now nodes layout.old }
-{
-    let mut members = [0u32; 1024];
-    let mut required = [0u32; 1024];
-    let mut tags = [0u32; 1024];
-    let mut rows = [0u32; 6150];
-    arrange(
-        trace,
-        nodes,
-        &mut members,
-        &mut required,
-        &mut tags,
-        &mut rows,
-        layout,
-    )
-}
-
-// A trace of any length: 4,096 groups and the top have 24,582 words in rows.
-fn arrange_long(trace: &[u64], nodes: usize, layout: &mut [u32]) -> Expanded
+// Writes the layout that the trace tells of. A message type mostly has a short trace, which takes
+// little memory: less to clear. The top and as many groups as the trace has words take six words
+// each in rows, and 4,096 groups are the most.
+fn arrange_told(trace: &[u64], nodes: usize, layout: &mut [u32]) -> Result<Expanded, Refusal>
     requires { (length trace.now ≤ 14336) × (level_count trace.now ≤ 4097) }
     ensures outcome { result ≡ told_answer trace.now nodes (length layout.old) }
     ensures memory { layout.new ≡ told_with trace.now nodes layout.old }
 {
-    let mut members = [0u32; 14336];
-    let mut required = [0u32; 14336];
-    let mut tags = [0u32; 14336];
-    let mut rows = [0u32; 24582];
-    arrange(
-        trace,
-        nodes,
-        &mut members,
-        &mut required,
-        &mut tags,
-        &mut rows,
-        layout,
-    )
-}
-
-// Expands a message type whose trace may have as many words as the limits allow. The trace has room for them.
-fn expand_long(dictionary: &[u32], message_type: &[u8], layout: &mut [u32]) -> Expanded
-    requires { is_dictionary dictionary.now ≡ true }
-    ensures outcome { result ≡ expanded_of dictionary.now message_type.now (length layout.old) }
-    ensures memory { layout.new ≡ expanded_in dictionary.now message_type.now layout.old }
-{
-    let mut trace = [0u64; 14336];
-    match build::build::expand(dictionary, message_type, &mut trace) {
-        Added::Stopped(stop) => match stop {
-            Stop::Error(refusal) => Expanded::Refused(refusal),
-            Stop::NoRoom => Expanded::Refused(Refusal::MembersOver),
-        },
-        Added::Done(builder) => {
-            let len = builder.len;
-            arrange_long(&trace[0..len], builder.nodes, layout)
-        }
+    if trace.len() <= 512 {
+        arrange_in::<512, 3078>(trace, nodes, layout)
+    } else if trace.len() <= 1024 {
+        arrange_in::<1024, 6150>(trace, nodes, layout)
+    } else {
+        arrange_in::<14336, 24582>(trace, nodes, layout)
     }
 }
 
-// Expands a message type, first with a trace of 1,024 words, as a message type mostly needs. `expand_long` is called at two places, so that it is compiled by
-// itself: a call that does not need it does not take its memory.
-fn expand_short(dictionary: &[u32], message_type: &[u8], layout: &mut [u32]) -> Expanded
-    requires { is_dictionary dictionary.now ≡ true }
-    ensures outcome { result ≡ expanded_of dictionary.now message_type.now (length layout.old) }
-    ensures memory { layout.new ≡ expanded_in dictionary.now message_type.now layout.old }
+// Expands a message type with a trace of so many words; `None` where these are too few. It is
+// compiled by itself, as `arrange_in` is.
+#[inline(never)]
+fn expand_in<const WORDS: usize>(
+    dictionary: &[u32],
+    message_type: &[u8],
+    layout: &mut [u32],
+) -> Option<Result<Expanded, Refusal>>
+    requires { (is_dictionary dictionary.now ≡ true) × (WORDS ≤ 14336) }
+    ensures { ExpandedIn WORDS dictionary.now message_type.now layout.old result layout.new }
 {
-    let mut trace = [0u64; 1024];
+    let mut trace = [0u64; WORDS];
     match build::build::expand(dictionary, message_type, &mut trace) {
-        Added::Stopped(stop) => match stop {
-            Stop::Error(refusal) => Expanded::Refused(refusal),
-            Stop::NoRoom => expand_long(dictionary, message_type, layout),
-        },
-        Added::Done(builder) => {
-            let len = builder.len;
-            if len <= 512 {
-                return arrange_short(&trace[0..len], builder.nodes, layout);
-            }
-            if len <= 1024 {
-                return arrange_middle(&trace[0..len], builder.nodes, layout);
-            }
-            expand_long(dictionary, message_type, layout)
+        Ok(builder) => {
+            let told = trace.get(..builder.len)?;
+            Some(arrange_told(told, builder.nodes, layout))
         }
+        Err(Stop::Error(refusal)) => Some(Err(refusal)),
+        Err(Stop::NoRoom) => None,
     }
 }
 
 // Expands a message type of the dictionary in lent words, and writes the words of its layout. The Rust's `ScopeBuilder::expand`, with one
 // dictionary as transport and application: "Schema expansion shared by the validator and the group reader." Refuses dictionary words that do not
 // pass their check with 2, place 0; then 6, then 7 to 10 as met, then 13.
-pub fn expand(dictionary: &[u32], message_type: &[u8], layout: &mut [u32]) -> Expanded
+pub fn expand(
+    dictionary: &[u32],
+    message_type: &[u8],
+    layout: &mut [u32],
+) -> Result<Expanded, Refusal>
     ensures outcome { result ≡ expanded_of dictionary.now message_type.now (length layout.old) }
     ensures memory { layout.new ≡ expanded_in dictionary.now message_type.now layout.old }
 {
     if !is_dictionary(dictionary) {
-        return Expanded::Refused(Refusal::UnknownForm(0));
+        return Err(Refusal::UnknownForm(0));
     }
-    expand_short(dictionary, message_type, layout)
+    // as a message type mostly needs, and then as the limits allow
+    match expand_in::<1024>(dictionary, message_type, layout) {
+        Some(answer) => answer,
+        None => expand_in::<14336>(dictionary, message_type, layout).unwrap(),
+    }
 }

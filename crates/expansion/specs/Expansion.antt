@@ -19,12 +19,10 @@
 --   finish level                         the level with members and groups in order
 --   build limits transport dictionary message   the top level in work, everything added
 --   expand_of limits transport dictionary type   the layout of a message type and the nodes spent, or the refusal
-use Rattle.std.specs.Prelude.{ℕ, zero, suc, Bool, true, false, ◌&&◌, ◌||◌, List, [], ◌∷◌, ◌++◌, if◌then◌else◌}
+use Rattle.std.specs.Prelude.{ℕ, zero, suc, Bool, true, false, ◌&&◌, ◌||◌, List, [], ◌∷◌, ◌++◌, if◌then◌else◌, Option, Some, None}
 use Rattle.ascii.specs.Notation.{◌≤ᵇ◌, ◌<ᵇ◌, ◌≡ᵇ◌}
 use Rattle.refusals.specs.declared.refusal.Refusal.{Refusal}
 use Rattle.refusals.specs.declared.refusal.Refusal.TheVariants.{TextTooLong, UnknownForm, NotAllowed, TooManyOpen, DefinedAgain, TypeNotDefined, ComponentNotDefined, TooDeep, OutOfNodes, MembersOver, RuleBroken, BadField, SpaceShort, NoSuchGroup}
-use Rattle.lines.specs.declared.line_parts.MessageType.{MessageType}
-use Rattle.lines.specs.declared.line_parts.MessageType.TheVariants.{Letters, NoLetters}
 use Rattle.lines.specs.LineParts.{message_type_of}
 use Rattle.ascending.specs.Sort.{sorted, is_in}
 use Rattle.ascending.specs.Dedup.{deduped}
@@ -338,9 +336,9 @@ abbrev pub on_message : Limits → Dictionary → Dictionary → FoundBody → E
 on_message limits transport dictionary (Found message) = outcome_of (build limits transport dictionary message)
 on_message limits transport dictionary NotFound = Refused TypeNotDefined
 
-abbrev pub on_type : Limits → Dictionary → Dictionary → MessageType → Expansion
-on_type limits transport dictionary (Letters letters) = on_message limits transport dictionary (message_of dictionary letters)
-on_type limits transport dictionary NoLetters = Refused TypeNotDefined
+abbrev pub on_type : Limits → Dictionary → Dictionary → Option ℕ → Expansion
+on_type limits transport dictionary (Some letters) = on_message limits transport dictionary (message_of dictionary letters)
+on_type limits transport dictionary None = Refused TypeNotDefined
 
 unfoldable pub expand_of : Limits → Dictionary → Dictionary → List ℕ → Expansion
 expand_of limits transport dictionary type = on_type limits transport dictionary (message_type_of type)

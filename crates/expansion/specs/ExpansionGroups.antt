@@ -3,13 +3,13 @@
 --
 --   levels_in level                the level and all levels below it, counted
 --   GroupsAdded others work       each group of the level in work and below it was added with two members, and `others` members more
-use Rattle.std.specs.Prelude.{◌≡◌, refl, ℕ, suc, ◌+◌, ◌*◌, ◌≤◌, Bool, List, [], ◌∷◌, ◌++◌}
-use Rattle.std.proofs.Common.{sym, ap, ◌∙◌, arith}
+use Rattle.std.specs.Prelude.{◌≡◌, refl, ℕ, suc, ◌+◌, ◌*◌, ◌≤◌, Bool, List, [], ◌∷◌}
+use Rattle.std.proofs.Common.{ap, arith}
 use Rattle.refusals.specs.declared.refusal.Refusal.TheVariants.{MembersOver}
 use Rattle.layouts.specs.Limits.{Limits}
 use Rattle.layouts.specs.Layout.{Level, Groups, Group, Layout, level_of_lem, no_groups, group_and, group_of_lem, groups_below, groups_among, groups_with}
 use Rattle.expansion.specs.Dictionary.{Body, GroupDef, Dictionary, count_tag_of, delimiter_of}
-use Rattle.expansion.specs.Expansion.{Work, OpenLevel, empty_level, add_member, add_required, noted, push_member, open_entry, close_group, retained, finish, finish_entry, build, Expanded, expand_of}
+use Rattle.expansion.specs.Expansion.{Work, OpenLevel, empty_level, add_member, noted, push_member, open_entry, close_group, retained, finish, finish_entry, build, Expanded, expand_of}
 use Rattle.expansion.specs.ExpansionInduction.{Steps, keeps_build}
 use Rattle.expansion.specs.ExpansionLaws.{built, keeps_add_member, keeps_add_required, build-added}
 use Rattle.expansion.specs.ExpansionLimits.{size_below, size_among, size_with, size_listed, size_listed-append, size_below-listed, finished_groups, one_group, no_group, group-size}

@@ -4,11 +4,9 @@
 --   First refusal work                               the first error noted is this refusal
 use Rattle.std.proofs.Math.Path.{◌≡◌, refl}
 use Rattle.std.proofs.Common.{sym, arith, ltb-true}
-use Rattle.std.specs.Prelude.{ℕ, ◌≤◌, ◌<◌, Bool, true, false, cond, List, [], ◌∷◌, ◌++◌, ltb}
+use Rattle.std.specs.Prelude.{ℕ, ◌≤◌, ◌<◌, Bool, true, false, cond, List, [], ◌∷◌, ◌++◌, ltb, Option, Some, None}
 use Rattle.refusals.specs.declared.refusal.Refusal.{Refusal}
 use Rattle.refusals.specs.declared.refusal.Refusal.TheVariants.{MembersOver}
-use Rattle.lines.specs.declared.line_parts.MessageType.{MessageType}
-use Rattle.lines.specs.declared.line_parts.MessageType.TheVariants.{Letters, NoLetters}
 use Rattle.lines.specs.LineParts.{message_type_of}
 use Rattle.layouts.specs.Limits.{Limits}
 use Rattle.layouts.specs.Layout.{Layout}
@@ -37,9 +35,9 @@ module _ (limits : Limits) (transport dictionary : Dictionary) (layout : Layout)
   built-message (Found message) given = built-by (build limits transport dictionary message).builder.errors message refl given
   built-message NotFound given = let never : ◌≡◌ {A = ℕ} 0 1 = cc in absurd (omega arith)
 
-  built-type : (type : MessageType) → on_type limits transport dictionary type ≡ Expanded layout nodes → Built limits transport dictionary layout nodes
-  built-type (Letters letters) given = built-message (message_of dictionary letters) given
-  built-type NoLetters given = let never : ◌≡◌ {A = ℕ} 0 1 = cc in absurd (omega arith)
+  built-type : (type : Option ℕ) → on_type limits transport dictionary type ≡ Expanded layout nodes → Built limits transport dictionary layout nodes
+  built-type (Some letters) given = built-message (message_of dictionary letters) given
+  built-type None given = let never : ◌≡◌ {A = ℕ} 0 1 = cc in absurd (omega arith)
 
   pub built : (type : List ℕ) → expand_of limits transport dictionary type ≡ Expanded layout nodes → Built limits transport dictionary layout nodes
   unfolding expand_of

@@ -22,14 +22,12 @@
 --   Leaves delimiter builder before next after   the same for leaving a group
 --   Fits builder              what was added and spent is within the limits, and the trace has a word for each step so far
 --   Grows builder added       the builder that is given fits as well, with as many nodes spent or more
-use Rattle.std.specs.Prelude.{◌≡◌, ℕ, ◌+◌, ◌≤◌, ◌<◌, ◌/◌, ◌%◌, Bool, false, List, [], ◌∷◌, ◌++◌, length, take, if◌then◌else◌}
+use Rattle.std.specs.Prelude.{◌≡◌, ℕ, ◌+◌, ◌≤◌, ◌<◌, ◌/◌, ◌%◌, Bool, false, List, [], ◌∷◌, ◌++◌, length, take, if◌then◌else◌, Result, Ok, Err}
 use Rattle.ascii.specs.Notation.{◌≡ᵇ◌}
 use Rattle.refusals.specs.declared.refusal.Refusal.{Refusal}
 use Rattle.layouts.specs.Limits.{gate_limits}
 use Rattle.layouts.specs.Layout.{group_of_lem}
 use Rattle.expansion.specs.declared.builder.Builder as Code
-use Rattle.expansion.specs.declared.builder.Added.{Added}
-use Rattle.expansion.specs.declared.builder.Added.TheVariants.{Done, Stopped}
 use Rattle.expansion.specs.declared.builder.Stop.{Stop}
 use Rattle.expansion.specs.declared.builder.Stop.TheVariants.{Error, NoRoom}
 use Rattle.expansion.specs.Expansion.{Builder, OpenLevel, Work, Granted, Denied, empty_level, noted, finish_entry, spend, add_member, open_entry}
@@ -103,13 +101,13 @@ Stops NoRoom trace builder = length trace < 14336
 abbrev pub InWork : Code.Builder → List ℕ → Frame → List Frame → Type 0
 InWork builder trace frame outer = run at_start (take builder.len trace) ≡ frame ∷ outer
 
-unfoldable pub Adds : (Work → Work) → Code.Builder → List ℕ → Added → List ℕ → Type 0
-Adds change builder before (Done next) trace =
+unfoldable pub Adds : (Work → Work) → Code.Builder → List ℕ → Result Code.Builder Stop → List ℕ → Type 0
+Adds change builder before (Ok next) trace =
     (frame : Frame) (outer : List Frame)
     → InWork builder before frame outer
     → InWork next trace (with_level (change (work_of builder frame.level)).level frame) outer
     × ((change (work_of builder frame.level)).builder ≡ builder_of next)
-Adds change builder before (Stopped stop) trace =
+Adds change builder before (Err stop) trace =
     (frame : Frame) (outer : List Frame) → InWork builder before frame outer → Stops stop trace (change (work_of builder frame.level)).builder
 
 -- a node more, and a word of the trace more
@@ -119,13 +117,13 @@ node_more builder = record { nodes = builder.nodes + 1; members = builder.member
 abbrev pub word_more : Code.Builder → Code.Builder
 word_more builder = record { nodes = builder.nodes; members = builder.members; required = builder.required; len = builder.len + 1 }
 
-unfoldable pub SpendsNode : Code.Builder → ℕ → ℕ → Added → Type 0
-SpendsNode builder name depth_left (Done next) =
+unfoldable pub SpendsNode : Code.Builder → ℕ → ℕ → Result Code.Builder Stop → Type 0
+SpendsNode builder name depth_left (Ok next) =
     (next ≡ node_more builder)
     × ((level : OpenLevel) → spend gate_limits name depth_left (work_of builder level) ≡ Granted (work_of next level))
-SpendsNode builder name depth_left (Stopped (Error refusal)) =
+SpendsNode builder name depth_left (Err (Error refusal)) =
     (level : OpenLevel) → spend gate_limits name depth_left (work_of builder level) ≡ Denied (noted refusal (work_of builder level))
-SpendsNode builder name depth_left (Stopped NoRoom) = ⊥
+SpendsNode builder name depth_left (Err NoRoom) = ⊥
 
 pub record Fits (builder : Code.Builder) : Type 0 where
   pub nodes : builder.nodes ≤ 4096
@@ -139,9 +137,9 @@ pub record Grown (builder next : Code.Builder) : Type 0 where
   pub spent : builder.nodes ≤ next.nodes
   pub slack : next.len + (builder.members + builder.required + builder.nodes) ≤ builder.len + (next.members + next.required + next.nodes)
 
-unfoldable pub Grows : Code.Builder → Added → Type 0
-Grows builder (Done next) = Grown builder next
-Grows builder (Stopped stop) = Unit
+unfoldable pub Grows : Code.Builder → Result Code.Builder Stop → Type 0
+Grows builder (Ok next) = Grown builder next
+Grows builder (Err stop) = Unit
 
 pub record Entering (count : ℕ) (required : Bool) (word : ℕ) : Type 0 where
   pub step : word % 4 ≡ 2
@@ -152,25 +150,25 @@ pub record Entering (count : ℕ) (required : Bool) (word : ℕ) : Type 0 where
 abbrev pub entered : ℕ → ℕ → Work → Work
 entered count delimiter work = open_entry gate_limits delimiter (add_member gate_limits count work)
 
-unfoldable pub Enters : ℕ → Bool → ℕ → Code.Builder → List ℕ → Added → List ℕ → Type 0
-Enters count required delimiter builder before (Done next) trace =
+unfoldable pub Enters : ℕ → Bool → ℕ → Code.Builder → List ℕ → Result Code.Builder Stop → List ℕ → Type 0
+Enters count required delimiter builder before (Ok next) trace =
     (frame : Frame) (outer : List Frame)
     → InWork builder before frame outer
     → InWork next trace
     (record { count_tag = count; needed = required; level = (entered count delimiter (work_of builder frame.level)).level })
     (with_level (add_member gate_limits count (work_of builder frame.level)).level frame ∷ outer)
     × ((entered count delimiter (work_of builder frame.level)).builder ≡ builder_of next)
-Enters count required delimiter builder before (Stopped stop) trace =
+Enters count required delimiter builder before (Err stop) trace =
     (frame : Frame) (outer : List Frame)
     → InWork builder before frame outer
     → Stops stop trace (entered count delimiter (work_of builder frame.level)).builder
 
 -- leaving a group is a word more and no error
-unfoldable pub Leaves : ℕ → Code.Builder → List ℕ → Added → List ℕ → Type 0
-Leaves delimiter builder before (Done next) trace =
+unfoldable pub Leaves : ℕ → Code.Builder → List ℕ → Result Code.Builder Stop → List ℕ → Type 0
+Leaves delimiter builder before (Ok next) trace =
     ((entry around : Frame) (outer : List Frame)
     → InWork builder before entry (around ∷ outer)
     → (run at_start (take next.len trace) ≡ left delimiter entry (around ∷ outer)) × (builder_of next ≡ builder_of builder))
     × ((next ≡ word_more builder) × Fits next)
-Leaves delimiter builder before (Stopped (Error refusal)) trace = ⊥
-Leaves delimiter builder before (Stopped NoRoom) trace = length trace < 14336
+Leaves delimiter builder before (Err (Error refusal)) trace = ⊥
+Leaves delimiter builder before (Err NoRoom) trace = length trace < 14336

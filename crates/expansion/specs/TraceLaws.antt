@@ -1,5 +1,5 @@
 -- Laws of `Trace.antt`, in its order, and the steps of the functions that write a trace. Assumes nothing.
-use Rattle.std.specs.Prelude.{◌≡◌, Bool, true, false, List, [], ◌∷◌, ◌++◌, take, set}
+use Rattle.std.specs.Prelude.{◌≡◌, Bool, true, false, List, [], ◌∷◌, ◌++◌, take, set, Result, Ok, Err}
 use Rattle.std.proofs.Math.Path.{refl, ap}
 use Rattle.std.proofs.Common.{sym, ◌∙◌, take-suc-set}
 use Prim.Native.Nat.{ℕ, zero, suc, ◌+◌, ◌*◌, ◌/◌, ◌%◌, ◌≤◌, ◌<◌}
@@ -11,8 +11,6 @@ use Rattle.refusals.specs.declared.refusal.Refusal.{Refusal}
 use Rattle.refusals.specs.declared.refusal.Refusal.TheVariants.{TooDeep, OutOfNodes, MembersOver}
 use Rattle.layouts.specs.Limits.{Limits, gate_limits}
 use Rattle.expansion.specs.declared.builder.Builder as Code
-use Rattle.expansion.specs.declared.builder.Added.{Added}
-use Rattle.expansion.specs.declared.builder.Added.TheVariants.{Done, Stopped}
 use Rattle.expansion.specs.declared.builder.Stop.{Stop}
 use Rattle.expansion.specs.declared.builder.Stop.TheVariants.{Error, NoRoom}
 use Rattle.expansion.specs.Expansion.{Builder, Work, noted, ran_out, push_member, push_required, add_member, add_required, add_field, spend, open_entry, empty_level}
@@ -84,19 +82,19 @@ pub same-work : (next : Code.Builder) (work : Work) → work.builder ≡ builder
 same-work next work same = ap {B = Work} (λ (shared : Builder). record { builder = shared; level = work.level }) same
 
 module _ (earlier later : Work → Work) (builder : Code.Builder) (before middle : List ℕ) where
-  pub adds_then : (next : Code.Builder) (added : Added) (trace : List ℕ)
-      → Adds earlier builder before (Done next) middle
+  pub adds_then : (next : Code.Builder) (added : Result Code.Builder Stop) (trace : List ℕ)
+      → Adds earlier builder before (Ok next) middle
       → Adds later next middle added trace
       → Adds (λ work. later (earlier work)) builder before added trace
   unfolding Adds
-  adds_then next (Done last) trace first second = λ frame outer stands.
+  adds_then next (Ok last) trace first second = λ frame outer stands.
       let begun = work_of builder frame.level in
       let one = first frame outer stands in
       let two = second (with_level (earlier begun).level frame) outer one.0 in (
         two.0 ∙ ap (λ (work : Work). with_level (later work).level frame ∷ outer) (sym (same-work next (earlier begun) one.1)),
         ap (λ (work : Work). (later work).builder) (same-work next (earlier begun) one.1) ∙ two.1,
       )
-  adds_then next (Stopped stop) trace first second = λ frame outer stands.
+  adds_then next (Err stop) trace first second = λ frame outer stands.
       let begun = work_of builder frame.level in
       let one = first frame outer stands in
       let two = second (with_level (earlier begun).level frame) outer one.0 in
@@ -105,9 +103,9 @@ module _ (earlier later : Work → Work) (builder : Code.Builder) (before middle
       two
 
   pub adds-stops : (stop : Stop)
-      → Adds earlier builder before (Stopped stop) middle
+      → Adds earlier builder before (Err stop) middle
       → ((refusal : Refusal) (work : Work) → First refusal work.builder → First refusal (later work).builder)
-      → Adds (λ work. later (earlier work)) builder before (Stopped stop) middle
+      → Adds (λ work. later (earlier work)) builder before (Err stop) middle
   unfolding Adds
   adds-stops stop first keeps = λ frame outer stands.
       let begun = earlier (work_of builder frame.level) in
@@ -129,7 +127,7 @@ module _ (builder : Code.Builder) (trace : List ℕ) (tag : ℕ) (narrow : tag <
   abbrev pub required_more : Code.Builder
   required_more = record { nodes = builder.nodes; members = builder.members; required = builder.required + 1; len = builder.len + 1 }
 
-  pub adds_member : builder.members < 8192 → builder.len < length trace → Adds (add_member gate_limits tag) builder trace (Done member_more) (set trace builder.len (tag * 4))
+  pub adds_member : builder.members < 8192 → builder.len < length trace → Adds (add_member gate_limits tag) builder trace (Ok member_more) (set trace builder.len (tag * 4))
   unfolding add_member Adds
   adds_member room within frame outer stands =
       rw (lt-ltb builder.members 8192 room) (
@@ -137,11 +135,11 @@ module _ (builder : Code.Builder) (trace : List ℕ) (tag : ℕ) (narrow : tag <
         rw add-one refl,
       )
 
-  pub adds-member_over : 8192 ≤ builder.members → Adds (add_member gate_limits tag) builder trace (Stopped (Error MembersOver)) trace
+  pub adds-member_over : 8192 ≤ builder.members → Adds (add_member gate_limits tag) builder trace (Err (Error MembersOver)) trace
   unfolding add_member Adds
   adds-member_over over frame outer stands = rw (le-ltb builder.members 8192 over) ([], refl)
 
-  pub adds-member_full : builder.members < 8192 → length trace ≤ builder.len → Adds (add_member gate_limits tag) builder trace (Stopped NoRoom) trace
+  pub adds-member_full : builder.members < 8192 → length trace ≤ builder.len → Adds (add_member gate_limits tag) builder trace (Err NoRoom) trace
   unfolding Adds
   adds-member_full room full frame outer stands = omega (arith, fits.nodes, fits.required, fits.len)
 
@@ -152,7 +150,7 @@ module _ (builder : Code.Builder) (trace : List ℕ) (tag : ℕ) (narrow : tag <
     slack = omega arith;
   }
 
-  pub adds_required : builder.required < 2048 → builder.len < length trace → Adds (add_required gate_limits tag) builder trace (Done required_more) (set trace builder.len (tag * 4 + 1))
+  pub adds_required : builder.required < 2048 → builder.len < length trace → Adds (add_required gate_limits tag) builder trace (Ok required_more) (set trace builder.len (tag * 4 + 1))
   unfolding add_required Adds
   adds_required room within frame outer stands =
       rw (lt-ltb builder.required 2048 room) (
@@ -160,11 +158,11 @@ module _ (builder : Code.Builder) (trace : List ℕ) (tag : ℕ) (narrow : tag <
         rw add-one refl,
       )
 
-  pub adds-required_over : 2048 ≤ builder.required → Adds (add_required gate_limits tag) builder trace (Stopped (Error MembersOver)) trace
+  pub adds-required_over : 2048 ≤ builder.required → Adds (add_required gate_limits tag) builder trace (Err (Error MembersOver)) trace
   unfolding add_required Adds
   adds-required_over over frame outer stands = rw (le-ltb builder.required 2048 over) ([], refl)
 
-  pub adds-required_full : builder.required < 2048 → length trace ≤ builder.len → Adds (add_required gate_limits tag) builder trace (Stopped NoRoom) trace
+  pub adds-required_full : builder.required < 2048 → length trace ≤ builder.len → Adds (add_required gate_limits tag) builder trace (Err NoRoom) trace
   unfolding Adds
   adds-required_full room full frame outer stands = omega (arith, fits.nodes, fits.members, fits.len)
 
@@ -178,60 +176,61 @@ module _ (builder : Code.Builder) (trace : List ℕ) (tag : ℕ) (narrow : tag <
 -- ---- add_field
 
 module _ (builder next : Code.Builder) (before middle : List ℕ) (tag : ℕ) where
-  pub field_required : (added : Added) (trace : List ℕ)
-      → Adds (add_member gate_limits tag) builder before (Done next) middle
+  pub field_required : (added : Result Code.Builder Stop) (trace : List ℕ)
+      → Adds (add_member gate_limits tag) builder before (Ok next) middle
       → Adds (add_required gate_limits tag) next middle added trace
       → Adds (add_field gate_limits tag true) builder before added trace
   unfolding add_field Adds
   field_required added trace first second = adds_then (add_member gate_limits tag) (add_required gate_limits tag) builder before middle next added trace first second
 
-pub field_over : (builder : Code.Builder) (before middle : List ℕ) (tag : ℕ) (stop : Stop)
-    → Adds (add_member gate_limits tag) builder before (Stopped stop) middle
-    → Adds (add_field gate_limits tag true) builder before (Stopped stop) middle
+pub field_over : (builder : Code.Builder) (before middle : List ℕ) (tag : ℕ) (required : Bool) (stop : Stop)
+    → Adds (add_member gate_limits tag) builder before (Err stop) middle
+    → Adds (add_field gate_limits tag required) builder before (Err stop) middle
 unfolding add_field Adds
-field_over builder before middle tag stop first =
+field_over builder before middle tag true stop first =
     adds-stops (add_member gate_limits tag) (add_required gate_limits tag) builder before middle stop first
     (λ refusal work met. first-required gate_limits refusal tag work met)
+field_over builder before middle tag false stop first = first
 
-pub field_optional : (builder : Code.Builder) (before : List ℕ) (tag : ℕ) (added : Added) (trace : List ℕ)
+pub field_optional : (builder : Code.Builder) (before : List ℕ) (tag : ℕ) (added : Result Code.Builder Stop) (trace : List ℕ)
     → Adds (add_member gate_limits tag) builder before added trace
     → Adds (add_field gate_limits tag false) builder before added trace
 unfolding add_field Adds
-field_optional builder before tag (Done next) trace first = first
-field_optional builder before tag (Stopped stop) trace first = first
+field_optional builder before tag (Ok next) trace first = first
+field_optional builder before tag (Err stop) trace first = first
 
-pub grows_then : (builder next : Code.Builder) (added : Added) → Grown builder next → Grows next added → Grows builder added
+pub grows_then : (builder next : Code.Builder) (added : Result Code.Builder Stop) → Grown builder next → Grows next added → Grows builder added
 unfolding Grows
-grows_then builder next (Done last) first second = grown-then builder next last first second
-grows_then builder next (Stopped stop) first second = tt
+grows_then builder next (Ok last) first second = grown-then builder next last first second
+grows_then builder next (Err stop) first second = tt
 
-pub grown_grows : (builder next : Code.Builder) → Grown builder next → Grows builder (Done next)
+pub grown_grows : (builder next : Code.Builder) → Grown builder next → Grows builder (Ok next)
 unfolding Grows
 grown_grows builder next grown = grown
 
-pub done-grown : (builder next : Code.Builder) → Grows builder (Done next) → Grown builder next
+pub done-grown : (builder next : Code.Builder) → Grows builder (Ok next) → Grown builder next
 unfolding Grows
 done-grown builder next grows = grows
 
-pub stopped_grows : (builder : Code.Builder) (stop : Stop) → Grows builder (Stopped stop)
+pub stopped_grows : (builder : Code.Builder) (stop : Stop) → Grows builder (Err stop)
 unfolding Grows
 stopped_grows builder stop = tt
 
 -- ---- spend
 
 module _ (builder : Code.Builder) (name : ℕ) where
-  pub spends_deep : (depth_left : ℕ) → depth_left ≡ 0 → SpendsNode builder name depth_left (Stopped (Error (TooDeep name)))
+  pub spends_deep : (depth_left : ℕ) → depth_left ≡ 0 → SpendsNode builder name depth_left (Err (Error (TooDeep name)))
   unfolding spend SpendsNode
   spends_deep zero none level = refl
   spends_deep (suc depth) none level = absurd (omega arith)
 
   pub spends_node : (depth_left : ℕ) → (depth_left ≡ 0 → ⊥) → builder.nodes < 4096
-      → SpendsNode builder name depth_left (Done (node_more builder))
+      → SpendsNode builder name depth_left (Ok (node_more builder))
   unfolding spend SpendsNode
   spends_node zero some room = absurd (some refl)
   spends_node (suc depth) some room = (refl, λ level. rw (lt-ltb builder.nodes 4096 room, add-one))
 
-  pub spends_over : (depth_left : ℕ) → (depth_left ≡ 0 → ⊥) → 4096 ≤ builder.nodes → SpendsNode builder name depth_left (Stopped (Error (OutOfNodes name)))
+  pub spends_over : (depth_left : ℕ) → (depth_left ≡ 0 → ⊥) → 4096 ≤ builder.nodes → SpendsNode builder name depth_left (Err (Error (OutOfNodes name)))
   unfolding spend ran_out SpendsNode
   spends_over zero some over level = absurd (some refl)
   spends_over (suc depth) some over level = rw (le-ltb builder.nodes 4096 over)
@@ -278,7 +277,7 @@ module _ (builder : Code.Builder) (trace : List ℕ) (count : ℕ) (required : B
   pub enters : Entering count required word
       → builder.members + 1 < 8192
       → builder.len + 1 < length trace
-      → Enters count required delimiter builder trace (Done group_more) (set (set trace builder.len word) (builder.len + 1) (delimiter * 4))
+      → Enters count required delimiter builder trace (Ok group_more) (set (set trace builder.len word) (builder.len + 1) (delimiter * 4))
   unfolding Enters add_member
   enters entering room space = λ frame outer stands.
       let within : builder.len < length trace = omega (arith, space) in
@@ -297,14 +296,14 @@ module _ (builder : Code.Builder) (trace : List ℕ) (count : ℕ) (required : B
       let second : suc builder.members < 8192 = omega arith in
       rw (len, more, lt-ltb builder.members 8192 (omega arith), lt-ltb (suc builder.members) 8192 second) (two, refl)
 
-  pub enters-over : 8192 ≤ builder.members + 1 → Enters count required delimiter builder trace (Stopped (Error MembersOver)) trace
+  pub enters-over : 8192 ≤ builder.members + 1 → Enters count required delimiter builder trace (Err (Error MembersOver)) trace
   unfolding Enters add_member
   enters-over over = λ frame outer stands.
       keeps_add_member gate_limits (λ around. First MembersOver (open_entry gate_limits delimiter around).builder) count (work_of builder frame.level)
       (λ within. let full : 8192 ≤ suc builder.members = omega arith in rw (le-ltb (suc builder.members) 8192 full) ([], refl))
       (first_member gate_limits MembersOver delimiter (record { builder = (noted MembersOver (push_member count (work_of builder frame.level))).builder; level = empty_level }) ([], refl))
 
-  pub enters-full : builder.members + 1 < 8192 → length trace ≤ builder.len + 1 → Enters count required delimiter builder trace (Stopped NoRoom) trace
+  pub enters-full : builder.members + 1 < 8192 → length trace ≤ builder.len + 1 → Enters count required delimiter builder trace (Err NoRoom) trace
   unfolding Enters
   enters-full room full = λ frame outer stands. omega (arith, fits.nodes, fits.required, fits.len)
 
@@ -318,7 +317,7 @@ module _ (builder : Code.Builder) (trace : List ℕ) (count : ℕ) (required : B
 -- ---- leave_group
 
 module _ (builder : Code.Builder) (trace : List ℕ) (delimiter : ℕ) (narrow : delimiter < 4294967296) (fits : Fits builder) (room : builder.len < builder.members + builder.required + builder.nodes) where
-  pub leaves : builder.len < length trace → Leaves delimiter builder trace (Done (word_more builder)) (set trace builder.len (delimiter * 4 + 3))
+  pub leaves : builder.len < length trace → Leaves delimiter builder trace (Ok (word_more builder)) (set trace builder.len (delimiter * 4 + 3))
   unfolding Leaves
   leaves within = (
     λ entry around outer stands. (
@@ -328,6 +327,6 @@ module _ (builder : Code.Builder) (trace : List ℕ) (delimiter : ℕ) (narrow :
     (refl, record { nodes = fits.nodes; members = fits.members; required = fits.required; len = omega arith }),
   )
 
-  pub leaves-full : length trace ≤ builder.len → Leaves delimiter builder trace (Stopped NoRoom) trace
+  pub leaves-full : length trace ≤ builder.len → Leaves delimiter builder trace (Err NoRoom) trace
   unfolding Leaves
   leaves-full full = omega (arith, fits.nodes, fits.members, fits.required)

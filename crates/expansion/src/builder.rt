@@ -14,6 +14,15 @@ pub const MEMBERS: usize = 8192;
 
 pub const REQUIRED: usize = 2048;
 
+// The steps that a word of the trace tells of, in its two lowest bits (specs/Trace.antt).
+pub const ADDS_MEMBER: u64 = 0;
+
+pub const ADDS_REQUIRED: u64 = 1;
+
+pub const ENTERS_GROUP: u64 = 2;
+
+pub const LEAVES_GROUP: u64 = 3;
+
 // What was spent and added so far, and how many words of the trace it takes.
 #[derive(Clone, Copy)]
 pub struct Builder {
@@ -31,90 +40,81 @@ pub enum Stop {
     NoRoom,
 }
 
-#[derive(Clone, Copy)]
-pub enum Added {
-    Done(Builder),
-    Stopped(Stop),
-}
-
 // Charges one node against the budget and checks the depth ceiling.
-pub fn spend(builder: Builder, name: u32, depth_left: usize) -> Added
+pub fn spend(builder: Builder, name: u32, depth_left: usize) -> Result<Builder, Stop>
     requires { Fits builder }
     ensures change { SpendsNode builder name depth_left result }
     ensures grows { Grows builder result }
 {
     if depth_left == 0 {
-        return Added::Stopped(Stop::Error(Refusal::TooDeep(name)));
+        return Err(Stop::Error(Refusal::TooDeep(name)));
     }
-    if builder.nodes < NODES {
-        return Added::Done(Builder {
-            nodes: builder.nodes + 1,
-            members: builder.members,
-            required: builder.required,
-            len: builder.len,
-        });
+    if builder.nodes >= NODES {
+        return Err(Stop::Error(Refusal::OutOfNodes(name)));
     }
-    Added::Stopped(Stop::Error(Refusal::OutOfNodes(name)))
+    Ok(Builder {
+        nodes: builder.nodes + 1,
+        ..builder
+    })
 }
 
 // Adds a tag to the members of the level in work.
-pub fn add_member(trace: &mut [u64], builder: Builder, tag: u32) -> Added
+pub fn add_member(trace: &mut [u64], builder: Builder, tag: u32) -> Result<Builder, Stop>
     requires { Fits builder }
     ensures change { Adds (add_member gate_limits tag) builder trace.old result trace.new }
     ensures grows { Grows builder result }
 {
-    if builder.members < MEMBERS {
-        let len = builder.len;
-        if trace.len() <= len {
-            return Added::Stopped(Stop::NoRoom);
-        }
-        trace[len] = tag as u64 * 4;
-        return Added::Done(Builder {
-            nodes: builder.nodes,
-            members: builder.members + 1,
-            required: builder.required,
-            len: len + 1,
-        });
+    if builder.members >= MEMBERS {
+        return Err(Stop::Error(Refusal::MembersOver));
     }
-    Added::Stopped(Stop::Error(Refusal::MembersOver))
+    if builder.len >= trace.len() {
+        return Err(Stop::NoRoom);
+    }
+    trace[builder.len] = u64::from(tag) * 4 + ADDS_MEMBER;
+    Ok(Builder {
+        members: builder.members + 1,
+        len: builder.len + 1,
+        ..builder
+    })
 }
 
 // Adds a tag to the required list of the level in work.
-pub fn add_required(trace: &mut [u64], builder: Builder, tag: u32) -> Added
+pub fn add_required(trace: &mut [u64], builder: Builder, tag: u32) -> Result<Builder, Stop>
     requires { Fits builder }
     ensures change { Adds (add_required gate_limits tag) builder trace.old result trace.new }
     ensures grows { Grows builder result }
 {
-    if builder.required < REQUIRED {
-        let len = builder.len;
-        if trace.len() <= len {
-            return Added::Stopped(Stop::NoRoom);
-        }
-        trace[len] = tag as u64 * 4 + 1;
-        return Added::Done(Builder {
-            nodes: builder.nodes,
-            members: builder.members,
-            required: builder.required + 1,
-            len: len + 1,
-        });
+    if builder.required >= REQUIRED {
+        return Err(Stop::Error(Refusal::MembersOver));
     }
-    Added::Stopped(Stop::Error(Refusal::MembersOver))
+    if builder.len >= trace.len() {
+        return Err(Stop::NoRoom);
+    }
+    trace[builder.len] = u64::from(tag) * 4 + ADDS_REQUIRED;
+    Ok(Builder {
+        required: builder.required + 1,
+        len: builder.len + 1,
+        ..builder
+    })
 }
 
 // The Rust's `Level::add_field`.
-pub fn add_field(trace: &mut [u64], builder: Builder, tag: u32, required: bool) -> Added
+pub fn add_field(
+    trace: &mut [u64],
+    builder: Builder,
+    tag: u32,
+    required: bool,
+) -> Result<Builder, Stop>
     requires { Fits builder }
     ensures change { Adds (add_field gate_limits tag required) builder trace.old result trace.new }
     ensures grows { Grows builder result }
 {
-    let member = add_member(trace, builder, tag);
+    let member = add_member(trace, builder, tag)?;
     if required {
-        return match member {
-            Added::Done(next) => add_required(trace, next, tag),
-            Added::Stopped(stop) => Added::Stopped(stop),
-        };
+        add_required(trace, member, tag)
+    } else {
+        Ok(member)
     }
-    member
 }
 
 // The word of a group that is entered.
@@ -122,9 +122,10 @@ fn entering(count: u32, required: bool) -> u64
     ensures { Entering count required result }
 {
     if required {
-        return count as u64 * 8 + 6;
+        u64::from(count) * 8 + 6
+    } else {
+        u64::from(count) * 8 + 2
     }
-    count as u64 * 8 + 2
 }
 
 // Enters a group whose node is spent: its count tag is a member of the level in work, and its delimiter the first of its entry level.
@@ -134,43 +135,38 @@ pub fn enter_group(
     count: u32,
     required: bool,
     delimiter: u32,
-) -> Added
+) -> Result<Builder, Stop>
     requires { Fits builder }
     ensures change { Enters count required delimiter builder trace.old result trace.new }
     ensures grows { Grows builder result }
 {
     let word = entering(count, required);
-    if builder.members + 1 < MEMBERS {
-        let len = builder.len;
-        if trace.len() <= len + 1 {
-            return Added::Stopped(Stop::NoRoom);
-        }
-        trace[len] = word;
-        trace[len + 1] = delimiter as u64 * 4;
-        return Added::Done(Builder {
-            nodes: builder.nodes,
-            members: builder.members + 2,
-            required: builder.required,
-            len: len + 2,
-        });
+    if builder.members + 1 >= MEMBERS {
+        return Err(Stop::Error(Refusal::MembersOver));
     }
-    Added::Stopped(Stop::Error(Refusal::MembersOver))
+    if builder.len + 1 >= trace.len() {
+        return Err(Stop::NoRoom);
+    }
+    trace[builder.len] = word;
+    trace[builder.len + 1] = u64::from(delimiter) * 4 + ADDS_MEMBER;
+    Ok(Builder {
+        members: builder.members + 2,
+        len: builder.len + 2,
+        ..builder
+    })
 }
 
 // Leaves a group: its entry level is filled, and stands in the level around.
-pub fn leave_group(trace: &mut [u64], builder: Builder, delimiter: u32) -> Added
+pub fn leave_group(trace: &mut [u64], builder: Builder, delimiter: u32) -> Result<Builder, Stop>
     requires { Fits builder × (builder.len < builder.members + builder.required + builder.nodes) }
     ensures change { Leaves delimiter builder trace.old result trace.new }
 {
-    let len = builder.len;
-    if trace.len() <= len {
-        return Added::Stopped(Stop::NoRoom);
+    if builder.len >= trace.len() {
+        return Err(Stop::NoRoom);
     }
-    trace[len] = delimiter as u64 * 4 + 3;
-    Added::Done(Builder {
-        nodes: builder.nodes,
-        members: builder.members,
-        required: builder.required,
-        len: len + 1,
+    trace[builder.len] = u64::from(delimiter) * 4 + LEAVES_GROUP;
+    Ok(Builder {
+        len: builder.len + 1,
+        ..builder
     })
 }

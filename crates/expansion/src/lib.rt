@@ -3,4 +3,3 @@
 
 pub mod builder;
 pub mod required;
-pub mod seen;

@@ -1,10 +1,8 @@
 -- `arrange::arrange::gather` meets its contract. The loop's invariant is `GatheredSoFar`; the laws are those of specs/ArrangeGatherLaws.antt.
-use mathlib.Core.Path.{◌≡◌, refl, ◌∙◌}
+use mathlib.Core.Path.{◌≡◌}
 use Prim.Native.Nat.{◌-◌}
-use native.Mathlib.Omega.{arith}
-use lib.ListN.{length, set, length-set}
+use lib.ListN.{length}
 use Rattle.arrange.specs.ArrangeGather.{level_count, GatherRoom, GatheredSoFar}
-use Rattle.arrange.specs.ArrangeGatherLaws.{first-inside, gathered-begins, first-room, gathering_less, same-room, gathered-in}
 use Rattle.arrange.proofs.arrange.gather.Given as goal
 
 abbrev pub invariant-loop-state : goal.invariant-loop-state

@@ -2,11 +2,10 @@
 use mathlib.Core.Path.{refl}
 use native.Mathlib.Omega.{arith}
 use Rattle.arrange.specs.ArrangeGatherLaws.{level-within, read-room, groups-fit, tags-read, ends-inside, parts-inside, ends-fit, level-gathered}
-use borrow.Author.Rules.{rules}
 use Rattle.arrange.proofs.arrange.gather_level.Goals as goal
 
-pub bounds-rows-level : goal.bounds-rows-level
-bounds-rows-level c = omega (arith, level-within c.args.trace.now c.args.members.now c.args.required.now c.args.rows.now c.args.state c.requires.1 c.requires.2, c.requires.0.for_rows)
+pub bounds-rows-state : goal.bounds-rows-state
+bounds-rows-state c = omega (arith, level-within c.args.trace.now c.args.members.now c.args.required.now c.args.rows.now c.args.state c.requires.1 c.requires.2, c.requires.0.for_rows)
 
 -- let own = read_level(trace, first, members, member, required, need, tags);
 pub read_level-own-requires : goal.read_level-own-requires
@@ -24,13 +23,13 @@ order_required-required_end-requires c = ((parts-inside c.args.trace.now c.args.
 pub order_groups-kept-requires : goal.order_groups-kept-requires
 order_groups-kept-requires c = (c.requires.0.short, (ends-inside c.args.trace.now c.args.members.now c.args.required.now c.args.rows.now c.args.state c.requires.1 c.requires.2 c.wide-first.result c.wide-first.ensures c.args.tags.now c.requires.0 c.read_level-own.result _ _ _ c.read_level-own.ensures).2, tags-read c.args.trace.now c.args.members.now c.args.required.now c.args.rows.now c.args.state c.requires.1 c.requires.2 c.wide-first.result c.wide-first.ensures c.args.tags.now c.requires.0 c.read_level-own.result _ _ _ c.read_level-own.ensures, omega (arith, groups-fit c.args.trace.now c.args.members.now c.args.required.now c.args.rows.now c.args.state c.requires.1 c.requires.2 c.wide-first.result c.wide-first.ensures, c.requires.0.for_rows))
 
--- let found = levels + kept;
-pub overflow_add-found : goal.overflow_add-found
-overflow_add-found c = omega (arith, groups-fit c.args.trace.now c.args.members.now c.args.required.now c.args.rows.now c.args.state c.requires.1 c.requires.2 c.wide-first.result c.wide-first.ensures, c.order_groups-kept.ensures.outcome, c.requires.0.few)
+-- let levels = state.levels + kept;
+pub overflow_add-levels : goal.overflow_add-levels
+overflow_add-levels c = omega (arith, groups-fit c.args.trace.now c.args.members.now c.args.required.now c.args.rows.now c.args.state c.requires.1 c.requires.2 c.wide-first.result c.wide-first.ensures, c.order_groups-kept.ensures.outcome, c.requires.0.few)
 
 -- close_row(rows, level, delimiter, member_end, required_end, found - 1);
-pub overflow_sub-found : goal.overflow_sub-found
-overflow_sub-found c = omega (arith, c.requires.2)
+pub overflow_sub-levels : goal.overflow_sub-levels
+overflow_sub-levels c = omega (arith, c.requires.2)
 
 pub close_row-requires : goal.close_row-requires
 close_row-requires c = (

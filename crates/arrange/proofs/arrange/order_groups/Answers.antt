@@ -6,7 +6,6 @@ use lib.ListN.{drop}
 use Rattle.arrange_level.specs.ArrangeTrace.{own_at}
 use Rattle.arrange_level.specs.ArrangeGroups.{count_tags}
 use Rattle.arrange.specs.ArrangeGatherLaws.{all-tags, tags-many, tags-inside, tags-room, groups_none, groups-placed}
-use borrow.Author.Rules.{rules}
 use Rattle.arrange.proofs.arrange.order_groups.Goals as goal
 
 pub slice_bounds-open_rows-end : goal.slice_bounds-open_rows-end

@@ -2,7 +2,6 @@
 use mathlib.Core.Path.{refl}
 use native.Mathlib.Omega.{arith}
 use Rattle.arrange.specs.ArrangeGatherLaws.{members-ordered, members-few}
-use borrow.Author.Rules.{rules}
 use Rattle.arrange.proofs.arrange.order_members.Goals as goal
 
 -- from + kept

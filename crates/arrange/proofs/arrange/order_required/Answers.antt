@@ -2,7 +2,6 @@
 use mathlib.Core.Path.{refl}
 use native.Mathlib.Omega.{arith}
 use Rattle.arrange.specs.ArrangeGatherLaws.{required-ordered, required-few}
-use borrow.Author.Rules.{rules}
 use Rattle.arrange.proofs.arrange.order_required.Goals as goal
 
 -- from + kept

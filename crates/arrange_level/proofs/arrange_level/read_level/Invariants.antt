@@ -1,10 +1,7 @@
 -- `arrange_level::arrange_level::read_level` meets its contract. The loop's invariant is `ReadSoFar`; the laws are those of specs/ArrangeLevelLaws.antt.
-use mathlib.Core.Path.{refl}
 use Prim.Native.Nat.{◌-◌}
-use native.Mathlib.Omega.{arith}
 use lib.ListN.{length}
-use Rattle.arrange_level.specs.ArrangeLevelLaws.{ReadSoFar, read-begins, read-member, read-required, read-group, read_left, read-ends, member-room, need_room, group-room, members-size, required-size, tags-size}
-use borrow.Author.Rules.{rules}
+use Rattle.arrange_level.specs.ArrangeLevelLaws.{ReadSoFar}
 use Rattle.arrange_level.proofs.arrange_level.read_level.Given as goal
 
 abbrev pub invariant-loop-place : goal.invariant-loop-place

@@ -1,7 +1,6 @@
 -- `bodies::body_line::line_from` meets its contract, a kind at a time.
-use borrow.Author.Tests.{eq-eqb, ne_eqb}
+use Rattle.std.proofs.Common.{eq-eqb, ne_eqb}
 use Rattle.bodies.specs.BodyLines.{read_from}
-use borrow.Author.Rules.{rules}
 use Rattle.bodies.proofs.body_line.line_from.Goals as goal
 
 pub returns-then-kind-eq-FIELD : goal.returns-then-kind-eq-FIELD
@@ -16,7 +15,6 @@ pub returns-then-kind-eq-USE : goal.returns-then-kind-eq-USE
 unfolding read_from
 returns-then-kind-eq-USE c = rw (ne_eqb _ 7 c.if-kind-eq-FIELD.false, ne_eqb _ 8 c.if-kind-eq-GROUP.false, eq-eqb _ 9 c.if-kind-eq-USE.true)
 
--- fn line_from(words: &[u32]) -> BodyLine
-pub returns : goal.returns
+pub returns-else-kind-eq-USE : goal.returns-else-kind-eq-USE
 unfolding read_from
-returns c = rw (ne_eqb _ 7 c.if-kind-eq-FIELD.false, ne_eqb _ 8 c.if-kind-eq-GROUP.false, ne_eqb _ 9 c.if-kind-eq-USE.false)
+returns-else-kind-eq-USE c = rw (ne_eqb _ 7 c.if-kind-eq-FIELD.false, ne_eqb _ 8 c.if-kind-eq-GROUP.false, ne_eqb _ 9 c.if-kind-eq-USE.false)

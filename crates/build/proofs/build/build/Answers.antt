@@ -1,34 +1,31 @@
--- `build::build::build` meets its contract: three bodies, one behind the other, by the laws of specs/BuildPromisesLaws.antt.
-use mathlib.Core.Path.{◌∙◌}
+-- `build::build::build` meets its contract: three bodies, one after the other, by the laws of specs/BuildPromisesLaws.antt.
+use Rattle.std.proofs.lemmas.Result.{err_from_is_err_and}
 use Rattle.bodies.specs.DictionaryLookups.{header-begins, trailer-begins}
 use Rattle.expansion.specs.TraceLaws.{done-grown}
 use Rattle.build.specs.BuildPromisesLaws.{nothing-fits, built-header_over, built-trailer_over, built-message}
-use borrow.Author.Rules.{rules}
 use Rattle.build.proofs.build.build.Goals as goal
 
--- let header = header_of(words);
-pub header_of-header-requires : goal.header_of-header-requires
-header_of-header-requires c = c.requires.0
-
--- let trailer = trailer_of(words, header);
-pub trailer_of-trailer-requires : goal.trailer_of-trailer-requires
-trailer_of-trailer-requires c = (c.requires.0, c.header_of-header.ensures)
-
--- match add_top(words, header, trace, nothing) {
+-- let head = add_top(words, header, trace, nothing)?;
 pub add_top-requires : goal.add_top-requires
-add_top-requires c = (c.requires.0, ((header-begins c.args.words.now (λ place. (c.shared_slice_known-1.given place).fits) c.requires.0 _ c.header_of-header.ensures).0, nothing-fits))
+add_top-requires c = (c.requires.0, ((header-begins c.args.words.now (λ place. (c.type_inv.words place).fits) c.requires.0 _ c.header_of-header.ensures).0, nothing-fits))
 
-pub add_top-requires-in-Done : goal.add_top-requires-in-Done
-add_top-requires-in-Done c = (c.requires.0, ((trailer-begins c.args.words.now (λ place. (c.shared_slice_known-1.given place).fits) c.requires.0 _ c.trailer_of-trailer.ensures).0, (done-grown _ _ (rw c.in-Done.is at c.add_top.ensures).grows).fits))
+pub returns-in_err-head : goal.returns-in_err-head
+returns-in_err-head c =
+    let p = err_from_is_err_and c.from_residual.result c.from_residual.ensures.1 in
+    rw (p.1, p.2) (built-header_over c.args.words.now (λ place. (c.type_inv.words place).fits) c.requires.0 _ _ c.args.message c.header_of-header.ensures c.trailer_of-trailer.ensures c.args.trace.now _ _ c.in_err-head.ensures)
 
-pub add_top-requires-in-Done-add_top : goal.add_top-requires-in-Done-add_top
-add_top-requires-in-Done-add_top c = (c.requires.0, (c.requires.1, (done-grown _ _ (rw c.in-Done-add_top.is at c.add_top-in-Done.ensures).grows).fits))
+-- let envelope = add_top(words, trailer, trace, head)?;
+pub add_top-requires-2 : goal.add_top-requires-2
+add_top-requires-2 c = (c.requires.0, ((trailer-begins c.args.words.now (λ place. (c.type_inv.words place).fits) c.requires.0 _ c.trailer_of-trailer.ensures).0, (done-grown _ _ c.in_ok-head.ensures.grows).fits))
 
-pub returns-in-Stopped : goal.returns-in-Stopped
-returns-in-Stopped c = built-header_over c.args.words.now (λ place. (c.shared_slice_known-1.given place).fits) c.requires.0 _ _ c.args.message c.header_of-header.ensures c.trailer_of-trailer.ensures c.args.trace.now _ _ (rw c.in-Stopped.is at c.add_top.ensures)
+pub returns-in_err-envelope : goal.returns-in_err-envelope
+returns-in_err-envelope c =
+    let p = err_from_is_err_and c.from_residual-in_err-envelope.result c.from_residual-in_err-envelope.ensures.1 in
+    rw (p.1, p.2) (built-trailer_over c.args.words.now (λ place. (c.type_inv.words place).fits) c.requires.0 _ _ c.args.message c.header_of-header.ensures c.trailer_of-trailer.ensures c.args.trace.now _ _ c.in_ok-head.ensures _ _ c.in_err-envelope.ensures)
 
-pub returns-in-Stopped-add_top : goal.returns-in-Stopped-add_top
-returns-in-Stopped-add_top c = built-trailer_over c.args.words.now (λ place. (c.shared_slice_known-1.given place).fits) c.requires.0 _ _ c.args.message c.header_of-header.ensures c.trailer_of-trailer.ensures c.args.trace.now _ _ (rw c.in-Done.is at c.add_top.ensures) _ _ (rw c.in-Stopped-add_top.is at c.add_top-in-Done.ensures)
+-- add_top(words, message, trace, envelope)
+pub add_top-requires-3 : goal.add_top-requires-3
+add_top-requires-3 c = (c.requires.0, (c.requires.1, (done-grown _ _ c.in_ok-envelope.ensures.grows).fits))
 
-pub returns-in-Done-add_top : goal.returns-in-Done-add_top
-returns-in-Done-add_top c = built-message c.args.words.now (λ place. (c.shared_slice_known-1.given place).fits) c.requires.0 _ _ c.args.message c.header_of-header.ensures c.trailer_of-trailer.ensures c.args.trace.now _ _ (rw c.in-Done.is at c.add_top.ensures) _ _ _ _ (rw c.in-Done-add_top.is at c.add_top-in-Done.ensures) c.add_top-in-Done-add_top.ensures
+pub returns : goal.returns
+returns c = built-message c.args.words.now (λ place. (c.type_inv.words place).fits) c.requires.0 _ _ c.args.message c.header_of-header.ensures c.trailer_of-trailer.ensures c.args.trace.now _ _ c.in_ok-head.ensures _ _ _ _ c.in_ok-envelope.ensures c.add_top-3.ensures

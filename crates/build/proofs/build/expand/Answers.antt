@@ -1,15 +1,14 @@
 -- `build::build::expand` meets its contract: the message of the type is built, or there is none. The laws are those of specs/BuildPromisesLaws.antt.
-use mathlib.Core.Path.{sym, ◌∙◌}
+use mathlib.Core.Path.{sym}
 use Rattle.build.specs.BuildPromisesLaws.{message-begins, traced_undefined, traced_built}
-use borrow.Author.Rules.{rules}
 use Rattle.build.proofs.build.expand.Goals as goal
 
 pub build-requires : goal.build-requires
-build-requires c = (c.requires, message-begins c.args.words.now (λ place. (c.shared_slice_known-1.given place).fits) c.requires c.args.value.now _ (sym c.message_of.ensures.found ∙ c.in-At.is))
+build-requires c = (c.requires, message-begins c.args.words.now (λ place. (c.type_inv.words place).fits) c.requires c.args.value.now _ (sym c.in-Some.ensures.found))
 
--- pub fn expand(words: &[u32], value: &[u8], trace: &mut [u64]) -> Added
-pub returns-in-Nothing : goal.returns-in-Nothing
-returns-in-Nothing c = traced_undefined c.args.words.now (λ place. (c.shared_slice_known-1.given place).fits) c.requires c.args.value.now _ (sym c.message_of.ensures.found ∙ c.in-Nothing.is)
+-- pub fn expand(words: &[u32], value: &[u8], trace: &mut [u64]) -> Result<Builder, Stop>
+pub returns-in_default : goal.returns-in_default
+returns-in_default c = traced_undefined c.args.words.now (λ place. (c.type_inv.words place).fits) c.requires c.args.value.now _ (sym c.in_default.ensures.found)
 
-pub returns-in-At : goal.returns-in-At
-returns-in-At c = traced_built c.args.words.now (λ place. (c.shared_slice_known-1.given place).fits) c.requires c.args.value.now _ _ _ (sym c.message_of.ensures.found ∙ c.in-At.is) c.build.ensures
+pub returns : goal.returns
+returns c = traced_built c.args.words.now (λ place. (c.type_inv.words place).fits) c.requires c.args.value.now _ _ _ (sym c.in-Some.ensures.found) c.build.ensures

@@ -1,11 +1,10 @@
 -- `build::build::header_of` meets its contract. The loop's invariant is `HeaderSoFar`: the line looked for stands from `first` on and not behind `past`.
 -- The laws are those of specs/BuildPromisesLaws.antt.
 use mathlib.Core.Path.{sym, ◌∙◌}
-use Prim.Native.Nat.{◌+◌, ◌-◌, ◌/◌}
+use Prim.Native.Nat.{◌+◌, ◌/◌}
 use native.Mathlib.Omega.{arith}
 use Rattle.definitions.specs.DefinitionsLaws.{is_dictionary-parts}
-use Rattle.build.specs.BuildPromisesLaws.{HeaderSoFar, header-starts, header-above, header-below}
-use borrow.Author.Rules.{rules}
+use Rattle.build.specs.BuildPromisesLaws.{header-starts, header-above, header-below}
 use Rattle.build.proofs.build.header_of.Goals as goal
 
 -- let mut past = words[0] as usize;
@@ -13,45 +12,45 @@ pub bounds-words-0 : goal.bounds-words-0
 bounds-words-0 c = omega (arith, (is_dictionary-parts c.args.words.now c.requires).some_words)
 
 pub overflow_cast-past : goal.overflow_cast-past
-overflow_cast-past c = omega (arith, c.shared_slice_known-1.given 0)
+overflow_cast-past c = omega (arith, c.type_inv.words 0)
 
 -- while first < past {
 pub loop-first-init : goal.loop-first-init
-loop-first-init c = header-starts c.args.words.now (λ place. (c.shared_slice_known-1.given place).fits) c.requires
+loop-first-init c = header-starts c.args.words.now (λ place. (c.type_inv.words place).fits) c.requires
 
 -- let middle = (first + past) / 2;
 pub overflow_add-middle : goal.overflow_add-middle
-overflow_add-middle c = omega (arith, c.loop-first-test.true, c.loop-first.invariant.inside, c.shared_slice_known-1.given 0)
+overflow_add-middle c = omega (arith, c.loop-first-test.true, c.loop-first.invariant.inside, c.type_inv.words 0)
 
 -- if is_definition(words[4 + 10 * middle]) {
 pub overflow_mul-middle : goal.overflow_mul-middle
-overflow_mul-middle c = omega (arith, c.loop-first-test.true, c.loop-first.invariant.inside, c.shared_slice_known-1.given 0)
+overflow_mul-middle c = omega (arith, c.loop-first-test.true, c.loop-first.invariant.inside, c.type_inv.words 0)
 
 pub overflow_add-middle-in-loop-first : goal.overflow_add-middle-in-loop-first
-overflow_add-middle-in-loop-first c = omega (arith, c.loop-first-test.true, c.loop-first.invariant.inside, c.shared_slice_known-1.given 0)
+overflow_add-middle-in-loop-first c = omega (arith, c.loop-first-test.true, c.loop-first.invariant.inside, c.type_inv.words 0)
 
 pub offset_bounds-words-middle : goal.offset_bounds-words-middle
-offset_bounds-words-middle c = omega (arith, c.loop-first-test.true, c.loop-first.invariant.inside, c.shared_slice_known-1.given 0)
+offset_bounds-words-middle c = omega (arith, c.loop-first-test.true, c.loop-first.invariant.inside, c.type_inv.words 0)
 
 pub bounds-words-middle : goal.bounds-words-middle
 bounds-words-middle c = omega (arith, c.loop-first-test.true, c.loop-first.invariant.inside, (is_dictionary-parts c.args.words.now c.requires).fits)
 
 -- first = middle + 1;
 pub overflow_add-first : goal.overflow_add-first
-overflow_add-first c = omega (arith, c.loop-first-test.true, c.loop-first.invariant.inside, c.shared_slice_known-1.given 0)
+overflow_add-first c = omega (arith, c.loop-first-test.true, c.loop-first.invariant.inside, c.type_inv.words 0)
 
 -- while first < past {
 pub loop-first-smaller-then-is_definition : goal.loop-first-smaller-then-is_definition
 loop-first-smaller-then-is_definition c = omega (arith, c.loop-first-test.true)
 
 pub loop-first-preserved-then-is_definition : goal.loop-first-preserved-then-is_definition
-loop-first-preserved-then-is_definition c = header-above c.args.words.now (λ place. (c.shared_slice_known-1.given place).fits) c.requires c.loop-first.first c.loop-first.past ((c.loop-first.first + c.loop-first.past) / 2) c.loop-first.invariant (omega (arith, c.loop-first-test.true)) (omega (arith, c.loop-first-test.true)) (sym c.is_definition.ensures ∙ c.if-is_definition.true)
+loop-first-preserved-then-is_definition c = header-above c.args.words.now (λ place. (c.type_inv.words place).fits) c.requires c.loop-first.first c.loop-first.past ((c.loop-first.first + c.loop-first.past) / 2) c.loop-first.invariant (omega (arith, c.loop-first-test.true)) (omega (arith, c.loop-first-test.true)) (sym c.is_definition.ensures ∙ c.if-is_definition.true)
 
 pub loop-first-smaller : goal.loop-first-smaller
 loop-first-smaller c = omega (arith, c.loop-first-test.true)
 
 pub loop-first-preserved : goal.loop-first-preserved
-loop-first-preserved c = header-below c.args.words.now (λ place. (c.shared_slice_known-1.given place).fits) c.requires c.loop-first.first c.loop-first.past ((c.loop-first.first + c.loop-first.past) / 2) c.loop-first.invariant (omega (arith, c.loop-first-test.true)) (omega (arith, c.loop-first-test.true)) (sym c.is_definition.ensures ∙ c.if-is_definition.false)
+loop-first-preserved c = header-below c.args.words.now (λ place. (c.type_inv.words place).fits) c.requires c.loop-first.first c.loop-first.past ((c.loop-first.first + c.loop-first.past) / 2) c.loop-first.invariant (omega (arith, c.loop-first-test.true)) (omega (arith, c.loop-first-test.true)) (sym c.is_definition.ensures ∙ c.if-is_definition.false)
 
 -- fn header_of(words: &[u32]) -> usize
 pub returns : goal.returns

@@ -1,12 +1,8 @@
 -- `build::build::trailer_of` meets its contract. The loop's invariant is `BlockSoFar`: the line looked for is not before `at`. The laws are those of
 -- specs/BuildPromisesLaws.antt.
-use mathlib.Core.Path.{sym, ◌∙◌}
 use Prim.Native.Nat.{◌-◌}
-use native.Mathlib.Omega.{arith}
 use lib.ListN.{get_or}
-use Rattle.definitions.specs.DefinitionsLaws.{is_dictionary-parts}
-use Rattle.bodies.specs.DictionaryLookups.{header-comes, trailer-comes}
-use Rattle.build.specs.BuildPromisesLaws.{BlockSoFar, trailer-starts, block_inside, block_found, block_goes_on}
+use Rattle.build.specs.BuildPromisesLaws.{BlockSoFar}
 use Rattle.build.proofs.build.trailer_of.Given as goal
 
 abbrev pub invariant-loop-header : goal.invariant-loop-header
