@@ -4,14 +4,15 @@
 --   AcceptedTable fields message_length   what holds of a table in which row 12 finds nothing
 use Rattle.std.proofs.Math.Path.{◌≡◌, refl}
 use Rattle.std.proofs.Common.{◌∙◌, true≢false, arith, add-one}
-use Rattle.std.specs.Prelude.{◌↔◌, ℕ, zero, suc, ◌+◌, ◌*◌, ◌-◌, ◌%◌, ◌≤◌, ◌<◌, Bool, ◌||◌, List, take, drop, if◌then◌else◌}
+use Rattle.std.specs.Prelude.{◌↔◌, ℕ, zero, suc, ◌+◌, ◌*◌, ◌-◌, ◌%◌, ◌≤◌, ◌<◌, Bool, ◌||◌, List, take, drop, if◌then◌else◌, Ok, Err}
 use Rattle.std.proofs.Math.Bool.{true, false, not}
 use Rattle.std.proofs.Math.Decide.{ℕ_discrete}
 use Rattle.std.proofs.Math.Dec.{eqb, ltb}
 use Rattle.std.proofs.Math.ListN.{length}
 use borrow.Author.Tests.{eq-eqb, ne_eqb, eqb-true, lt-ltb, le-ltb, ltb-false}
-use Rattle.field_table.specs.declared.field_table.TableCheck.TheVariants.{Accepted, Refused}
 use Rattle.field_table.specs.FieldTable.{row_count, first_of, past_of, is_bad_field, bad_from, table_check_of, fields_of}
+use Rattle.refusals.specs.declared.refusal.Refusal.{Refusal}
+use Rattle.refusals.specs.declared.refusal.Refusal.TheVariants.{BadField}
 
 pub record AcceptedTable (fields : List ℕ) (message_length : ℕ) : Type 0 where
   pub threes : length fields ≡ 3 * row_count fields
@@ -51,11 +52,11 @@ module _ (fields : List ℕ) (message_length position : ℕ) where
 -- ---- table_check_of
 
 module _ (fields : List ℕ) (message_length : ℕ) where
-  pub table_check_of-not_threes : (length fields % 3 ≡ 0 → ⊥) → table_check_of fields message_length ≡ Refused 0
+  pub table_check_of-not_threes : (length fields % 3 ≡ 0 → ⊥) → table_check_of fields message_length ≡ Err (BadField 0)
   unfolding table_check_of
   table_check_of-not_threes rest = rw (ne_eqb (length fields % 3) 0 rest)
 
-  pub table_check_of-many : length fields % 3 ≡ 0 → 4096 < row_count fields → table_check_of fields message_length ≡ Refused 0
+  pub table_check_of-many : length fields % 3 ≡ 0 → 4096 < row_count fields → table_check_of fields message_length ≡ Err (BadField 0)
   unfolding table_check_of
   table_check_of-many threes many = rw (eq-eqb (length fields % 3) 0 threes, lt-ltb 4096 (row_count fields) many)
 
@@ -78,7 +79,7 @@ rows_begin fields message_length threes few =
     record { within = omega arith; few = few; left = rw all (table_check_of-rows fields message_length threes few) }
 
 module _ (fields : List ℕ) (message_length index : ℕ) (so_far : RowsSoFar fields message_length index) where
-  pub rows_end : row_count fields ≤ index → table_check_of fields message_length ≡ Accepted
+  pub rows_end : row_count fields ≤ index → table_check_of fields message_length ≡ Ok tt
   unfolding bad_from
   rows_end over =
       let none_left : row_count fields - index ≡ 0 = omega (arith, so_far.within) in
@@ -88,7 +89,7 @@ module _ (fields : List ℕ) (message_length index : ℕ) (so_far : RowsSoFar fi
     one_left : row_count fields - index ≡ suc (row_count fields - suc index)
     one_left = omega arith
 
-    pub rows_bad : is_bad_field fields message_length index ≡ true → table_check_of fields message_length ≡ Refused (index + 1)
+    pub rows_bad : is_bad_field fields message_length index ≡ true → table_check_of fields message_length ≡ Err (BadField (index + 1))
     unfolding bad_from
     rows_bad bad = so_far.left ∙ rw (one_left, bad, add-one)
 
@@ -102,7 +103,7 @@ module _ (fields : List ℕ) (message_length index : ℕ) (so_far : RowsSoFar fi
 
 -- ---- an accepted table
 
-bad_from-accepts : (fields : List ℕ) (message_length rows position : ℕ) → bad_from fields message_length rows position ≡ Accepted
+bad_from-accepts : (fields : List ℕ) (message_length rows position : ℕ) → bad_from fields message_length rows position ≡ Ok tt
     → (other : ℕ) → position ≤ other → other < position + rows → is_bad_field fields message_length other ≡ false
 unfolding bad_from
 bad_from-accepts fields message_length zero position accepted other from below = absurd (omega arith)
@@ -110,8 +111,8 @@ bad_from-accepts fields message_length (suc rows) position accepted other from b
     go (is_bad_field fields message_length position) refl accepted (λ rest. bad_from-accepts fields message_length rows (suc position) rest other)
   where
     go : (bad : Bool) → is_bad_field fields message_length position ≡ bad
-        → (if bad then Refused (suc position) else bad_from fields message_length rows (suc position)) ≡ Accepted
-        → (bad_from fields message_length rows (suc position) ≡ Accepted → suc position ≤ other → other < suc position + rows → is_bad_field fields message_length other ≡ false)
+        → (if bad then Err (BadField (suc position)) else bad_from fields message_length rows (suc position)) ≡ Ok tt
+        → (bad_from fields message_length rows (suc position) ≡ Ok tt → suc position ≤ other → other < suc position + rows → is_bad_field fields message_length other ≡ false)
         → is_bad_field fields message_length other ≡ false
     go true bad refused others = let zero_one : ◌≡◌ {A = ℕ} 0 1 = cc in absurd (omega arith)
     go false good rest others = here (ℕ_discrete other position)
@@ -122,7 +123,7 @@ bad_from-accepts fields message_length (suc rows) position accepted other from b
 
 accepts-bad_from : (fields : List ℕ) (message_length rows position : ℕ)
     → ((other : ℕ) → position ≤ other → other < position + rows → is_bad_field fields message_length other ≡ false)
-    → bad_from fields message_length rows position ≡ Accepted
+    → bad_from fields message_length rows position ≡ Ok tt
 unfolding bad_from
 accepts-bad_from fields message_length zero position good = refl
 accepts-bad_from fields message_length (suc rows) position good =
@@ -130,12 +131,12 @@ accepts-bad_from fields message_length (suc rows) position good =
 
 module _ (fields : List ℕ) (message_length : ℕ) where
   -- "A field table is accepted if row 12 finds nothing in it"
-  pub table_check_of-accepted : table_check_of fields message_length ≡ Accepted ↔ AcceptedTable fields message_length
+  pub table_check_of-accepted : table_check_of fields message_length ≡ Ok tt ↔ AcceptedTable fields message_length
   unfolding table_check_of
   table_check_of-accepted = (λ accepted. tells (eqb (length fields % 3) 0) (ltb 4096 (row_count fields)) refl refl accepted, told)
     where
       tells : (threes many : Bool) → eqb (length fields % 3) 0 ≡ threes → ltb 4096 (row_count fields) ≡ many
-          → (if not threes || many then Refused 0 else bad_from fields message_length (row_count fields) 0) ≡ Accepted
+          → (if not threes || many then Err (BadField 0) else bad_from fields message_length (row_count fields) 0) ≡ Ok tt
           → AcceptedTable fields message_length
       tells false many is-threes is-many refused = let zero_one : ◌≡◌ {A = ℕ} 0 1 = cc in absurd (omega arith)
       tells true true is-threes is-many refused = let zero_one : ◌≡◌ {A = ℕ} 0 1 = cc in absurd (omega arith)
@@ -151,7 +152,7 @@ module _ (fields : List ℕ) (message_length : ℕ) where
           }
 
       told : AcceptedTable fields message_length
-          → (if not (eqb (length fields % 3) 0) || ltb 4096 (row_count fields) then Refused 0 else bad_from fields message_length (row_count fields) 0) ≡ Accepted
+          → (if not (eqb (length fields % 3) 0) || ltb 4096 (row_count fields) then Err (BadField 0) else bad_from fields message_length (row_count fields) 0) ≡ Ok tt
       told table =
           let rest : length fields % 3 ≡ 0 = omega (arith, table.threes) in
           rw (eq-eqb (length fields % 3) 0 rest, le-ltb 4096 (row_count fields) table.few)

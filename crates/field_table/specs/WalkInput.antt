@@ -6,9 +6,7 @@
 --   Input                both, and the greatest depth of a group (the Rust's MAX_SCOPE_DEPTH)
 --   count_at fields position              what the value at the position declares as a count field
 --   event layout group depth kind        an event of the group: it carries the group's count tag and its depth
-use Rattle.std.specs.Prelude.{ℕ, Bool, List}
-use Rattle.std.proofs.Math.Option.{Option}
-use Rattle.counts.specs.declared.count.Count.{Count}
+use Rattle.std.specs.Prelude.{ℕ, Bool, List, Option}
 use Rattle.counts.specs.Count.{count_of}
 use Rattle.events.specs.declared.event.Kind.{Kind}
 use Rattle.events.specs.declared.event.Event.{Event}
@@ -33,7 +31,7 @@ pub record Input : Type 1 where
   pub fields : Fields
   pub depth_limit : ℕ
 
-abbrev pub count_at : Fields → ℕ → Count
+abbrev pub count_at : Fields → ℕ → Option ℕ
 count_at fields position = count_of (fields.value_at position)
 
 abbrev pub event : (layout : Layout) → layout.Group → ℕ → Kind → Event

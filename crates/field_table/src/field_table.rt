@@ -5,14 +5,8 @@ ghost use Rattle.field_table.specs.FieldTable.{row_count, tag_of, first_of, past
 ghost use Rattle.field_table.specs.FieldTableLaws.{AcceptedTable};
 ghost use Rattle.field_table.specs.WalkInput.{count_at};
 
-use counts::count::Count;
-
-// Whether a field table is accepted, or refused with 12 at this place.
-#[derive(Clone, Copy)]
-pub enum TableCheck {
-    Accepted,
-    Refused(usize),
-}
+use counts::count::parse_count;
+use refusals::refusal::Refusal;
 
 fn wide(word: u32) -> usize
     ensures { result ≡ word }
@@ -45,38 +39,38 @@ pub fn past_at(fields: &[u32], index: usize) -> usize
 }
 
 // Checks the table against a message of so many bytes: words in threes, at most 4,096 fields, and each field inside the message.
-pub fn check_field_table(fields: &[u32], message_len: usize) -> TableCheck
+pub fn check_field_table(fields: &[u32], message_len: usize) -> Result<(), Refusal>
     ensures outcome { result ≡ table_check_of fields.now message_len }
 {
     let rows = fields.len() / 3;
     if fields.len() % 3 != 0 {
-        return TableCheck::Refused(0);
+        return Err(Refusal::BadField(0));
     }
     if 4096 < rows {
-        return TableCheck::Refused(0);
+        return Err(Refusal::BadField(0));
     }
     let mut index = 0;
     while index < rows {
         let first = first_at(fields, index);
         let past = past_at(fields, index);
         if past < first {
-            return TableCheck::Refused(index + 1);
+            return Err(Refusal::BadField(index as u64 + 1));
         }
         if message_len < past {
-            return TableCheck::Refused(index + 1);
+            return Err(Refusal::BadField(index as u64 + 1));
         }
         index += 1;
     }
-    TableCheck::Accepted
+    Ok(())
 }
 
 // The count that the field at `index` declares as a count field.
-pub fn count_at(fields: &[u32], message: &[u8], index: usize) -> Count
+pub fn count_at(fields: &[u32], message: &[u8], index: usize) -> Option<u64>
     requires accepted_table { AcceptedTable fields.now (length message.now) }
     requires index_bound { index < row_count fields.now }
     ensures { result ≡ count_at (fields_of fields.now message.now) index }
 {
     let first = first_at(fields, index);
     let past = past_at(fields, index);
-    counts::count::parse_count(&message[first..past])
+    parse_count(&message[first..past])
 }

@@ -11,10 +11,8 @@
 --
 -- `around` tests the tags of the level around the group; `depth` is 0 for a top group.
 -- Each index of a family is a variable and each condition an argument, so that a reading is a derivation and no more.
-use Rattle.std.specs.Prelude.{◌≡◌, ◌≢◌, ℕ, suc, ◌≤◌, ◌<◌, Bool, true, false, not, ◌&&◌, ◌||◌, List, [], ◌∷◌, ◌++◌}
-use Rattle.std.proofs.Math.Option.{none, some}
+use Rattle.std.specs.Prelude.{◌≡◌, ◌≢◌, ℕ, suc, ◌≤◌, ◌<◌, Bool, true, false, not, ◌&&◌, ◌||◌, List, [], ◌∷◌, ◌++◌, Some, None}
 use Rattle.ascii.specs.Notation.{◌<ᵇ◌, ◌≡ᵇ◌}
-use Rattle.counts.specs.declared.count.Count.TheVariants.{Number}
 use Rattle.events.specs.declared.event.Kind.TheVariants.{Enter, Close, Leave}
 use Rattle.events.specs.declared.event.Event.{Event}
 use Rattle.ascii.specs.Membership.{◌∈ᵇ◌}
@@ -40,7 +38,7 @@ module _ (input : Input) where
       reading : {group : Group} {depth : ℕ} {around : ℕ → Bool} {first past : ℕ} (entries : ℕ)
           → first < field_count
           → depth ≤ depth_limit
-          → count_at fields first ≡ Number entries
+          → count_at fields first ≡ Some entries
           → Entries group depth entries (suc first) past
           → may_follow group around entries past ≡ true
           → Reading group depth around first past
@@ -71,9 +69,9 @@ module _ (input : Input) where
     -- "A field of an entry whose tag is a nested count tag begins a reading of that nested group"; "around a nested group, the members of
     -- the group it stands in"
     pub data Item : (group : Group) (depth first past : ℕ) → Type 0 where
-      plain : {group : Group} {depth first past : ℕ} → nested_group group (tag_at first) ≡ none → past ≡ suc first → Item group depth first past
+      plain : {group : Group} {depth first past : ℕ} → nested_group group (tag_at first) ≡ None → past ≡ suc first → Item group depth first past
       nested : {group : Group} {depth first past : ℕ} (inner : Group)
-          → nested_group group (tag_at first) ≡ some inner
+          → nested_group group (tag_at first) ≡ Some inner
           → Reading inner (suc depth) (is_member group) first past
           → Item group depth first past
 

@@ -9,16 +9,13 @@
 --   Step, step_at at_start group cursor                   what `scan_entry` finds at a field
 --
 -- `enclosing` tests the tags of the level around the group.
-use Rattle.std.specs.Prelude.{ℕ, suc, Bool, false, not, ◌&&◌, ◌||◌, if◌then◌else◌}
-use Rattle.std.proofs.Math.Option.{Option, none, some}
+use Rattle.std.specs.Prelude.{ℕ, suc, Bool, false, not, ◌&&◌, ◌||◌, if◌then◌else◌, Option, Some, None}
 use Rattle.ascii.specs.Notation.{◌≤ᵇ◌, ◌<ᵇ◌, ◌≡ᵇ◌}
-use Rattle.counts.specs.declared.count.Count.{Count}
-use Rattle.counts.specs.declared.count.Count.TheVariants.{Number, Nothing}
 use Rattle.field_table.specs.WalkInput.{Input, count_at}
 
-abbrev pub ends_group : Count → ℕ → (ℕ → Bool) → ℕ → Bool
-ends_group (Number declared) entries enclosing tag = declared ≡ᵇ entries && enclosing tag
-ends_group Nothing entries enclosing tag = false
+abbrev pub ends_group : Option ℕ → ℕ → (ℕ → Bool) → ℕ → Bool
+ends_group (Some declared) entries enclosing tag = declared ≡ᵇ entries && enclosing tag
+ends_group None entries enclosing tag = false
 
 pub data Opening : Type 0 where
   -- the index is outside the table
@@ -37,22 +34,22 @@ pub data Step (Group : Type 0) : Type 0 where
   nested_group_lem : Group → Step Group
 
 abbrev pub field_step : {Group : Type 0} → Option Group → Step Group
-field_step none = plain_field
-field_step (some inner) = nested_group_lem inner
+field_step None = plain_field
+field_step (Some inner) = nested_group_lem inner
 
 module _ (input : Input) where
   open input use {layout, fields, depth_limit}
   open layout use {Group, delimiter, is_member, nested_group}
   open fields use {field_count, tag_at}
 
-  unfoldable pub member_leads : Group → (ℕ → Bool) → Count → ℕ → Bool
+  unfoldable pub member_leads : Group → (ℕ → Bool) → Option ℕ → ℕ → Bool
   member_leads group enclosing declared cursor =
       cursor <ᵇ field_count
       && not (tag_at cursor ≡ᵇ delimiter group)
       && is_member group (tag_at cursor)
       && not (ends_group declared 0 enclosing (tag_at cursor))
 
-  unfoldable pub entry_begins : Group → (ℕ → Bool) → Count → ℕ → ℕ → Bool
+  unfoldable pub entry_begins : Group → (ℕ → Bool) → Option ℕ → ℕ → ℕ → Bool
   entry_begins group enclosing declared entries cursor =
       cursor <ᵇ field_count
       && tag_at cursor ≡ᵇ delimiter group

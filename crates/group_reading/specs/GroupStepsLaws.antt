@@ -1,11 +1,9 @@
 -- Laws of `GroupSteps.antt`: what each decision tells of the fields, and which decision is taken where. Assumes nothing.
-use Rattle.std.specs.Prelude.{◌≡◌, refl, ◌≢◌, ℕ, suc, ◌≤◌, ◌<◌, Bool, true, not, ◌&&◌, ◌||◌, ltb, leb, eqb, if◌then◌else◌}
+use Rattle.std.specs.Prelude.{◌≡◌, refl, ◌≢◌, ℕ, suc, ◌≤◌, ◌<◌, Bool, true, not, ◌&&◌, ◌||◌, ltb, leb, eqb, if◌then◌else◌, Option, Some, None}
 use Rattle.std.proofs.Common.{sym, ◌∙◌, true≢false, arith}
 use Rattle.std.proofs.Math.Bool.{false}
 use Rattle.std.proofs.lemmas.Bool.{false≢true}
-use Rattle.std.proofs.Math.Option.{Option, none, some}
 use borrow.Author.Tests.{ltb-true, leb-true, eqb-true, eqb-false, lt-ltb, le-ltb, le-leb, lt-leb, eq-eqb, ne_eqb}
-use Rattle.counts.specs.declared.count.Count.{Count}
 use Rattle.field_table.specs.WalkInput.{Input, count_at}
 use Rattle.group_reading.specs.GroupSteps.{ends_group, Opening, outside, too_deep, member_leads_lem, entries_follow, Step, stops, plain_field, nested_group_lem, field_step, member_leads, entry_begins, entry_stops, opening_at, step_at}
 
@@ -77,8 +75,8 @@ entries-only true true false opening = (refl, refl)
 -- what a step tells of the two tests that it is made from
 pub record StepTells {Group : Type 0} (stopped : Bool) (inner : Option Group) (step : Step Group) : Type 0 where
   pub stopping : step ≡ stops → stopped ≡ true
-  pub plain : step ≡ plain_field → (stopped ≡ false) × (inner ≡ none)
-  pub nesting : (group : Group) → step ≡ nested_group_lem group → (stopped ≡ false) × (inner ≡ some group)
+  pub plain : step ≡ plain_field → (stopped ≡ false) × (inner ≡ None)
+  pub nesting : (group : Group) → step ≡ nested_group_lem group → (stopped ≡ false) × (inner ≡ Some group)
 
 step-tells : {Group : Type 0} (stopped : Bool) (inner : Option Group) → StepTells stopped inner (if stopped then stops else field_step inner)
 step-tells true inner = record {
@@ -86,12 +84,12 @@ step-tells true inner = record {
   plain = λ same. let zero_one : ◌≡◌ {A = ℕ} 0 1 = cc in absurd (omega arith);
   nesting = λ group same. let zero_one : ◌≡◌ {A = ℕ} 0 1 = cc in absurd (omega arith);
 }
-step-tells false none = record {
+step-tells false None = record {
   stopping = λ same. let zero_one : ◌≡◌ {A = ℕ} 0 1 = cc in absurd (omega arith);
   plain = λ same. (refl, refl);
   nesting = λ group same. let zero_one : ◌≡◌ {A = ℕ} 0 1 = cc in absurd (omega arith);
 }
-step-tells false (some inner) = record {
+step-tells false (Some inner) = record {
   stopping = λ same. let zero_one : ◌≡◌ {A = ℕ} 0 1 = cc in absurd (omega arith);
   plain = λ same. let zero_one : ◌≡◌ {A = ℕ} 0 1 = cc in absurd (omega arith);
   nesting = λ group same. (refl, cc);
@@ -133,7 +131,7 @@ module _ (input : Input) where
 
   -- ---- entry_begins, member_leads
 
-  module _ (group : Group) (enclosing : ℕ → Bool) (declared : Count) where
+  module _ (group : Group) (enclosing : ℕ → Bool) (declared : Option ℕ) where
     pub entry_begins-delimiter : (entries cursor : ℕ) → entry_begins input group enclosing declared entries cursor ≡ true
         → (cursor < field_count) × (tag_at cursor ≡ delimiter group)
     unfolding entry_begins
@@ -203,12 +201,12 @@ module _ (input : Input) where
     unfolding step_at
     step_at-stops stopped = rw stopped
 
-    pub step_at-plain : entry_stops input at_start group cursor ≡ false → nested_group group (tag_at cursor) ≡ none
+    pub step_at-plain : entry_stops input at_start group cursor ≡ false → nested_group group (tag_at cursor) ≡ None
         → step_at input at_start group cursor ≡ plain_field
     unfolding step_at
     step_at-plain going_on no_inner = rw (going_on, no_inner)
 
-    pub step_at-nested : (inner : Group) → entry_stops input at_start group cursor ≡ false → nested_group group (tag_at cursor) ≡ some inner
+    pub step_at-nested : (inner : Group) → entry_stops input at_start group cursor ≡ false → nested_group group (tag_at cursor) ≡ Some inner
         → step_at input at_start group cursor ≡ nested_group_lem inner
     unfolding step_at
     step_at-nested inner going_on found = rw (going_on, found)

@@ -9,10 +9,8 @@
 -- Each stands on a definition by clauses (`walk_by`, `entries_by`, `scan_by`) whose first argument, the fuel, bounds the calls, and whose second
 -- is what is decided at this place (`GroupSteps.antt`). A call passes at least one field, so that the fuel given here, three calls for each
 -- field left, is never used up (`GroupWalkLaws/Fuel.antt`); where it would be, the answer holds a fault event.
-use Rattle.std.specs.Prelude.{ℕ, zero, suc, ◌+◌, ◌*◌, ◌-◌, Bool, true, false, not, ◌||◌, List, [], ◌∷◌, ◌++◌, length, if◌then◌else◌}
+use Rattle.std.specs.Prelude.{ℕ, zero, suc, ◌+◌, ◌*◌, ◌-◌, Bool, true, false, not, ◌||◌, List, [], ◌∷◌, ◌++◌, length, if◌then◌else◌, Option, Some, None}
 use Rattle.ascii.specs.Notation.{◌≡ᵇ◌}
-use Rattle.counts.specs.declared.count.Count.{Count}
-use Rattle.counts.specs.declared.count.Count.TheVariants.{Number, Nothing}
 use Rattle.events.specs.declared.event.Kind.TheVariants.{Enter, BadCount, Delim, Repeat, Close, Miscount, Deep, Leave}
 use Rattle.events.specs.declared.event.Event.{Event}
 use Rattle.ascii.specs.Membership.{◌∈ᵇ◌}
@@ -43,9 +41,9 @@ module _ (layout : Layout) where
   open layout use {Group}
 
   -- `invalid_count`
-  abbrev pub bad_count : Group → ℕ → ℕ → Count → List Event
-  bad_count group depth index Nothing = event layout group depth (BadCount index) ∷ []
-  bad_count group depth index (Number declared) = []
+  abbrev pub bad_count : Group → ℕ → ℕ → Option ℕ → List Event
+  bad_count group depth index None = event layout group depth (BadCount index) ∷ []
+  bad_count group depth index (Some declared) = []
 
   -- `repeated_tag`
   abbrev pub repeated_tag : Group → ℕ → ℕ → Bool → List Event
@@ -58,12 +56,12 @@ module _ (layout : Layout) where
       else if unparseable then event layout group depth (Leave false entries) ∷ []
       else event layout group depth (Miscount declared entries) ∷ event layout group depth (Leave false entries) ∷ []
 
-  abbrev pub ended : Group → ℕ → Count → Bool → ℕ → List Event
-  ended group depth Nothing unparseable entries = event layout group depth (Leave false entries) ∷ []
-  ended group depth (Number declared) unparseable entries = ended_by group depth (declared ≡ᵇ entries) unparseable declared entries
+  abbrev pub ended : Group → ℕ → Option ℕ → Bool → ℕ → List Event
+  ended group depth None unparseable entries = event layout group depth (Leave false entries) ∷ []
+  ended group depth (Some declared) unparseable entries = ended_by group depth (declared ≡ᵇ entries) unparseable declared entries
 
   -- a whole group: `leading` are the events of a first entry without its delimiter, `rest` the entries behind it
-  abbrev pub whole_group : Group → ℕ → ℕ → Count → Bool → List Event → WalkedEntries → WalkedGroup
+  abbrev pub whole_group : Group → ℕ → ℕ → Option ℕ → Bool → List Event → WalkedEntries → WalkedGroup
   whole_group group depth index declared unparseable leading rest = record {
     events =
         event layout group depth Enter
@@ -122,7 +120,7 @@ module _ (input : Input) where
         whole_group layout group depth index (count_at fields index) false []
         (entries_by fuel (entry_begins input group enclosing (count_at fields index) 0 (suc index)) group depth enclosing (count_at fields index) 0 (suc index))
 
-    pub entries_by : ℕ → Bool → Group → ℕ → (ℕ → Bool) → Count → ℕ → ℕ → WalkedEntries
+    pub entries_by : ℕ → Bool → Group → ℕ → (ℕ → Bool) → Option ℕ → ℕ → ℕ → WalkedEntries
     entries_by zero begins group depth enclosing declared entries cursor = record { events = event layout group depth Deep ∷ []; next = cursor; unparseable = true; entries = entries }
     entries_by (suc fuel) false group depth enclosing declared entries cursor = record { events = []; next = cursor; unparseable = false; entries = entries }
     entries_by (suc fuel) true group depth enclosing declared entries cursor =
@@ -146,7 +144,7 @@ module _ (input : Input) where
   abbrev pub walk_with : ℕ → Group → ℕ → (ℕ → Bool) → ℕ → WalkedGroup
   walk_with fuel group depth enclosing index = walk_by fuel (opening_at input group depth enclosing index) group depth enclosing index
 
-  abbrev pub entries_with : ℕ → Group → ℕ → (ℕ → Bool) → Count → ℕ → ℕ → WalkedEntries
+  abbrev pub entries_with : ℕ → Group → ℕ → (ℕ → Bool) → Option ℕ → ℕ → ℕ → WalkedEntries
   entries_with fuel group depth enclosing declared entries cursor =
       entries_by fuel (entry_begins input group enclosing declared entries cursor) group depth enclosing declared entries cursor
 
@@ -156,7 +154,7 @@ module _ (input : Input) where
   unfoldable pub walk_group : Group → ℕ → (ℕ → Bool) → ℕ → WalkedGroup
   walk_group group depth enclosing index = walk_with (3 * (field_count - index) + 1) group depth enclosing index
 
-  unfoldable pub walk_entries : Group → ℕ → (ℕ → Bool) → Count → ℕ → ℕ → WalkedEntries
+  unfoldable pub walk_entries : Group → ℕ → (ℕ → Bool) → Option ℕ → ℕ → ℕ → WalkedEntries
   walk_entries group depth enclosing declared entries cursor = entries_with (3 * (field_count - cursor) + 3) group depth enclosing declared entries cursor
 
   unfoldable pub scan_entry : Bool → Group → ℕ → List ℕ → ℕ → ScannedEntry

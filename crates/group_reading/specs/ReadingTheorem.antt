@@ -23,6 +23,7 @@ use Rattle.group_reading.specs.ReadingTheorem.Unique.{reading-ends, reading-uniq
 pub mod Follow
 pub mod Sound
 pub mod Complete
+pub mod OptionSet
 pub mod Unique
 
 module _ (input : Input) where

@@ -3,11 +3,9 @@
 --
 --   EntryWritten ..   the loop of `scan_entry` and `scan_wide`: the fields before the cursor are taken
 --   GroupWritten ..   the loop of `walk_group`: so many entries are taken, the last one up to the cursor
-use Rattle.std.specs.Prelude.{◌≡◌, refl, ℕ, suc, ◌+◌, ◌*◌, ◌-◌, ◌≤◌, ◌<◌, Bool, true, false, not, ◌||◌, ◌⊎◌, List, [], ◌∷◌, ◌++◌, eqb, length}
+use Rattle.std.specs.Prelude.{◌≡◌, refl, ℕ, suc, ◌+◌, ◌*◌, ◌-◌, ◌≤◌, ◌<◌, Bool, true, false, not, ◌||◌, ◌⊎◌, List, [], ◌∷◌, ◌++◌, eqb, length, Option, Some, None}
 use Rattle.std.proofs.Common.{sym, ap, subst, ◌∙◌, true≢false, ⊎_elim, append_assoc, append-nil, arith, add-one, eq-eqb, ne_eqb}
-use Rattle.std.proofs.Math.Option.{none, some}
 use Rattle.std.proofs.Math.Decide.{ℕ_discrete}
-use Rattle.counts.specs.declared.count.Count.{Count}
 use Rattle.layouts.specs.Limits.{gate_limits}
 use Rattle.layouts.specs.LayoutWords.{group_count, level_members, count_tag_at}
 use Rattle.layouts.specs.LayoutCheckFacts.{Passed}
@@ -137,7 +135,7 @@ module _ (words fields message : List ℕ) (passed : Passed gate_limits words) (
             spoilt_is : unparseable' ≡ (unparseable || repeats)
             spoilt_is = is-unparseable ∙ ap (λ (other : Bool). unparseable || other) (ap not fresh_repeats ∙ not-not repeats)
 
-            pub entry-adds_plain : group_of words (1 + group) (tag_of fields cursor) ≡ none → EntryWritten words fields message group start depth before at width between tags' (cursor + 1) unparseable' middle
+            pub entry-adds_plain : group_of words (1 + group) (tag_of fields cursor) ≡ None → EntryWritten words fields message group start depth before at width between tags' (cursor + 1) unparseable' middle
             entry-adds_plain no_group =
                 let later : eqb (cursor + 1) start ≡ false = ne_eqb (cursor + 1) start (λ (same : cursor + 1 ≡ start). omega (arith, same, written.ahead)) in
                 record {
@@ -156,7 +154,7 @@ module _ (words fields message : List ℕ) (passed : Passed gate_limits words) (
                   gain = λ later. omega (arith, written.room, repeat_room);
                 }
 
-            module _ (inner : ℕ) (nests : group_of words (1 + group) (tag_of fields cursor) ≡ some inner) where
+            module _ (inner : ℕ) (nests : group_of words (1 + group) (tag_of fields cursor) ≡ Some inner) where
               pub inner-valid : inner < group_count words
               inner-valid = group_of_number words passed (1 + group) (tag_of fields cursor) inner (omega arith) nests
 
@@ -276,7 +274,7 @@ module _ (words fields message enclosing : List ℕ) (group index depth : ℕ) (
 
 module _ (words fields message enclosing : List ℕ) (passed : Passed gate_limits words) (group : ℕ) (valid : group < group_count words) (index depth : ℕ) where
   module _ (before : List ℕ) (at : ℕ) where
-    module _ (inside : index < row_count fields) (shallow : depth ≤ 32) (declared : Count) (is-count : declared ≡ count_at (fields_of fields message) index)
+    module _ (inside : index < row_count fields) (shallow : depth ≤ 32) (declared : Option ℕ) (is-count : declared ≡ count_at (fields_of fields message) index)
         (count_tag_lem : ℕ) (is-count-tag : count_tag_lem ≡ count_tag_at words group) where
       pub group-starts : at + 15 ≤ 25 * (index + 1) → GroupWritten words fields message enclosing group index depth before at before at (index + 1) 0 false
       group-starts room =
@@ -454,6 +452,6 @@ module _ (words fields message enclosing : List ℕ) (passed : Passed gate_limit
       }
 
 -- the place behind the events at the start of a group
-pub begun-room : (tag depth index : ℕ) (declared : Count) {before after : List ℕ} {at next : ℕ} → Wrote before after at next (begun_by tag depth index declared) → at ≤ 25 * index
+pub begun-room : (tag depth index : ℕ) (declared : Option ℕ) {before after : List ℕ} {at next : ℕ} → Wrote before after at next (begun_by tag depth index declared) → at ≤ 25 * index
     → next + 15 ≤ 25 * (index + 1)
 begun-room tag depth index declared wrote room = omega (arith, wrote.next_is, begun-few tag depth index declared)

@@ -2,7 +2,7 @@
 // `walk_group` and `scan_entry`; the Visitor is the event space.
 ghost use Rattle.group_walk.specs.WalkPromises.{WalkAsks, Walks, ScanAsks, Scans};
 
-use entry_tags::entry_tags::{EntryTags, WideEntryTags};
+use entry_tags::entry_tags::{EntryTags, RankSet, WideEntryTags};
 use events::event::Kind;
 use field_table::field_table::count_at;
 use layouts::layout_words::{count_tag_at, count_tags_at, delimiter_at, members_at};
@@ -64,9 +64,7 @@ pub fn walk_group<'a>(
         match opening_at(
             fields, members, enclosing, delimiter, declared, entries, cursor,
         ) {
-            Turn::Over => {
-                break;
-            }
+            Turn::Over => break,
             Turn::Entry => {}
             Turn::Lead(member) => {
                 to = put_event(events, to, tag, depth, Kind::Delim(member));
@@ -124,23 +122,19 @@ fn scan_entry<'a>(
     let mut to = at;
     loop {
         match step_at(fields, members, tags, first, delimiter, start, cursor) {
-            EntryStep::Stop => {
-                break;
-            }
+            EntryStep::Stop => break,
             EntryStep::Plain(rank, member) => {
-                let inserted = seen.insert_rank(rank);
-                let with = inserted.tags;
+                let (with, fresh) = seen.insert_rank(rank);
                 seen = with;
-                to = put_repeat(events, to, tag, depth, member, inserted.fresh);
-                unparseable = spoilt_by(unparseable, inserted.fresh);
+                to = put_repeat(events, to, tag, depth, member, fresh);
+                unparseable = spoilt_by(unparseable, fresh);
                 cursor += 1;
             }
             EntryStep::Nested(rank, member, inner) => {
-                let inserted = seen.insert_rank(rank);
-                let with = inserted.tags; // the set is this entry's alone
+                let (with, fresh) = seen.insert_rank(rank);
                 seen = with;
-                to = put_repeat(events, to, tag, depth, member, inserted.fresh);
-                unparseable = spoilt_by(unparseable, inserted.fresh); // by no nested fault
+                to = put_repeat(events, to, tag, depth, member, fresh);
+                unparseable = spoilt_by(unparseable, fresh); // by no nested fault
                 let below = depth + 1; // a nested group is one deeper
                 let nested = walk_group(
                     fields, message, words, members, inner, cursor, below, events, to,
@@ -159,7 +153,8 @@ fn scan_entry<'a>(
     }
 }
 
-// As `scan_entry`, for a wider level: only the set differs.
+// As `scan_entry`, for a wider level: only the set differs. It stays a function of its own, since the
+// three call each other, and a cycle of calls gets no proof where one of them is generic.
 #[cycle(scan_entry_scan_wide_walk_group)]
 fn scan_wide<'a>(
     fields: &[u32],
@@ -186,23 +181,19 @@ fn scan_wide<'a>(
     let mut to = at;
     loop {
         match step_at(fields, members, tags, first, delimiter, start, cursor) {
-            EntryStep::Stop => {
-                break;
-            }
+            EntryStep::Stop => break,
             EntryStep::Plain(rank, member) => {
-                let inserted = seen.insert_rank(rank);
-                let with = inserted.tags;
+                let (with, fresh) = seen.insert_rank(rank);
                 seen = with;
-                to = put_repeat(events, to, tag, depth, member, inserted.fresh);
-                unparseable = spoilt_by(unparseable, inserted.fresh);
+                to = put_repeat(events, to, tag, depth, member, fresh);
+                unparseable = spoilt_by(unparseable, fresh);
                 cursor += 1;
             }
             EntryStep::Nested(rank, member, inner) => {
-                let inserted = seen.insert_rank(rank);
-                let with = inserted.tags;
+                let (with, fresh) = seen.insert_rank(rank);
                 seen = with;
-                to = put_repeat(events, to, tag, depth, member, inserted.fresh);
-                unparseable = spoilt_by(unparseable, inserted.fresh);
+                to = put_repeat(events, to, tag, depth, member, fresh);
+                unparseable = spoilt_by(unparseable, fresh);
                 let below = depth + 1;
                 let nested = walk_group(
                     fields, message, words, members, inner, cursor, below, events, to,

@@ -11,8 +11,7 @@
 --   message_events                  all events, in order
 --
 -- A turn passes at least one field, so that as many turns as there are fields are enough (`MessageWalkLaws.antt`).
-use Rattle.std.specs.Prelude.{ℕ, zero, suc, Bool, not, ◌&&◌, List, [], ◌∷◌, ◌++◌, if◌then◌else◌}
-use Rattle.std.proofs.Math.Option.{Option, none, some}
+use Rattle.std.specs.Prelude.{ℕ, zero, suc, Bool, not, ◌&&◌, List, [], ◌∷◌, ◌++◌, if◌then◌else◌, Option, Some, None}
 use Rattle.ascii.specs.Notation.{◌≡ᵇ◌, ◌<ᵇ◌}
 use Rattle.events.specs.declared.event.Kind.{Kind}
 use Rattle.events.specs.declared.event.Kind.TheVariants.{Twice, Foreign, Missing}
@@ -77,8 +76,8 @@ module _ (input : Input) (level : MessageLevel input.layout.Group) where
 
   -- the group that begins at `index` is walked; another field must be a member of the top
   abbrev pub place_at : Option Group → ℕ → WalkedGroup
-  place_at (some group) index = walk_group input group 0 allows index
-  place_at none index = record { events = foreign_unless (allows (tag_at index)) (tag_at index); next = suc index }
+  place_at (Some group) index = walk_group input group 0 allows index
+  place_at None index = record { events = foreign_unless (allows (tag_at index)) (tag_at index); next = suc index }
 
   -- "undefined tags are skipped"
   unfoldable pub turn_at : List ℕ → ℕ → Turn

@@ -2,12 +2,11 @@
 --
 --   Passes field_count index next count   a turn of so many events passes the fields from `index` up to before `next`
 --   TurnsSoFar events seen index         the turns before `index` have these events and have seen these tags
-use Rattle.std.specs.Prelude.{◌≡◌, Bool, not, ◌&&◌, if◌then◌else◌}
+use Rattle.std.specs.Prelude.{◌≡◌, Bool, not, ◌&&◌, if◌then◌else◌, Option, Some, None}
 use Rattle.std.proofs.Math.Path.{refl}
-use Rattle.std.proofs.Common.{sym, ap, ◌∙◌}
+use Rattle.std.proofs.Common.{◌∙◌}
 use Prim.Native.Nat.{ℕ, zero, suc, ◌+◌, ◌*◌, ◌-◌, ◌≤◌, ◌<◌}
 use Rattle.std.proofs.Math.Bool.{true, false}
-use Rattle.std.proofs.Math.Option.{Option, none, some}
 use mathlib.Core.List.{List, [], ◌∷◌, ◌++◌, append_assoc, append-nil}
 use native.Mathlib.Omega.{arith}
 use Rattle.std.proofs.Math.Dec.{ltb}
@@ -18,7 +17,6 @@ use Rattle.events.specs.declared.event.Event.{Event}
 use Rattle.ascii.specs.Membership.{◌∈ᵇ◌}
 use Rattle.field_table.specs.WalkInput.{Input}
 use Rattle.field_table.specs.ReliedRules.{LayoutRules}
-use Rattle.group_reading.specs.GroupWalk.{WalkedGroup}
 use Rattle.group_reading.specs.GroupWalkLaws.EventBound.{walk_group-passes, walk_group-few_events}
 use Rattle.message_level.specs.MessageWalk.{MessageLevel, twice_if, foreign_unless, missing_if, Turn, Turns, turn_and, defined_turn, place_at, turn_at, turns_from, message_turns, missing_tags, missing_groups}
 
@@ -69,12 +67,12 @@ module _ (input : Input) (level : MessageLevel input.layout.Group) where
     unfolding turn_at
     turn-defined known = rw known
 
-  module _ (rules : LayoutRules layout) (valid : (tag : ℕ) (group : Group) → top_group tag ≡ some group → rules.Valid group) (index : ℕ) (inside : index < field_count) where
+  module _ (rules : LayoutRules layout) (valid : (tag : ℕ) (group : Group) → top_group tag ≡ Some group → rules.Valid group) (index : ℕ) (inside : index < field_count) where
     place-passes : (found : Option Group) → top_group (tag_at index) ≡ found
         → (index < (place_at input level found index).next) × ((place_at input level found index).next ≤ field_count)
         × (length (place_at input level found index).events + 2 ≤ 5 * ((place_at input level found index).next - index))
-    place-passes none nowhere = (omega arith, inside, omega (arith, foreign_few (allows (tag_at index)) (tag_at index)))
-    place-passes (some group) there =
+    place-passes None nowhere = (omega arith, inside, omega (arith, foreign_few (allows (tag_at index)) (tag_at index)))
+    place-passes (Some group) there =
         let passes = walk_group-passes input rules group 0 allows index (valid (tag_at index) group there) inside in
         let few = walk_group-few_events input rules group 0 allows index (valid (tag_at index) group there) inside in
         (omega (arith, passes.0), omega (arith, passes.1, inside), omega (arith, passes.0, few))
@@ -99,7 +97,7 @@ module _ (input : Input) (level : MessageLevel input.layout.Group) where
 
   -- ---- the turns
 
-  module _ (rules : LayoutRules layout) (valid : (tag : ℕ) (group : Group) → top_group tag ≡ some group → rules.Valid group) where
+  module _ (rules : LayoutRules layout) (valid : (tag : ℕ) (group : Group) → top_group tag ≡ Some group → rules.Valid group) where
     pub turns_few : (fuel : ℕ) (seen : List ℕ) (index : ℕ) → length (turns_from input level fuel seen index).events ≤ 5 * (field_count - index)
     unfolding turns_from
     turns_few zero seen index = omega arith

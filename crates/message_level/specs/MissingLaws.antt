@@ -3,7 +3,7 @@
 --   TagsWritten ..     the loop of `put_missing_tags`: the tags before `index` are looked at
 --   GroupsWritten ..   the loop of `put_missing_groups`: the groups before `number` are
 use Rattle.std.specs.Prelude.{◌≡◌, refl, ℕ, zero, suc, ◌+◌, ◌*◌, ◌≤◌, ◌<◌, Bool, true, false, not, ◌&&◌, List, [], ◌∷◌, ◌++◌, eqb, length, get_or, take, if◌then◌else◌}
-use Rattle.std.proofs.Common.{sym, ap, ◌∙◌, append_assoc, append-nil, arith, add-one, take-suc, take_all, eq-eqb, ne_eqb}
+use Rattle.std.proofs.Common.{sym, ap, ◌∙◌, append_assoc, append-nil, arith, add-one, take-suc, eq-eqb, ne_eqb}
 use Rattle.ascii.specs.Notation.{◌≡ᵇ◌}
 use Rattle.layouts.specs.Limits.{gate_limits}
 use Rattle.layouts.specs.LayoutWords.{required_places, group_count, level_required, level_count_tags, count_tag_at, flag_at}
@@ -94,62 +94,42 @@ required_from-next words number =
 
 module _ (defined seen required before : List ℕ) (at : ℕ) where
   pub record TagsWritten (after : List ℕ) (index to : ℕ) : Type 0 where
-    pub within : index ≤ length required
     pub near : to ≤ at + 5 * index
-    pub same_length : length after ≡ length before
     pub wrote : (tags : List ℕ) → SeenTags defined seen tags → Wrote before after at to (missing_tags tags (take index required))
 
   pub tags-start : TagsWritten before 0 at
   unfolding missing_tags
-  tags-start = record { within = omega arith; near = omega arith; same_length = refl; wrote = λ tags kept. wrote_none before at }
+  tags-start = record { near = omega arith; wrote = λ tags kept. wrote_none before at }
 
-  module _ (after : List ℕ) (index to : ℕ) (written : TagsWritten after index to) where
-    pub tags_more : index < length required → (tag : ℕ) → tag ≡ get_or required index 0 → (after' : List ℕ) (next : ℕ) → next ≤ to + 5 → length after' ≡ length after
-        → ((tags : List ℕ) → SeenTags defined seen tags → Wrote after after' to next (missing_if (not (tag ≡ᵇ 10) && not (tag ∈ᵇ tags)) tag))
-        → TagsWritten after' (index + 1) next
-    tags_more inside tag tag_is after' next near same wrote = record {
-      within = omega arith;
-      near = omega (arith, written.near);
-      same_length = same ∙ written.same_length;
-      wrote = λ tags kept. rw (missing_tags-next tags required index inside, ← tag_is) (wrote_then (written.wrote tags kept) (wrote tags kept));
-    }
-
-    pub tags-over : length required ≤ index → (tags : List ℕ) → SeenTags defined seen tags → Wrote before after at to (missing_tags tags required)
-    tags-over over tags kept = rw (take_all index required over) at (written.wrote tags kept)
-
-    pub tags-near : length required ≤ index → to ≤ at + 5 * length required
-    tags-near over = omega (arith, written.near, written.within)
+  pub tags_more : {after : List ℕ} {index to : ℕ} → TagsWritten after index to → index < length required → {after' : List ℕ} {next : ℕ} → next ≤ to + 5
+      → ((tags : List ℕ) → SeenTags defined seen tags
+      → Wrote after after' to next (missing_if (not (get_or required index 0 ≡ᵇ 10) && not (get_or required index 0 ∈ᵇ tags)) (get_or required index 0)))
+      → TagsWritten after' (index + 1) next
+  tags_more {index = index} written inside near wrote = record {
+    near = omega (arith, written.near);
+    wrote = λ tags kept. rw (missing_tags-next tags required index inside) (wrote_then (written.wrote tags kept) (wrote tags kept));
+  }
 
 -- ---- the loop over the groups
 
 module _ (defined seen words before : List ℕ) (at : ℕ) where
-  pub record GroupsWritten (groups : ℕ) (after : List ℕ) (number to : ℕ) : Type 0 where
-    pub within : number ≤ groups
+  pub record GroupsWritten (after : List ℕ) (number to : ℕ) : Type 0 where
     pub near : to ≤ at + 5 * number
-    pub same_length : length after ≡ length before
     pub wrote : (tags : List ℕ) → SeenTags defined seen tags → Wrote before after at to (missing_groups tags (required_from words 0 number))
 
-  pub groups-start : (groups : ℕ) → GroupsWritten groups before 0 at
+  pub groups-start : GroupsWritten before 0 at
   unfolding missing_groups required_from
-  groups-start groups = record { within = omega arith; near = omega arith; same_length = refl; wrote = λ tags kept. wrote_none before at }
+  groups-start = record { near = omega arith; wrote = λ tags kept. wrote_none before at }
 
-  module _ (groups : ℕ) (after : List ℕ) (number to : ℕ) (written : GroupsWritten groups after number to) where
-    pub groups-more : number < groups → (after' : List ℕ) (next : ℕ) → next ≤ to + 5 → length after' ≡ length after
-        → ((tags : List ℕ) → SeenTags defined seen tags → Wrote after after' to next (missing_groups tags (required_from words number 1)))
-        → GroupsWritten groups after' (number + 1) next
-    groups-more inside after' next near same wrote = record {
-      within = omega arith;
-      near = omega (arith, written.near);
-      same_length = same ∙ written.same_length;
-      wrote = λ tags kept.
-          rw (required_from-next words number, missing_groups-append tags (required_from words 0 number) (required_from words number 1))
-          (wrote_then (written.wrote tags kept) (wrote tags kept));
-    }
-
-    pub groups-over : groups ≤ number → (tags : List ℕ) → SeenTags defined seen tags → Wrote before after at to (missing_groups tags (required_from words 0 groups))
-    groups-over over tags kept =
-        let all : number ≡ groups = omega (arith, written.within) in
-        rw all at (written.wrote tags kept)
+  pub groups-more : {after : List ℕ} {number to : ℕ} → GroupsWritten after number to → {after' : List ℕ} {next : ℕ} → next ≤ to + 5
+      → ((tags : List ℕ) → SeenTags defined seen tags → Wrote after after' to next (missing_groups tags (required_from words number 1)))
+      → GroupsWritten after' (number + 1) next
+  groups-more {number = number} written near wrote = record {
+    near = omega (arith, written.near);
+    wrote = λ tags kept.
+        rw (required_from-next words number, missing_groups-append tags (required_from words 0 number) (required_from words number 1))
+        (wrote_then (written.wrote tags kept) (wrote tags kept));
+  }
 
 -- ---- both
 

@@ -1,26 +1,15 @@
 -- Laws of `SeenTags.antt`: the empty set, a tag put in, and the test of a tag. Assumes nothing.
-use Rattle.std.specs.Prelude.{◌≡◌, refl, ℕ, ◌*◌, ◌/◌, ◌%◌, ◌^◌, ◌≤◌, ◌<◌, Bool, true, false, not, List, [], ◌∷◌, eqb, length, get_or}
+use Rattle.std.specs.Prelude.{◌≡◌, refl, ℕ, ◌≤◌, ◌<◌, Bool, true, false, List, [], length, Option, Some, None}
 use Rattle.std.proofs.Common.{sym, ap, ◌∙◌, true≢false, arith}
-use Rattle.std.specs.Int.Bits.{bit_and}
-use Rattle.ascending.specs.declared.search.Found.{Found}
-use Rattle.ascending.specs.declared.search.Found.TheVariants.{At, Nothing}
 use Rattle.ascending.specs.Search.{StrictlyAscending, rank_in}
 use Rattle.ascii.specs.Membership.{◌∈ᵇ◌}
 use Rattle.entry_tags.specs.EntryTags.{no_ranks, holds_rank, insert_rank}
 use Rattle.ascii.specs.Membership.{insert_if}
-use Rattle.entry_tags.specs.EntryTagsLaws.{fresh_is, stands-empty, seen-empty, seen-holds, seen-insert}
+use Rattle.entry_tags.specs.EntryTagsLaws.{stands-empty, seen-empty, seen-holds, seen-insert}
 use Rattle.walk_steps.specs.WalkWords.{among}
 use Rattle.walk_steps.specs.WalkWordsLaws.{rank_of}
 use Rattle.walk_steps.specs.WalkWordsLaws.{member-found, member-nowhere, rank_in-there, rank_of_found, rank_of_low, rank_of_apart}
 use Rattle.message_level.specs.SeenTags.{seen_words, SeenTags}
-
-pub not-not : (test : Bool) → not (not test) ≡ test
-not-not true = refl
-not-not false = refl
-
--- the test of a rank, as code makes it
-pub holds-is : (words : List ℕ) (rank : ℕ) → not (eqb (bit_and (get_or words (rank / 64) 0) (2 ^ (rank % 64))) 0) ≡ holds_rank words rank
-holds-is words rank = ap not (fresh_is words rank) ∙ not-not (holds_rank words rank)
 
 -- nothing is held by the words of the empty set
 pub none-held : (words : List ℕ) → words ≡ no_ranks seen_words → (rank : ℕ) → rank < 10944 → holds_rank words rank ≡ true → ⊥
@@ -32,12 +21,12 @@ module _ (defined : List ℕ) where
   none_seen few words empty = rw empty (seen-empty seen_words (length defined) (among defined) (rank_of defined) (rank_of_low defined) (rank_of_apart defined) (omega arith))
 
   -- a search for a tag
-  module _ (ascends : StrictlyAscending defined) (tag : ℕ) (found : Found) (searched : StrictlyAscending defined → found ≡ rank_in defined tag) where
-    pub not_defined : found ≡ Nothing → among defined tag ≡ false
+  module _ (ascends : StrictlyAscending defined) (tag : ℕ) (found : Option ℕ) (searched : StrictlyAscending defined → found ≡ rank_in defined tag) where
+    pub not_defined : found ≡ None → among defined tag ≡ false
     not_defined nowhere = member-nowhere defined tag (sym (searched ascends) ∙ nowhere)
 
-    module _ (rank : ℕ) (there : found ≡ At rank) where
-      ranked : rank_in defined tag ≡ At rank
+    module _ (rank : ℕ) (there : found ≡ Some rank) where
+      ranked : rank_in defined tag ≡ Some rank
       ranked = sym (searched ascends) ∙ there
 
       pub is-defined : among defined tag ≡ true
@@ -61,7 +50,7 @@ module _ (defined : List ℕ) where
             (seen-insert seen_words (length defined) (among defined) (rank_of defined) (rank_of_low defined) (rank_of_apart defined) words seen kept tag is-defined)
 
     -- a tag that is not defined was never seen
-    pub not-defined_seen : found ≡ Nothing → (words seen : List ℕ) → SeenTags defined words seen → false ≡ tag ∈ᵇ seen
+    pub not-defined_seen : found ≡ None → (words seen : List ℕ) → SeenTags defined words seen → false ≡ tag ∈ᵇ seen
     not-defined_seen nowhere words seen kept = go (tag ∈ᵇ seen) refl
       where
         go : (there : Bool) → tag ∈ᵇ seen ≡ there → false ≡ there

@@ -1,4 +1,5 @@
-// What is required at the message level and was not seen there: tags, then groups. Ported from validator.rs, the end of `Validator::validate`.
+// What is required at the message level and was not seen there: tags, then groups. Ported from
+// validator.rs, the end of `Validator::validate`.
 ghost use Rattle.std.specs.Prelude.{not, ◌&&◌, List, ◌++◌, ℕ, ◌+◌, ◌*◌, ◌≤◌, ◌<◌, ◌^◌, length};
 ghost use Rattle.ascii.specs.Notation.{◌≡ᵇ◌};
 ghost use Rattle.layouts.specs.Limits.{gate_limits};
@@ -29,12 +30,14 @@ fn put_absent(defined: &[u32], seen: &[u64], tag: u32, events: &mut [u64], at: u
     put_event(events, at, 0, 0, Kind::Missing(tag))
 }
 
-// The same for a required tag. CheckSum(10) is consumed by the decoder and never appears among the parsed fields, so it is skipped here.
+// The same for a required tag. CheckSum(10) is consumed by the decoder and never appears among the
+// parsed fields, so it is skipped here.
 fn put_absent_tag(defined: &[u32], seen: &[u64], tag: u32, events: &mut [u64], at: usize) -> usize
     requires seen_words { SeenWords defined.now seen.now }
     requires at_bound { at + 5 < 2 ^ 63 }
     ensures wrote { (tags : List ℕ) → SeenTags defined.now seen.now tags
-        → Wrote events.old events.new at result (missing_if (not (tag ≡ᵇ 10) && not (tag ∈ᵇ tags)) tag) }
+        → Wrote events.old events.new at result
+        (missing_if (not (tag ≡ᵇ 10) && not (tag ∈ᵇ tags)) tag) }
     ensures near { result ≤ at + 5 }
 {
     if tag == 10 {
@@ -56,7 +59,8 @@ fn put_absent_group(
     requires passed { Passed gate_limits layout.now × (number < group_count layout.now) }
     requires at_bound { at + 5 < 2 ^ 63 }
     ensures wrote { (tags : List ℕ) → SeenTags defined.now seen.now tags
-        → Wrote events.old events.new at result (missing_groups tags (required_from layout.now number 1)) }
+        → Wrote events.old events.new at result
+        (missing_groups tags (required_from layout.now number 1)) }
     ensures near { result ≤ at + 5 }
 {
     if !is_required_at(layout, number) {
@@ -80,12 +84,9 @@ fn put_missing_tags(
         → Wrote events.old events.new at result (missing_tags tags required.now) }
     ensures near { result ≤ at + 5 * length required.now }
 {
-    let mut index = 0;
     let mut to = at;
-    while index < required.len() {
-        let tag = required[index];
-        to = put_absent_tag(defined, seen, tag, events, to);
-        index += 1;
+    for tag in required {
+        to = put_absent_tag(defined, seen, *tag, events, to);
     }
     to
 }
@@ -103,13 +104,12 @@ fn put_missing_groups(
     requires passed { Passed gate_limits layout.now × (groups ≤ group_count layout.now) }
     requires groups_bound { at + 5 * groups < 2 ^ 62 }
     ensures { (tags : List ℕ) → SeenTags defined.now seen.now tags
-        → Wrote events.old events.new at result (missing_groups tags (required_from layout.now 0 groups)) }
+        → Wrote events.old events.new at result
+        (missing_groups tags (required_from layout.now 0 groups)) }
 {
-    let mut number = 0;
     let mut to = at;
-    while number < groups {
+    for number in 0..groups {
         to = put_absent_group(defined, layout, seen, number, events, to);
-        number += 1;
     }
     to
 }
@@ -128,7 +128,8 @@ pub fn put_missing(
     ensures { (tags : List ℕ) → SeenTags defined.now seen.now tags
         → Wrote events.old events.new at result
         (missing_tags tags (level_required layout.now 0)
-        ++ missing_groups tags (required_from layout.now 0 (length (level_count_tags layout.now 0)))) }
+        ++ missing_groups tags
+        (required_from layout.now 0 (length (level_count_tags layout.now 0)))) }
 {
     let required = required_at(layout, 0);
     let to = put_missing_tags(defined, required, seen, events, at);

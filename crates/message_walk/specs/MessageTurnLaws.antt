@@ -2,11 +2,8 @@
 -- tags seen. Assumes nothing.
 --
 --   TurnsWritten ..   the loop of `walk_fields`: the turns before `index` are taken
-use Rattle.std.specs.Prelude.{◌≡◌, refl, ℕ, suc, ◌+◌, ◌*◌, ◌-◌, ◌/◌, ◌≤◌, ◌<◌, Bool, true, false, not, List, [], ◌∷◌, ◌++◌, length}
+use Rattle.std.specs.Prelude.{◌≡◌, refl, ℕ, suc, ◌+◌, ◌*◌, ◌-◌, ◌/◌, ◌≤◌, ◌<◌, Bool, true, false, not, List, [], ◌∷◌, ◌++◌, length, Option, Some, None}
 use Rattle.std.proofs.Common.{sym, ap, ◌∙◌, arith}
-use Rattle.std.proofs.Math.Option.{none, some}
-use Rattle.ascending.specs.declared.search.Found.{Found}
-use Rattle.ascending.specs.declared.search.Found.TheVariants.{At, Nothing}
 use Rattle.ascending.specs.Search.{StrictlyAscending, rank_in}
 use Rattle.layouts.specs.Limits.{gate_limits}
 use Rattle.layouts.specs.LayoutWords.{group_count, level_members}
@@ -26,7 +23,8 @@ use Rattle.message_level.specs.MessageWalk.{twice_if, foreign_unless, Turn, plac
 use Rattle.message_level.specs.MessageWalkLaws.{Passes, turn-undefined, turn-defined, turn-passes, TurnsSoFar, turns_begin, turns_end, turns_go_on}
 use Rattle.message_level.specs.MessageWords.{level_of}
 use Rattle.message_level.specs.SeenTags.{seen_words, SeenTags}
-use Rattle.message_level.specs.SeenTagsLaws.{not-not, none-held, none_seen, not_defined, is-defined, rank_low, rank_held, rank_inserted}
+use Rattle.std.proofs.Math.Bool.{not-not}
+use Rattle.message_level.specs.SeenTagsLaws.{none-held, none_seen, not_defined, is-defined, rank_low, rank_held, rank_inserted}
 use Rattle.message_walk.specs.MessagePromises.{Lent, PlaceAsks, Placed, TurnAsks, Turned, Walked}
 
 -- ---- twice and foreign, as code writes them
@@ -39,36 +37,36 @@ module _ (tag : ℕ) (fresh : Bool) where
       → Wrote before after at next (twice_if (not fresh) tag)
   twice-again again wrote = rw again wrote
 
-module _ (words : List ℕ) (passed : Passed gate_limits words) (top : List ℕ) (is-top : top ≡ level_members words 0) (tag : ℕ) (found : Found)
+module _ (words : List ℕ) (passed : Passed gate_limits words) (top : List ℕ) (is-top : top ≡ level_members words 0) (tag : ℕ) (found : Option ℕ)
     (searched : StrictlyAscending top → found ≡ rank_in top tag) where
   ranked : found ≡ rank_in (level_members words 0) tag
   ranked = searched (top-ascends words passed top is-top) ∙ ap (λ (members : List ℕ). rank_in members tag) is-top
 
-  pub foreign_member : (rank : ℕ) → found ≡ At rank → (space : List ℕ) (place : ℕ) → Wrote space space place place (foreign_unless (top_members words tag) tag)
+  pub foreign_member : (rank : ℕ) → found ≡ Some rank → (space : List ℕ) (place : ℕ) → Wrote space space place place (foreign_unless (top_members words tag) tag)
   foreign_member rank there space place = rw (member-found (level_members words 0) tag rank (sym ranked ∙ there)) (wrote_none space place)
 
-  pub foreign_outside : {before after : List ℕ} {at next : ℕ} → found ≡ Nothing → Wrote before after at next (tag_event 0 0 (Foreign tag) ∷ [])
+  pub foreign_outside : {before after : List ℕ} {at next : ℕ} → found ≡ None → Wrote before after at next (tag_event 0 0 (Foreign tag) ∷ [])
       → Wrote before after at next (foreign_unless (top_members words tag) tag)
   foreign_outside nowhere wrote = rw (member-nowhere (level_members words 0) tag (sym ranked ∙ nowhere)) wrote
 
 -- ---- the field of a defined tag
 
-module _ (words fields message : List ℕ) (index tag at : ℕ) (asks : PlaceAsks words fields message index tag at) (found : Found)
+module _ (words fields message : List ℕ) (index tag at : ℕ) (asks : PlaceAsks words fields message index tag at) (found : Option ℕ)
     (found_is : number_found 0 found ≡ group_of words 0 tag) where
-  pub place-plain : found ≡ Nothing → (before after : List ℕ) (past : ℕ) → Wrote before after at past (foreign_unless (top_members words tag) tag)
+  pub place-plain : found ≡ None → (before after : List ℕ) (past : ℕ) → Wrote before after at past (foreign_unless (top_members words tag) tag)
       → Placed words fields message index tag before after at past (index + 1)
   place-plain nowhere before after past wrote =
-      let none-there : group_of words 0 tag ≡ none = sym found_is ∙ ap (number_found 0) nowhere in
+      let none-there : group_of words 0 tag ≡ None = sym found_is ∙ ap (number_found 0) nowhere in
       record {
         wrote = λ defined. rw (none-there, ← asks.tag_is) wrote;
         next_is = λ defined. rw none-there (omega arith);
       }
 
-  module _ (group : ℕ) (there : found ≡ At group) where
-    number_there : group_of words 0 tag ≡ some group
+  module _ (group : ℕ) (there : found ≡ Some group) where
+    number_there : group_of words 0 tag ≡ Some group
     number_there =
         let same : 0 + group ≡ group = omega arith in
-        sym found_is ∙ ap (number_found 0) there ∙ ap some same
+        sym found_is ∙ ap (number_found 0) there ∙ ap Some same
 
     pub group-valid : group < group_count words
     group-valid = group_of_number words asks.passed 0 tag group (omega arith) number_there
@@ -85,8 +83,8 @@ module _ (words fields message : List ℕ) (index tag at : ℕ) (asks : PlaceAsk
 
 module _ (defined words fields message seen : List ℕ) (index at : ℕ) (asks : TurnAsks defined words fields message seen index at)
     (tag : ℕ) (tag_is : tag ≡ tag_of fields index)
-    (found : Found) (searched : StrictlyAscending defined → found ≡ rank_in defined tag) where
-  pub turn-skips : found ≡ Nothing → (space tags : List ℕ) → SeenTags defined seen tags
+    (found : Option ℕ) (searched : StrictlyAscending defined → found ≡ rank_in defined tag) where
+  pub turn-skips : found ≡ None → (space tags : List ℕ) → SeenTags defined seen tags
       → Turned defined words fields message tags index seen space space at at (index + 1)
   turn-skips nowhere space tags kept =
       let unknown : among defined (tag_of fields index) ≡ false = rw (← tag_is) (not_defined defined asks.lent.ascends tag found searched nowhere) in
@@ -97,7 +95,7 @@ module _ (defined words fields message seen : List ℕ) (index at : ℕ) (asks :
         next_is = rw turn (omega arith);
       }
 
-  module _ (rank : ℕ) (there : found ≡ At rank) where
+  module _ (rank : ℕ) (there : found ≡ Some rank) where
     low : rank < length defined
     low = rank_low defined asks.lent.ascends tag found searched rank there
 

@@ -10,12 +10,12 @@ ghost use Rattle.message_level.specs.MessageWalk.{twice_if, foreign_unless};
 ghost use Rattle.message_walk.specs.MessagePromises.{Lent, PlaceAsks, Placed, TurnAsks, Turned, Walked};
 ghost use Rattle.message_level.specs.SeenTags.{seen_words, SeenTags};
 
-use ascending::search::{Found, binary_search};
+use ascending::search::binary_search;
+use entry_tags::ranks::insert;
 use events::event::Kind;
 use field_table::field_table::tag_at;
 use group_walk::group_walk::{GroupEnd, walk_group};
 use layouts::layout_words::members_at;
-use message_level::seen_tags::insert;
 use walk_steps::group_events::put_event;
 use walk_steps::group_steps::row_count;
 use walk_steps::layout_input::top_group;
@@ -38,7 +38,7 @@ fn put_foreign(layout: &[u32], events: &mut [u64], at: usize, tag: u32) -> usize
     ensures { Wrote events.old events.new at result (foreign_unless (top_members layout.now tag) tag) }
 {
     let top = members_at(layout, 0);
-    let Found::At(_) = binary_search(top, tag) else {
+    let Some(_) = binary_search(top, tag) else {
         return put_event(events, at, 0, 0, Kind::Foreign(tag));
     };
     at
@@ -58,7 +58,7 @@ fn walk_place(
     ensures { Placed layout.now fields.now message.now index tag
         events.old events.new at result.at result.next }
 {
-    let Found::At(group) = top_group(layout, tag) else {
+    let Some(group) = top_group(layout, tag) else {
         let past = put_foreign(layout, events, at, tag);
         let next = index + 1;
         return GroupEnd { next, at: past };
@@ -84,7 +84,7 @@ fn walk_field(
         seen.new events.old events.new at result.at result.next }
 {
     let tag = tag_at(fields, index);
-    let Found::At(rank) = binary_search(defined, tag) else {
+    let Some(rank) = binary_search(defined, tag) else {
         let next = index + 1;
         return GroupEnd { next, at };
     };

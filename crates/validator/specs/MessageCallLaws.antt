@@ -1,10 +1,10 @@
 -- Laws of `MessageCall.antt`: each answer by the tests in the order of the code, and how many words a walk can need. Assumes nothing.
-use Rattle.std.specs.Prelude.{◌≡◌, refl, ℕ, ◌+◌, ◌*◌, ◌≤◌, ◌<◌, Bool, true, false, length, drop}
+use Rattle.std.specs.Prelude.{◌≡◌, refl, ℕ, ◌+◌, ◌*◌, ◌≤◌, ◌<◌, Bool, true, false, length, drop, Result, Ok, Err}
 use Rattle.std.proofs.Common.{sym, ap, ◌∙◌, arith, le-leb}
 use mathlib.Core.List.{List, [], ◌++◌}
 use Rattle.std.proofs.Math.ListN.{length-append}
 use Rattle.std.proofs.lemmas.Bool.{lt-leb}
-use Rattle.refusals.specs.declared.refusal.Refusal.TheVariants.{UnknownForm, RuleBroken, BadField, SpaceShort}
+use Rattle.refusals.specs.declared.refusal.Refusal.TheVariants.{UnknownForm, RuleBroken, SpaceShort}
 use Rattle.dictionary.specs.DictionaryCheck.{is_dictionary}
 use Rattle.ascending.specs.Search.{StrictlyAscending}
 use Rattle.definitions.specs.DefinedTags.{defined_tags}
@@ -12,15 +12,12 @@ use Rattle.layouts.specs.Limits.{gate_limits}
 use Rattle.layouts.specs.LayoutWords.{level_required, level_count_tags}
 use Rattle.layouts.specs.LayoutCheck.{is_layout}
 use Rattle.layouts.specs.LayoutCheckFacts.{Passed}
-use Rattle.field_table.specs.declared.field_table.TableCheck.TheVariants as table
 use Rattle.events.specs.declared.event.Event.{Event}
 use Rattle.events.specs.Events.{events_words}
 use Rattle.events.specs.EventSpaceLaws.{Wrote, wrote_then, put_all_in-room, put_all_in-empty}
 use Rattle.field_table.specs.FieldTable.{row_count, table_check_of}
 use Rattle.walk_steps.specs.WalkWords.{input_of}
 use Rattle.walk_steps.specs.WalkWordsLaws.{group_of_number, layout_of_rules}
-use Rattle.validator.specs.declared.message_call.WalkedMessage.{WalkedMessage}
-use Rattle.validator.specs.declared.message_call.WalkedMessage.TheVariants.{Done, Refused}
 use Rattle.message_level.specs.MessageWalk.{message_turns, missing_tags, missing_groups, message_events}
 use Rattle.message_level.specs.MessageWalkLaws.{missing_tags-few, missing_groups-few, turns_few}
 use Rattle.message_level.specs.MessageWords.{required_from, level_of}
@@ -29,28 +26,29 @@ use Rattle.message_level.specs.SeenTags.{SeenTags}
 use Rattle.message_walk.specs.MessagePromises.{Lent, Walked}
 use Rattle.validator.specs.CallPromises.{Accepted, most_words}
 use Rattle.validator.specs.MessageCall.{walk_of, needed_for, space_answer, space_with, table_answer, table_space, walked_of, events_in}
+use Rattle.refusals.specs.declared.refusal.Refusal.{Refusal}
 
 -- ---- the refusals before a walk
 
 module _ (dictionary words fields message space : List ℕ) where
   pub refused-dictionary : is_dictionary dictionary ≡ false
-      → (Refused (UnknownForm 0) ≡ walked_of dictionary words fields message space) × (space ≡ events_in dictionary words fields message space)
+      → (Err (UnknownForm 0) ≡ walked_of dictionary words fields message space) × (space ≡ events_in dictionary words fields message space)
   unfolding walked_of events_in
   refused-dictionary wrong = rw wrong (refl, refl)
 
   module _ (defines : is_dictionary dictionary ≡ true) where
     pub refused-layout : is_layout gate_limits words ≡ false
-        → (Refused (RuleBroken 0 0) ≡ walked_of dictionary words fields message space) × (space ≡ events_in dictionary words fields message space)
+        → (Err (RuleBroken 0 0) ≡ walked_of dictionary words fields message space) × (space ≡ events_in dictionary words fields message space)
     unfolding walked_of events_in
     refused-layout wrong = rw (defines, wrong) (refl, refl)
 
     module _ (right : is_layout gate_limits words ≡ true) where
-      pub refused-table : (place : ℕ) → table_check_of fields (length message) ≡ table.Refused place
-          → (Refused (BadField place) ≡ walked_of dictionary words fields message space) × (space ≡ events_in dictionary words fields message space)
+      pub refused-table : (refusal : Refusal) → table_check_of fields (length message) ≡ Err refusal
+          → (Err refusal ≡ walked_of dictionary words fields message space) × (space ≡ events_in dictionary words fields message space)
       unfolding walked_of events_in
-      refused-table place bad = rw (defines, right, bad) (refl, refl)
+      refused-table refusal bad = rw (defines, right, bad) (refl, refl)
 
-      pub table-accepted : (walked : WalkedMessage) (after : List ℕ) → table_check_of fields (length message) ≡ table.Accepted
+      pub table-accepted : (walked : Result ℕ Refusal) (after : List ℕ) → table_check_of fields (length message) ≡ Ok tt
           → walked ≡ space_answer (walk_of dictionary words fields message) space → after ≡ space_with (walk_of dictionary words fields message) space
           → (walked ≡ walked_of dictionary words fields message space) × (after ≡ events_in dictionary words fields message space)
       unfolding walked_of events_in
@@ -97,11 +95,11 @@ module _ (dictionary words fields message : List ℕ) (accepted : Accepted dicti
 
 module _ (events : List Event) (space : List ℕ) where
   pub walk_answers : (after : List ℕ) (past : ℕ) → Wrote space after 0 past events → needed_for events ≤ length space
-      → (Done past ≡ space_answer events space) × (after ≡ space_with events space)
+      → (Ok past ≡ space_answer events space) × (after ≡ space_with events space)
   walk_answers after past wrote room =
       let whole : 0 + 5 * length events ≡ needed_for events = omega arith in
       rw (le-leb (needed_for events) (length space) room)
-      (ap Done (wrote.next_is ∙ whole), wrote.after_is ∙ put_all_in-room space 0 events (omega arith) ∙ rw whole)
+      (ap Ok (wrote.next_is ∙ whole), wrote.after_is ∙ put_all_in-room space 0 events (omega arith) ∙ rw whole)
 
   -- the counting pass was lent the empty front part of the event space, and left `front` there
   module _ (front : List ℕ) (counted : ℕ) (counts : Wrote [] front 0 counted events) where
@@ -111,14 +109,14 @@ module _ (events : List Event) (space : List ℕ) where
     counted_is : counted ≡ needed_for events
     counted_is = counts.next_is ∙ omega arith
 
-    pub space_short : length (front ++ space) < counted → (Refused (SpaceShort counted) ≡ space_answer events space) × (front ++ space ≡ space_with events space)
+    pub space_short : length (front ++ space) < counted → (Err (SpaceShort counted) ≡ space_answer events space) × (front ++ space ≡ space_with events space)
     space_short short =
         let short' : length space < needed_for events = rw (front-empty, counted_is) at short in
         rw (lt-leb (needed_for events) (length space) short')
-        (ap (λ (words : ℕ). Refused (SpaceShort words)) counted_is, ap (λ (part : List ℕ). part ++ space) front-empty)
+        (ap (λ (words : ℕ). Err (SpaceShort words)) counted_is, ap (λ (part : List ℕ). part ++ space) front-empty)
 
     pub space-holds : counted ≤ length (front ++ space) → (after : List ℕ) (past : ℕ) → Wrote (front ++ space) after 0 past events
-        → (Done past ≡ space_answer events space) × (after ≡ space_with events space)
+        → (Ok past ≡ space_answer events space) × (after ≡ space_with events space)
     space-holds holds after past wrote =
         let room : needed_for events ≤ length space = rw (front-empty, counted_is) at holds in
         walk_answers after past (rw front-empty at wrote) room

@@ -2,14 +2,13 @@
 -- is in `MessageWalkTheorem.antt`. Assumes nothing.
 --
 --   is_enter event, is_leave event     an enter, a leave at depth 0
---   None test events                 no event of the list passes the test
+--   NoneOf test events                 no event of the list passes the test
 --   FromEnterToLeave stretch         the stretch begins with an enter at depth 0 and ends with the first leave at depth 0 after it
 --   WalkAt input level index group   a field of the message level at `index` is the count field of this top group
 --   OwnWalk input level stretch      the stretch is the walk of a top group
 --   StretchFinds .. stretch          and that walk finds the readings of the group
 --   MessageCallFinds ..              what the call tells
-use Rattle.std.specs.Prelude.{◌≡◌, ℕ, ◌*◌, ◌<◌, Bool, true, false, ◌&&◌, List, [], ◌∷◌, ◌++◌, length, take, drop}
-use Rattle.std.proofs.Math.Option.{some}
+use Rattle.std.specs.Prelude.{◌≡◌, ℕ, ◌*◌, ◌<◌, Bool, true, false, ◌&&◌, List, [], ◌∷◌, ◌++◌, length, take, drop, Some, None, Ok}
 use Rattle.ascii.specs.Notation.{◌≡ᵇ◌}
 use Rattle.definitions.specs.DefinedTags.{defined_tags}
 use Rattle.events.specs.declared.event.Event.{Event}
@@ -20,7 +19,6 @@ use Rattle.group_reading.specs.ReadingTheorem.{FindsReadings}
 use Rattle.walk_steps.specs.WalkWords.{input_of, top_members}
 use Rattle.message_level.specs.MessageWalk.{MessageLevel}
 use Rattle.message_level.specs.MessageWords.{level_of}
-use Rattle.validator.specs.declared.message_call.WalkedMessage.TheVariants.{Done}
 use Rattle.validator.specs.MessageCall.{walked_of, events_in}
 
 abbrev pub is_enter : Event → Bool
@@ -29,16 +27,16 @@ is_enter event = kind_number event.kind ≡ᵇ 1 && event.depth ≡ᵇ 0
 abbrev pub is_leave : Event → Bool
 is_leave event = kind_number event.kind ≡ᵇ 8 && event.depth ≡ᵇ 0
 
-abbrev pub None : (Event → Bool) → List Event → Type 0
-None test [] = Unit {0}
-None test (event ∷ rest) = (test event ≡ false) × None test rest
+abbrev pub NoneOf : (Event → Bool) → List Event → Type 0
+NoneOf test [] = Unit {0}
+NoneOf test (event ∷ rest) = (test event ≡ false) × NoneOf test rest
 
 pub record FromEnterToLeave (stretch : List Event) : Type 0 where
   pub first : Event
   pub middle : List Event
   pub last : Event
   pub enters : is_enter first ≡ true
-  pub none_leaves : None is_leave middle
+  pub none_leaves : NoneOf is_leave middle
   pub leaves : is_leave last ≡ true
   pub whole : stretch ≡ first ∷ (middle ++ (last ∷ []))
 
@@ -51,7 +49,7 @@ module _ (input : Input) (level : MessageLevel input.layout.Group) where
   pub record WalkAt (index : ℕ) (group : Group) : Type 0 where
     pub inside : index < field_count
     pub defined : is_defined (tag_at index) ≡ true
-    pub counts : top_group (tag_at index) ≡ some group
+    pub counts : top_group (tag_at index) ≡ Some group
 
   pub record OwnWalk (stretch : List Event) : Type 0 where
     pub index : ℕ
@@ -69,7 +67,7 @@ module _ (dictionary words fields message space : List ℕ) where
   pub record MessageCallFinds : Type 0 where
     -- the events written
     pub events : List Event
-    pub answer : walked_of dictionary words fields message space ≡ Done (5 * length events)
+    pub answer : walked_of dictionary words fields message space ≡ Ok (5 * length events)
     pub written : take (5 * length events) (events_in dictionary words fields message space) ≡ events_words events
     -- the words behind them are as they were
     pub kept : drop (5 * length events) (events_in dictionary words fields message space) ≡ drop (5 * length events) space

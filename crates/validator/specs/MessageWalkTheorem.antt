@@ -5,7 +5,7 @@
 --
 -- Its words (`FromEnterToLeave`, `OwnWalk`, `MessageCallFinds`) are in `MessageStretches.antt`.
 -- The parts: `GroupBounds` (the walk of a top group has one enter and one leave at depth 0), `Parts` (the events of a message walk one behind the other).
-use Rattle.std.specs.Prelude.{◌≡◌, refl, ℕ, ◌*◌, ◌≤◌, ◌<◌, Bool, true, false, ◌&&◌, ◌||◌, List, [], ◌∷◌, ◌++◌, eqb, length, take, drop}
+use Rattle.std.specs.Prelude.{◌≡◌, refl, ℕ, ◌*◌, ◌≤◌, ◌<◌, Bool, true, false, ◌&&◌, ◌||◌, List, [], ◌∷◌, ◌++◌, eqb, length, take, drop, Ok}
 use Rattle.std.proofs.Common.{sym, ap, ◌∙◌, true≢false, append_assoc, arith, take_at, drop_at}
 use borrow.Author.Tests.{le-leb}
 use Rattle.dictionary.specs.DictionaryCheck.{is_dictionary}
@@ -13,7 +13,6 @@ use Rattle.definitions.specs.DefinedTags.{defined_tags}
 use Rattle.layouts.specs.Limits.{gate_limits}
 use Rattle.layouts.specs.LayoutCheck.{is_layout}
 use Rattle.layouts.specs.LayoutCheckFacts.{Passed, is_layout-passed}
-use Rattle.field_table.specs.declared.field_table.TableCheck.TheVariants.{Accepted}
 use Rattle.events.specs.declared.event.Event.{Event}
 use Rattle.events.specs.Events.{kind_number, events_words}
 use Rattle.events.specs.EventSpaceLaws.{events_words-length}
@@ -23,11 +22,10 @@ use Rattle.group_reading.specs.GroupWalk.{walk_group}
 use Rattle.group_reading.specs.ReadingTheorem.{FindsReadings, walk_finds_readings}
 use Rattle.walk_steps.specs.WalkWords.{input_of, top_members}
 use Rattle.walk_steps.specs.WalkWordsLaws.{group_of_number, layout_of_rules}
-use Rattle.validator.specs.declared.message_call.WalkedMessage.TheVariants.{Done}
 use Rattle.message_level.specs.MessageWalk.{MessageLevel, message_events}
 use Rattle.message_level.specs.MessageWords.{level_of}
 use Rattle.validator.specs.MessageCall.{walk_of, needed_for, walked_of, events_in}
-use Rattle.validator.specs.MessageStretches.{is_enter, is_leave, None, FromEnterToLeave, OwnWalk, StretchFinds, MessageCallFinds}
+use Rattle.validator.specs.MessageStretches.{is_enter, is_leave, NoneOf, FromEnterToLeave, OwnWalk, StretchFinds, MessageCallFinds}
 use Rattle.validator.specs.MessageWalkTheorem.GroupBounds.{is_bound, Bracketed, walk_group-bracketed}
 use Rattle.validator.specs.MessageWalkTheorem.Parts.{BeginsWalk, message-parts, walk_begins}
 pub mod GroupBounds
@@ -43,12 +41,12 @@ bound-leave event clear = go (eqb (kind_number event.kind) 1) (eqb (kind_number 
     go true true top clear = clear
     go false true top clear = clear
 
-leave_none : (events : List Event) → None is_bound events → None is_leave events
+leave_none : (events : List Event) → NoneOf is_bound events → NoneOf is_leave events
 leave_none [] clear = tt
 leave_none (event ∷ rest) clear = (bound-leave event clear.0, leave_none rest clear.1)
 
 module _ (last other : Event) (leaves : is_leave last ≡ true) (leaves-too : is_leave other ≡ true) (rest after : List Event) where
-  first-leave : (events others : List Event) → None is_leave events → None is_leave others → events ++ (last ∷ rest) ≡ others ++ (other ∷ after)
+  first-leave : (events others : List Event) → NoneOf is_leave events → NoneOf is_leave others → events ++ (last ∷ rest) ≡ others ++ (other ∷ after)
       → events ++ (last ∷ []) ≡ others ++ (other ∷ [])
   first-leave [] [] clear clear-too same = let is_last : last ≡ other = cc in ap (λ (event : Event). event ∷ []) is_last
   first-leave [] (event ∷ others) clear clear-too same =
@@ -112,13 +110,13 @@ module _ (dictionary words fields message space : List ℕ) where
   abbrev walked : List Event
   walked = walk_of dictionary words fields message
 
-  module _ (defines : is_dictionary dictionary ≡ true) (right : is_layout gate_limits words ≡ true) (table : table_check_of fields (length message) ≡ Accepted)
+  module _ (defines : is_dictionary dictionary ≡ true) (right : is_layout gate_limits words ≡ true) (table : table_check_of fields (length message) ≡ Ok tt)
       (room : needed_for (walk_of dictionary words fields message) ≤ length space) where
     left : events_in dictionary words fields message space ≡ events_words walked ++ drop (needed_for walked) space
     unfolding events_in
     left = rw (defines, right, table, le-leb (needed_for walked) (length space) room)
 
-    answered : walked_of dictionary words fields message space ≡ Done (needed_for walked)
+    answered : walked_of dictionary words fields message space ≡ Ok (needed_for walked)
     unfolding walked_of
     answered = rw (defines, right, table, le-leb (needed_for walked) (length space) room)
 

@@ -11,21 +11,13 @@ ghost use Rattle.validator.specs.MessageCall.{walk_of, space_answer, space_with,
 
 use definitions::defined_tags::defined_tags;
 use dictionary::dictionary_check::is_dictionary;
-use field_table::field_table::{TableCheck, check_field_table};
+use field_table::field_table::check_field_table;
 use layout_check::layout_check::is_layout;
 use layouts::layout_words::{count_tags_at, required_at};
 use message_level::missing::put_missing;
 use message_walk::message_walk::walk_fields;
 use refusals::refusal::Refusal;
 use walk_steps::group_steps::row_count;
-
-// What the call answers.
-#[derive(Clone, Copy)]
-pub enum WalkedMessage {
-    // How many words were written.
-    Done { words: usize },
-    Refused(Refusal),
-}
 
 // As many words as a walk can need: five for each of 5 N events of the loop over N fields, for each required tag and for each group of the top.
 fn most_words(layout: &[u32], fields: &[u32]) -> usize
@@ -64,7 +56,7 @@ fn count_first(
     fields: &[u32],
     message: &[u8],
     events: &mut [u64],
-) -> WalkedMessage
+) -> Result<usize, Refusal>
     requires { Accepted dictionary.now layout.now fields.now message.now }
     ensures outcome { result ≡ space_answer
         (walk_of dictionary.now layout.now fields.now message.now) events.old }
@@ -73,10 +65,10 @@ fn count_first(
 {
     let needed = walk_level(dictionary, layout, fields, message, &mut events[..0]);
     if events.len() < needed {
-        return WalkedMessage::Refused(Refusal::SpaceShort(needed as u64));
+        return Err(Refusal::SpaceShort(needed as u64));
     }
     let words = walk_level(dictionary, layout, fields, message, events);
-    WalkedMessage::Done { words }
+    Ok(words)
 }
 
 // The walk once the lent words are accepted: one pass where the event space holds whatever it may need.
@@ -86,7 +78,7 @@ fn walk_accepted(
     fields: &[u32],
     message: &[u8],
     events: &mut [u64],
-) -> WalkedMessage
+) -> Result<usize, Refusal>
     requires { Accepted dictionary.now layout.now fields.now message.now }
     ensures outcome { result ≡ space_answer
         (walk_of dictionary.now layout.now fields.now message.now) events.old }
@@ -98,7 +90,7 @@ fn walk_accepted(
         return count_first(dictionary, layout, fields, message, events);
     }
     let words = walk_level(dictionary, layout, fields, message, events);
-    WalkedMessage::Done { words }
+    Ok(words)
 }
 
 // Walks the fields of a message from the first on, and writes the events of the walk, five words each. Refuses, in this order: dictionary words, layout words
@@ -109,20 +101,18 @@ pub fn walk_message(
     fields: &[u32],
     message: &[u8],
     events: &mut [u64],
-) -> WalkedMessage
+) -> Result<usize, Refusal>
     ensures outcome { result ≡ walked_of
         dictionary.now layout.now fields.now message.now events.old }
     ensures memory { events.new ≡ events_in
         dictionary.now layout.now fields.now message.now events.old }
 {
     if !is_dictionary(dictionary) {
-        return WalkedMessage::Refused(Refusal::UnknownForm(0));
+        return Err(Refusal::UnknownForm(0));
     }
     if !is_layout(layout) {
-        return WalkedMessage::Refused(Refusal::RuleBroken(0, 0));
+        return Err(Refusal::RuleBroken(0, 0));
     }
-    let TableCheck::Refused(place) = check_field_table(fields, message.len()) else {
-        return walk_accepted(dictionary, layout, fields, message, events);
-    };
-    WalkedMessage::Refused(Refusal::BadField(place as u64))
+    check_field_table(fields, message.len())?;
+    walk_accepted(dictionary, layout, fields, message, events)
 }

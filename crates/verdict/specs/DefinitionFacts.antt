@@ -2,7 +2,7 @@
 -- of some form, its type is one of the 34. Assumes nothing.
 use Rattle.std.proofs.Math.Path.{◌≡◌, refl}
 use Rattle.std.proofs.Common.{sym, ap, ◌∙◌, drop-drop, get_or-take, get_or-drop}
-use Rattle.std.specs.Prelude.{ℕ, zero, suc, ◌+◌, ◌*◌, ◌-◌, ◌<◌, Bool, true, false, ◌&&◌, List, leb, take, drop}
+use Rattle.std.specs.Prelude.{ℕ, zero, suc, ◌+◌, ◌*◌, ◌<◌, Bool, true, false, ◌&&◌, List, leb, take, drop, Option, Some, None}
 use Rattle.std.proofs.lemmas.Bool.{false≢true}
 use native.Mathlib.Omega.{arith}
 use Rattle.std.proofs.Math.Dec.{eqb, ltb}
@@ -10,19 +10,16 @@ use Rattle.std.proofs.Math.ListN.{length, get_or, length-drop}
 use Rattle.std.proofs.Math.Seq.{length-take-le}
 use borrow.Author.Tests.{eqb-true, ltb-true}
 use Rattle.ascii.specs.NotationLaws.{and_left, and_right}
-use Rattle.ascending.specs.declared.search.Found.{Found}
-use Rattle.ascending.specs.declared.search.Found.TheVariants.{At, Nothing}
 use Rattle.ascending.specs.Search.{is_strictly_ascending, rank_in}
 use Rattle.line_forms.specs.declared.line.Line.{Line}
 use Rattle.line_forms.specs.declared.line.Line.TheVariants.{Unknown}
 use Rattle.dictionary_order.specs.declared.dictionary_order.State.{State}
 use Rattle.dictionary_order.specs.DictionaryOrder.{start, step_of}
-use Rattle.definitions.specs.declared.definitions.Definition.TheVariants.{Defined}
 use Rattle.records.specs.Records.{line_from, outer_from, lines_from}
 use Rattle.records.specs.LineLengths.{length_of}
 use Rattle.dictionary.specs.DictionaryCheck.{is_taken, accepts, count_of, stands_at, stands_each, is_index, tags_at, is_dictionary}
 use Rattle.definitions.specs.Definitions.{number_at, record_in, definition_at, definition_of}
-use Rattle.definitions.specs.DefinitionsLaws.{stands-nth, is_dictionary-parts}
+use Rattle.definitions.specs.DefinitionsLaws.{type_told, number_told, stands-nth, is_dictionary-parts}
 use Rattle.ascending.specs.SearchLaws.{rank_in-inside}
 
 -- ---- the lines of an accepted dictionary
@@ -95,31 +92,31 @@ module _ (words : List ℕ) (holds : is_dictionary words ≡ true) where
       (omega (arith, typed, record_word number 2 (omega arith)), inside)
 
   -- the type of a definition is one of the 34, and its record one of the dictionary's
-  pub definition-known : (tag type number : ℕ) → definition_of words tag ≡ Defined type number → (type < 34) × (number < get_or words 0 0)
+  pub definition-known : (tag type number : ℕ) → definition_of words tag ≡ Some (record { type_place = type; number = number }) → (type < 34) × (number < get_or words 0 0)
   unfolding definition_of record_in
   definition-known tag type number defined = go (rank_in (take (get_or words 1 0) (drop (tags_at words) words)) tag) refl defined
     where
-      go : (found : Found) → rank_in (take (get_or words 1 0) (drop (tags_at words) words)) tag ≡ found
-          → definition_at words (number_at (tags_at words + get_or words 1 0) words found) ≡ Defined type number
+      go : (found : Option ℕ) → rank_in (take (get_or words 1 0) (drop (tags_at words) words)) tag ≡ found
+          → definition_at words (number_at (tags_at words + get_or words 1 0) words found) ≡ Some (record { type_place = type; number = number })
           → (type < 34) × (number < get_or words 0 0)
-      go (At rank) there same =
+      go (Some rank) there same =
           let names : length (take (get_or words 1 0) (drop (tags_at words) words)) ≡ get_or words 1 0 = length-take-le (get_or words 1 0) (drop (tags_at words) words) (omega (arith, length-drop (tags_at words) words, (is_dictionary-parts words holds).fits)) in
           let inside : rank < get_or words 1 0 = omega (arith, rank_in-inside (take (get_or words 1 0) (drop (tags_at words) words)) tag rank there, names) in
           let place : tags_at words + rank + get_or words 1 0 ≡ tags_at words + get_or words 1 0 + rank = omega arith in
           let facts = record_typed _ _ (stands-definition rank inside) in
-          let number_is : get_or words (tags_at words + get_or words 1 0 + rank) 0 ≡ number = cc in
-          let type-is : get_or words (4 + 10 * get_or words (tags_at words + get_or words 1 0 + rank) 0 + 2) 0 ≡ type = cc in
+          let number_is : get_or words (tags_at words + get_or words 1 0 + rank) 0 ≡ number = ap number_told same in
+          let type-is : get_or words (4 + 10 * get_or words (tags_at words + get_or words 1 0 + rank) 0 + 2) 0 ≡ type = ap type_told same in
           rw (← type-is, ← number_is, ← place) facts
-      go Nothing there same = let never : ◌≡◌ {A = ℕ} 0 1 = cc in absurd (omega arith)
+      go None there same = let never : ◌≡◌ {A = ℕ} 0 1 = cc in absurd (omega arith)
 
 -- the type of a definition stands in its record
-pub definition-type : (words : List ℕ) (tag type number : ℕ) → definition_of words tag ≡ Defined type number → get_or words (4 + 10 * number + 2) 0 ≡ type
+pub definition-type : (words : List ℕ) (tag type number : ℕ) → definition_of words tag ≡ Some (record { type_place = type; number = number }) → get_or words (4 + 10 * number + 2) 0 ≡ type
 unfolding definition_of
 definition-type words tag type number defined = go (record_in (tags_at words) (get_or words 1 0) tag words) defined
   where
-    go : (found : Found) → definition_at words found ≡ Defined type number → get_or words (4 + 10 * number + 2) 0 ≡ type
-    go (At other) same =
-        let number_is : other ≡ number = cc in
-        let type-is : get_or words (4 + 10 * other + 2) 0 ≡ type = cc in
+    go : (found : Option ℕ) → definition_at words found ≡ Some (record { type_place = type; number = number }) → get_or words (4 + 10 * number + 2) 0 ≡ type
+    go (Some other) same =
+        let number_is : other ≡ number = ap number_told same in
+        let type-is : get_or words (4 + 10 * other + 2) 0 ≡ type = ap type_told same in
         rw (← number_is) type-is
-    go Nothing same = let never : ◌≡◌ {A = ℕ} 0 1 = cc in absurd (omega arith)
+    go None same = let never : ◌≡◌ {A = ℕ} 0 1 = cc in absurd (omega arith)

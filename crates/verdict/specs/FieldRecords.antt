@@ -7,11 +7,10 @@
 --   filled_in word count space        the space with its first words replaced by those given for the positions from 0 on
 --   Holds word count space           so many words of the space are those given for their positions
 --   field_record dictionary fields position   the number of the record that defines the tag of the field at the position
-use Rattle.std.specs.Prelude.{◌≡◌, ℕ, zero, suc, ◌+◌, ◌*◌, ◌<◌, Bool, List, [], ◌∷◌, ◌++◌, get_or, drop, if◌then◌else◌}
+use Rattle.std.specs.Prelude.{◌≡◌, ℕ, zero, suc, ◌+◌, ◌*◌, ◌<◌, Bool, List, [], ◌∷◌, ◌++◌, get_or, drop, if◌then◌else◌, Option, Some, None}
 use Rattle.ascii.specs.Notation.{◌<ᵇ◌}
 use Rattle.field_types.specs.FieldType.{type_numbered}
 use Rattle.definitions.specs.declared.definitions.Definition.{Definition}
-use Rattle.definitions.specs.declared.definitions.Definition.TheVariants.{Defined, Undefined}
 use Rattle.definitions.specs.Definitions.{definition_of, admits_value}
 use Rattle.field_table.specs.FieldTable.{tag_of}
 use Rattle.verdict.specs.declared.verdict.Verdict.{Verdict}
@@ -24,9 +23,9 @@ recorded_verdict dictionary strict value number =
     then typed_verdict (admits_value dictionary number) strict value (type_numbered (get_or dictionary (4 + 10 * number + 2) 0))
     else verdicts.Undefined
 
-abbrev pub record_with : List ℕ → Definition → ℕ
-record_with dictionary (Defined type number) = number
-record_with dictionary Undefined = get_or dictionary 0 0
+abbrev pub record_with : List ℕ → Option Definition → ℕ
+record_with dictionary (Some definition) = definition.number
+record_with dictionary None = get_or dictionary 0 0
 
 unfoldable pub record_of : List ℕ → ℕ → ℕ
 record_of dictionary tag = record_with dictionary (definition_of dictionary tag)

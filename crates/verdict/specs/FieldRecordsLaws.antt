@@ -1,5 +1,5 @@
 -- Laws of `FieldRecords.antt`, in its order, and the loop of `write_records`. Assumes nothing.
-use Rattle.std.specs.Prelude.{◌≡◌, Bool, true, List, ◌++◌, length, get_or, drop, set}
+use Rattle.std.specs.Prelude.{◌≡◌, Bool, true, List, ◌++◌, length, get_or, drop, set, Option, Some, None}
 use Rattle.std.proofs.Math.Path.{refl, sym, ap}
 use Rattle.std.proofs.Common.{◌∙◌, lt-ltb, le-ltb}
 use Prim.Native.Nat.{ℕ, zero, suc, ◌+◌, ◌-◌, ◌≤◌, ◌<◌}
@@ -8,7 +8,6 @@ use Rattle.std.proofs.Math.Numerals.{add-one}
 use Rattle.std.proofs.Math.ListN.{length-set}
 use Rattle.std.proofs.Math.Seq.{sets, sets-eq}
 use Rattle.definitions.specs.declared.definitions.Definition.{Definition}
-use Rattle.definitions.specs.declared.definitions.Definition.TheVariants.{Defined, Undefined}
 use Rattle.field_types.specs.FieldType.{type_numbered}
 use Rattle.records.specs.Records.{Words32}
 use Rattle.dictionary.specs.DictionaryWords.{word_lines}
@@ -30,9 +29,11 @@ pub recorded_verdict-of : (dictionary : List ℕ) (strict : Bool) (tag : ℕ) (v
 unfolding check_value recorded_verdict record_of
 recorded_verdict-of dictionary strict tag value small passes = go (definition_of dictionary tag) refl
   where
-    go : (definition : Definition) → definition_of dictionary tag ≡ definition
+    go : (definition : Option Definition) → definition_of dictionary tag ≡ definition
         → recorded_verdict dictionary strict value (record_with dictionary definition) ≡ defined_verdict strict value (field_in (word_lines dictionary) tag)
-    go (Defined type number) defined =
+    go (Some definition) defined =
+        let type = definition.type_place in
+        let number = definition.number in
         let found = definition-found dictionary small passes tag type number defined in
         rw (
           lt-ltb number (get_or dictionary 0 0) (definition-known dictionary passes tag type number defined).1,
@@ -42,7 +43,7 @@ recorded_verdict-of dictionary strict tag value small passes = go (definition_of
         )
         (typed_verdict-alike (admits_value dictionary number) (is_admitted_by (field_at (word_lines dictionary) number).values)
         (admits_value-lines dictionary small passes number found.0) strict value (type_numbered type))
-    go Undefined missing =
+    go None missing =
         let none : get_or dictionary 0 0 ≤ get_or dictionary 0 0 = omega arith in
         rw (le-ltb (get_or dictionary 0 0) (get_or dictionary 0 0) none, definition-missing dictionary small passes tag missing)
 

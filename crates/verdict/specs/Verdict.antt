@@ -12,16 +12,14 @@
 --   typed_verdict admits strict value type      the verdict on a value of this type
 --   defined_verdict strict value field          the verdict on a value whose tag has this definition, or none
 --   check_value lines strict tag value          the verdict on the value of a field with this tag
-use Rattle.std.specs.Prelude.{ℕ, Bool, List, if◌then◌else◌}
+use Rattle.std.specs.Prelude.{ℕ, Bool, List, if◌then◌else◌, Option, Some, None}
 use Prim.Native.Char.{code}
 use Rattle.ascii.specs.Split.{split, every_part}
 use Rattle.field_types.specs.declared.field_type.FieldType.{FieldType}
-use Rattle.field_types.specs.declared.field_type.NumberedType.{NumberedType}
-use Rattle.field_types.specs.declared.field_type.NumberedType.TheVariants as types
 use Rattle.field_types.specs.FieldType.{type_numbered, is_multi_value}
 use Rattle.formats.specs.FieldValue.{is_valid_value, is_strict_value}
 use Rattle.line_forms.specs.declared.line.Line.{Line}
-use Rattle.definitions.specs.DefinedFields.{FieldDef, FoundField, DefinedAs, NotDefined, field_in, is_admitted_by}
+use Rattle.definitions.specs.DefinedFields.{FoundField, DefinedAs, NotDefined, field_in, is_admitted_by}
 use Rattle.verdict.specs.declared.verdict.Verdict.{Verdict}
 use Rattle.verdict.specs.declared.verdict.Verdict.TheVariants.{Good, Undefined, WrongFormat, NotAdmitted}
 
@@ -45,12 +43,12 @@ module _ (admits : List ℕ → Bool) where
   is_admitted type value = if is_multi_value type then admits_each value else admits value
 
   -- the second clause is never met: every TYPE that a line can have has its number (`definition-known`, DefinitionFacts.antt)
-  abbrev pub typed_verdict : Bool → List ℕ → NumberedType → Verdict
-  typed_verdict strict value (types.Numbered type) =
+  abbrev pub typed_verdict : Bool → List ℕ → Option FieldType → Verdict
+  typed_verdict strict value (Some type) =
       if has_format strict type value
       then if is_admitted type value then Good else NotAdmitted
       else WrongFormat
-  typed_verdict strict value types.Nothing = Undefined
+  typed_verdict strict value None = Undefined
 
 abbrev pub defined_verdict : Bool → List ℕ → FoundField → Verdict
 defined_verdict strict value (DefinedAs field) = typed_verdict (is_admitted_by field.values) strict value (type_numbered field.type)

@@ -7,19 +7,16 @@
 --   verdicts_of dictionary strict table                    .. on all fields
 --   judged_of dictionary fields message space              what the call answers
 --   verdicts_in dictionary fields message strict space     what the space holds afterwards
-use Rattle.std.specs.Prelude.{ℕ, zero, suc, Bool, List, [], ◌∷◌, ◌++◌, length, drop, if◌then◌else◌}
+use Rattle.std.specs.Prelude.{ℕ, zero, suc, Bool, List, [], ◌∷◌, ◌++◌, length, drop, if◌then◌else◌, Result, Ok, Err}
 use Rattle.ascii.specs.Notation.{◌≤ᵇ◌}
-use Rattle.refusals.specs.declared.refusal.Refusal.TheVariants.{UnknownForm, BadField, SpaceShort}
+use Rattle.refusals.specs.declared.refusal.Refusal.TheVariants.{UnknownForm, SpaceShort}
 use Rattle.dictionary.specs.DictionaryWords.{word_lines}
 use Rattle.dictionary.specs.DictionaryCheck.{is_dictionary}
-use Rattle.field_table.specs.declared.field_table.TableCheck.{TableCheck}
-use Rattle.field_table.specs.declared.field_table.TableCheck.TheVariants as table
 use Rattle.field_table.specs.FieldTable.{row_count, table_check_of, fields_of}
 use Rattle.field_table.specs.WalkInput.{Fields}
 use Rattle.verdict.specs.declared.verdict.Verdict.{Verdict}
-use Rattle.verdicts.specs.declared.verdicts_call.Judged.{Judged}
-use Rattle.verdicts.specs.declared.verdicts_call.Judged.TheVariants.{Done, Refused}
 use Rattle.verdict.specs.Verdict.{verdict_word, check_value}
+use Rattle.refusals.specs.declared.refusal.Refusal.{Refusal}
 
 module _ (dictionary : List ℕ) (strict : Bool) (table : Fields) where
   abbrev pub field_verdict : ℕ → Verdict
@@ -35,19 +32,19 @@ module _ (dictionary : List ℕ) (strict : Bool) (table : Fields) where
 -- ---- what the call answers
 
 -- 13, or the answer
-abbrev pub space_answer : List ℕ → List ℕ → Judged
-space_answer fields space = if row_count fields ≤ᵇ length space then Done (row_count fields) else Refused (SpaceShort (row_count fields))
+abbrev pub space_answer : List ℕ → List ℕ → Result ℕ Refusal
+space_answer fields space = if row_count fields ≤ᵇ length space then Ok (row_count fields) else Err (SpaceShort (row_count fields))
 
 -- 12 before it
-abbrev pub table_answer : List ℕ → List ℕ → TableCheck → Judged
-table_answer fields space (table.Refused place) = Refused (BadField place)
-table_answer fields space table.Accepted = space_answer fields space
+abbrev pub table_answer : List ℕ → List ℕ → Result Unit Refusal → Result ℕ Refusal
+table_answer fields space (Err refusal) = Err refusal
+table_answer fields space (Ok tt) = space_answer fields space
 
-unfoldable pub judged_of : List ℕ → List ℕ → List ℕ → List ℕ → Judged
+unfoldable pub judged_of : List ℕ → List ℕ → List ℕ → List ℕ → Result ℕ Refusal
 judged_of dictionary fields message space =
     if is_dictionary dictionary
     then table_answer fields space (table_check_of fields (length message))
-    else Refused (UnknownForm 0)
+    else Err (UnknownForm 0)
 
 -- ---- what the space holds afterwards
 
@@ -58,9 +55,9 @@ module _ (dictionary fields message : List ℕ) (strict : Bool) (space : List �
   abbrev pub space_with : List ℕ
   space_with = if row_count fields ≤ᵇ length space then written_in else space
 
-  abbrev pub table_space : TableCheck → List ℕ
-  table_space (table.Refused place) = space
-  table_space table.Accepted = space_with
+  abbrev pub table_space : Result Unit Refusal → List ℕ
+  table_space (Err refusal) = space
+  table_space (Ok tt) = space_with
 
   unfoldable pub verdicts_in : List ℕ
   verdicts_in = if is_dictionary dictionary then table_space (table_check_of fields (length message)) else space

@@ -1,5 +1,5 @@
 -- Laws of `Verdicts.antt`, in its order, and the loop of `judge_values`. Assumes nothing.
-use Rattle.std.specs.Prelude.{◌≡◌, refl, Bool, true, false, List, ◌++◌, get_or, set}
+use Rattle.std.specs.Prelude.{◌≡◌, refl, Bool, true, false, List, ◌++◌, get_or, set, Result, Ok, Err}
 use Rattle.std.proofs.Math.Path.{sym}
 use Rattle.std.proofs.Common.{ap, ◌∙◌, le-leb}
 use Prim.Native.Nat.{ℕ, zero, suc, ◌+◌, ◌-◌, ◌≤◌, ◌<◌}
@@ -8,18 +8,16 @@ use Rattle.std.proofs.Math.Numerals.{add-one}
 use Rattle.std.proofs.Math.ListN.{length, length-set}
 use Rattle.std.proofs.Math.Seq.{sets, sets-eq, get_or-set_other}
 use Rattle.std.proofs.lemmas.Bool.{lt-leb}
-use Rattle.refusals.specs.declared.refusal.Refusal.TheVariants.{UnknownForm, BadField, SpaceShort}
+use Rattle.refusals.specs.declared.refusal.Refusal.TheVariants.{UnknownForm, SpaceShort}
 use Rattle.dictionary.specs.DictionaryCheck.{is_dictionary}
-use Rattle.field_table.specs.declared.field_table.TableCheck.TheVariants as table
 use Rattle.field_table.specs.FieldTable.{row_count, table_check_of, fields_of}
 use Rattle.field_table.specs.WalkInput.{Fields}
 use Rattle.verdict.specs.declared.verdict.Verdict.{Verdict}
-use Rattle.verdicts.specs.declared.verdicts_call.Judged.{Judged}
-use Rattle.verdicts.specs.declared.verdicts_call.Judged.TheVariants.{Done, Refused}
 use Rattle.verdict.specs.Verdict.{verdict_word}
 use Rattle.verdict.specs.FieldRecords.{field_record, filled_in, Holds}
 use Rattle.verdict.specs.FieldRecordsLaws.{filled_in-behind}
 use Rattle.verdicts.specs.Verdicts.{field_verdict, verdicts_from, verdicts_of, space_answer, judged_of, written_in, space_with, verdicts_in}
+use Rattle.refusals.specs.declared.refusal.Refusal.{Refusal}
 
 -- ---- the words of the verdicts
 
@@ -87,25 +85,25 @@ written_over dictionary fields message strict space between after filled written
 
 module _ (dictionary fields message : List ℕ) (strict : Bool) (space : List ℕ) where
   pub space_short : length space < row_count fields
-      → (Refused (SpaceShort (row_count fields)) ≡ space_answer fields space) × (space ≡ space_with dictionary fields message strict space)
+      → (Err (SpaceShort (row_count fields)) ≡ space_answer fields space) × (space ≡ space_with dictionary fields message strict space)
   space_short short = rw (lt-leb (row_count fields) (length space) short) (refl, refl)
 
   pub space-holds : (after : List ℕ) → row_count fields ≤ length space → after ≡ written_in dictionary fields message strict space
-      → (Done (row_count fields) ≡ space_answer fields space) × (after ≡ space_with dictionary fields message strict space)
+      → (Ok (row_count fields) ≡ space_answer fields space) × (after ≡ space_with dictionary fields message strict space)
   space-holds after room written = rw (le-leb (row_count fields) (length space) room) (refl, written)
 
   pub refused-dictionary : is_dictionary dictionary ≡ false
-      → (Refused (UnknownForm 0) ≡ judged_of dictionary fields message space) × (space ≡ verdicts_in dictionary fields message strict space)
+      → (Err (UnknownForm 0) ≡ judged_of dictionary fields message space) × (space ≡ verdicts_in dictionary fields message strict space)
   unfolding judged_of verdicts_in
   refused-dictionary wrong = rw wrong (refl, refl)
 
   module _ (right : is_dictionary dictionary ≡ true) where
-    pub refused-table : (place : ℕ) → table_check_of fields (length message) ≡ table.Refused place
-        → (Refused (BadField place) ≡ judged_of dictionary fields message space) × (space ≡ verdicts_in dictionary fields message strict space)
+    pub refused-table : (refusal : Refusal) → table_check_of fields (length message) ≡ Err refusal
+        → (Err refusal ≡ judged_of dictionary fields message space) × (space ≡ verdicts_in dictionary fields message strict space)
     unfolding judged_of verdicts_in
-    refused-table place bad = rw (right, bad) (refl, refl)
+    refused-table refusal bad = rw (right, bad) (refl, refl)
 
-    pub table-accepted : (judged : Judged) (after : List ℕ) → table_check_of fields (length message) ≡ table.Accepted
+    pub table-accepted : (judged : Result ℕ Refusal) (after : List ℕ) → table_check_of fields (length message) ≡ Ok tt
         → judged ≡ space_answer fields space → after ≡ space_with dictionary fields message strict space
         → (judged ≡ judged_of dictionary fields message space) × (after ≡ verdicts_in dictionary fields message strict space)
     unfolding judged_of verdicts_in

@@ -7,17 +7,9 @@ ghost use Rattle.verdicts.specs.Verdicts.{field_verdict, written_in, space_answe
 ghost use Rattle.verdict.specs.FieldRecords.{field_record, filled_in, Holds};
 
 use dictionary::dictionary_check::is_dictionary;
-use field_table::field_table::{TableCheck, check_field_table, first_at, past_at, tag_at};
+use field_table::field_table::{check_field_table, first_at, past_at, tag_at};
 use refusals::refusal::Refusal;
-use verdict::verdict::{Verdict, check_value, record_of, verdict_word};
-
-// What the call answers.
-#[derive(Clone, Copy)]
-pub enum Judged {
-    // How many words were written, one a field.
-    Done { words: usize },
-    Refused(Refusal),
-}
+use verdict::verdict::{Verdict, check_value, record_of};
 
 // Writes the number of the record that defines each field's tag.
 fn write_records(dictionary: &[u32], fields: &[u32], verdicts: &mut [u64])
@@ -25,12 +17,9 @@ fn write_records(dictionary: &[u32], fields: &[u32], verdicts: &mut [u64])
     requires fields_in_bounds { row_count fields.now ≤ length verdicts.old }
     ensures memory { verdicts.new ≡ filled_in (field_record dictionary.now fields.now) (row_count fields.now) verdicts.old }
 {
-    let count = fields.len() / 3;
-    let mut position = 0;
-    while position < count {
+    for position in 0..fields.len() / 3 {
         let tag = tag_at(fields, position);
         verdicts[position] = record_of(dictionary, tag) as u64;
-        position += 1;
     }
 }
 
@@ -68,13 +57,10 @@ fn judge_values(
     requires holds { Holds (field_record dictionary.now fields.now) (row_count fields.now) verdicts.old }
     ensures memory { verdicts.new ≡ written_in dictionary.now fields.now message.now strict verdicts.old }
 {
-    let rows = fields.len() / 3;
-    let mut index = 0;
-    while index < rows {
+    for index in 0..fields.len() / 3 {
         let number = verdicts[index] as usize;
         let verdict = verdict_at(dictionary, fields, message, strict, index, number);
-        verdicts[index] = verdict_word(verdict);
-        index += 1;
+        verdicts[index] = u64::from(verdict);
     }
 }
 
@@ -103,7 +89,7 @@ fn judge_fields(
     message: &[u8],
     strict: bool,
     verdicts: &mut [u64],
-) -> Judged
+) -> Result<usize, Refusal>
     requires dictionary_value { is_dictionary dictionary.now ≡ true }
     requires accepted_table { AcceptedTable fields.now (length message.now) }
     ensures outcome { result ≡ space_answer fields.now verdicts.old }
@@ -111,10 +97,10 @@ fn judge_fields(
 {
     let needed = fields.len() / 3;
     if verdicts.len() < needed {
-        return Judged::Refused(Refusal::SpaceShort(needed as u64));
+        return Err(Refusal::SpaceShort(needed as u64));
     }
     write_verdicts(dictionary, fields, message, strict, verdicts);
-    Judged::Done { words: needed }
+    Ok(needed)
 }
 
 // Gives the verdict on the value of each field: whether its tag is defined, its value has the form of its type, and is admitted. Refuses, in this order:
@@ -125,15 +111,13 @@ pub fn check_values(
     message: &[u8],
     strict: bool,
     verdicts: &mut [u64],
-) -> Judged
+) -> Result<usize, Refusal>
     ensures outcome { result ≡ judged_of dictionary.now fields.now message.now verdicts.old }
     ensures memory { verdicts.new ≡ verdicts_in dictionary.now fields.now message.now strict verdicts.old }
 {
     if !is_dictionary(dictionary) {
-        return Judged::Refused(Refusal::UnknownForm(0));
+        return Err(Refusal::UnknownForm(0));
     }
-    let TableCheck::Refused(place) = check_field_table(fields, message.len()) else {
-        return judge_fields(dictionary, fields, message, strict, verdicts);
-    };
-    Judged::Refused(Refusal::BadField(place as u64))
+    check_field_table(fields, message.len())?;
+    judge_fields(dictionary, fields, message, strict, verdicts)
 }

@@ -8,14 +8,12 @@
 --   NoFaultWords space count      none of the first `count` events in the words is a fault event
 --   CallFinds ..                  what the call tells
 --   call-finds-readings           that it does
-use Rattle.std.specs.Prelude.{◌≡◌, refl, ◌↔◌, ℕ, zero, suc, ◌+◌, ◌*◌, ◌-◌, ◌≤◌, ◌<◌, Bool, true, false, List, [], ◌∷◌, ◌++◌, length, get_or, take, drop}
+use Rattle.std.specs.Prelude.{◌≡◌, refl, ◌↔◌, ℕ, zero, suc, ◌+◌, ◌*◌, ◌-◌, ◌≤◌, ◌<◌, Bool, true, false, List, [], ◌∷◌, ◌++◌, length, get_or, take, drop, Some, Ok}
 use Rattle.std.proofs.Common.{sym, ap, subst, ◌∙◌, arith, take_at, drop_at}
-use Rattle.std.proofs.Math.Option.{some}
 use borrow.Author.Tests.{le-leb}
 use Rattle.layouts.specs.Limits.{gate_limits}
 use Rattle.layouts.specs.LayoutCheck.{is_layout}
 use Rattle.layouts.specs.LayoutCheckFacts.{Passed, is_layout-passed}
-use Rattle.field_table.specs.declared.field_table.TableCheck.TheVariants.{Accepted}
 use Rattle.events.specs.declared.event.Event.{Event}
 use Rattle.ascii.specs.Membership.{◌∈ᵇ◌}
 use Rattle.events.specs.Events.{kind_number, is_fault, NoFault, of_groups, event_words, events_words}
@@ -26,7 +24,6 @@ use Rattle.group_reading.specs.GroupWalk.{WalkedGroup, walk_group}
 use Rattle.group_reading.specs.GroupReading.{Reading, reading_events}
 use Rattle.group_reading.specs.ReadingTheorem.{FindsReadings, walk_finds_readings}
 use Rattle.group_reading.specs.ReadingTheorem.Complete.{reading-walked}
-use Rattle.walk.specs.declared.walk_call.Walked.TheVariants.{Done}
 use Rattle.walk_steps.specs.WalkWords.{group_of, input_of, top_members}
 use Rattle.walk_steps.specs.WalkWordsLaws.{group_of_number, layout_of_rules}
 use Rattle.walk.specs.WalkCall.{top_walk, needed_for, walked_of, events_in}
@@ -66,7 +63,7 @@ module _ (words fields message : List ℕ) (position tag : ℕ) (space : List �
     -- it gives a position, and has written so many events
     pub next : ℕ
     pub count : ℕ
-    pub answer : walked_of words fields message position tag space ≡ Done next (5 * count)
+    pub answer : walked_of words fields message position tag space ≡ Ok (record { position = next; words = (5 * count) })
     -- there is no fault event exactly where some stretch from the position on is a reading
     pub no_fault : NoFaultWords (events_in words fields message position tag space) count ↔ ((past : ℕ) × Reading (input_of words fields message) group 0 (top_members words) position past)
     -- that stretch is the only one
@@ -82,9 +79,9 @@ module _ (words fields message : List ℕ) (position tag : ℕ) (space : List �
     -- the words behind them are as they were
     pub kept : drop (5 * count) (events_in words fields message position tag space) ≡ drop (5 * count) space
 
-  module _ (right : is_layout gate_limits words ≡ true) (table : table_check_of fields (length message) ≡ Accepted) (inside : position < row_count fields)
-      (group : ℕ) (there : group_of words 0 tag ≡ some group) (room : needed_for (top_walk words fields message group position) ≤ length space) where
-    answered : walked_of words fields message position tag space ≡ Done (top_walk words fields message group position).next (needed_for (top_walk words fields message group position))
+  module _ (right : is_layout gate_limits words ≡ true) (table : table_check_of fields (length message) ≡ Ok tt) (inside : position < row_count fields)
+      (group : ℕ) (there : group_of words 0 tag ≡ Some group) (room : needed_for (top_walk words fields message group position) ≤ length space) where
+    answered : walked_of words fields message position tag space ≡ Ok (record { position = (top_walk words fields message group position).next; words = needed_for (top_walk words fields message group position) })
     unfolding walked_of
     answered = rw (right, table, there, le-leb (needed_for (top_walk words fields message group position)) (length space) room)
 

@@ -1,18 +1,14 @@
 -- Laws of `WalkCall.antt`: each answer by the tests in the order of the code. Assumes nothing.
-use Rattle.std.specs.Prelude.{◌≡◌, refl, ℕ, ◌+◌, ◌*◌, ◌-◌, ◌≤◌, ◌<◌, List, [], ◌++◌}
+use Rattle.std.specs.Prelude.{◌≡◌, refl, ℕ, ◌+◌, ◌*◌, ◌-◌, ◌≤◌, ◌<◌, List, [], ◌++◌, Option, Some, None, Result, Ok, Err}
 use Rattle.std.proofs.Common.{sym, ap, ◌∙◌, arith}
 use mathlib.Core.Bool.{true, false}
-use Rattle.std.proofs.Math.Option.{none, some}
 use lib.ListN.{length}
 use borrow.Author.Tests.{le-leb, lt-leb}
-use Rattle.ascending.specs.declared.search.Found.{Found}
-use Rattle.ascending.specs.declared.search.Found.TheVariants.{At, Nothing}
-use Rattle.refusals.specs.declared.refusal.Refusal.TheVariants.{RuleBroken, BadField, SpaceShort, NoSuchGroup}
+use Rattle.refusals.specs.declared.refusal.Refusal.TheVariants.{RuleBroken, SpaceShort, NoSuchGroup}
 use Rattle.layouts.specs.Limits.{gate_limits}
 use Rattle.layouts.specs.LayoutCheck.{is_layout}
 use Rattle.layouts.specs.LayoutCheckFacts.{Passed}
 use Rattle.layouts.specs.LayoutWords.{group_count, level_members}
-use Rattle.field_table.specs.declared.field_table.TableCheck.TheVariants as table
 use Rattle.events.specs.Events.{events_words}
 use Rattle.events.specs.EventSpaceLaws.{put_all_in-room, put_all_in-empty}
 use Rattle.field_table.specs.FieldTable.{row_count, table_check_of}
@@ -20,49 +16,49 @@ use Rattle.group_reading.specs.GroupWalk.{WalkedGroup, walk_group}
 use Rattle.group_reading.specs.GroupWalkLaws.Equations.{walk_group-outside}
 use Rattle.group_reading.specs.GroupWalkLaws.EventBound.{walk_group-few_in_table}
 use Rattle.walk.specs.declared.walk_call.Walked.{Walked}
-use Rattle.walk.specs.declared.walk_call.Walked.TheVariants.{Done, Refused}
 use Rattle.walk_steps.specs.WalkWords.{among, number_found, group_of, input_of, top_members}
 use Rattle.walk_steps.specs.WalkWordsLaws.{group_of_number, layout_of_rules}
 use Rattle.group_walk.specs.WalkPromises.{Walks}
 use Rattle.walk.specs.WalkCall.{top_walk, needed_for, space_answer, space_with, group_answer, group_space, table_answer, table_space, walked_of, events_in}
 use Rattle.group_walk.specs.WalkPromises.{most_words}
+use Rattle.refusals.specs.declared.refusal.Refusal.{Refusal}
 
 -- ---- the refusals before a walk
 
 module _ (words fields message : List ℕ) (position tag : ℕ) (space : List ℕ) where
-  pub refused-layout : is_layout gate_limits words ≡ false → (Refused (RuleBroken 0 0) ≡ walked_of words fields message position tag space) × (space ≡ events_in words fields message position tag space)
+  pub refused-layout : is_layout gate_limits words ≡ false → (Err (RuleBroken 0 0) ≡ walked_of words fields message position tag space) × (space ≡ events_in words fields message position tag space)
   unfolding walked_of events_in
   refused-layout wrong = rw wrong (refl, refl)
 
   module _ (right : is_layout gate_limits words ≡ true) where
-    pub refused-table : (place : ℕ) → table_check_of fields (length message) ≡ table.Refused place
-        → (Refused (BadField place) ≡ walked_of words fields message position tag space) × (space ≡ events_in words fields message position tag space)
+    pub refused-table : (refusal : Refusal) → table_check_of fields (length message) ≡ Err refusal
+        → (Err refusal ≡ walked_of words fields message position tag space) × (space ≡ events_in words fields message position tag space)
     unfolding walked_of events_in
-    refused-table place bad = rw (right, bad) (refl, refl)
+    refused-table refusal bad = rw (right, bad) (refl, refl)
 
-    pub table-accepted : (walked : Walked) (after : List ℕ) → table_check_of fields (length message) ≡ table.Accepted
+    pub table-accepted : (walked : Result Walked Refusal) (after : List ℕ) → table_check_of fields (length message) ≡ Ok tt
         → walked ≡ group_answer words fields message position tag space (group_of words 0 tag) → after ≡ group_space words fields message position tag space (group_of words 0 tag)
         → (walked ≡ walked_of words fields message position tag space) × (after ≡ events_in words fields message position tag space)
     unfolding walked_of events_in
     table-accepted walked after good answers left = rw (right, good) (answers, left)
 
-  module _ (found : Found) (found_is : number_found 0 found ≡ group_of words 0 tag) where
-    pub refused-group : found ≡ Nothing
-        → (Refused (NoSuchGroup tag) ≡ group_answer words fields message position tag space (group_of words 0 tag)) × (space ≡ group_space words fields message position tag space (group_of words 0 tag))
+  module _ (found : Option ℕ) (found_is : number_found 0 found ≡ group_of words 0 tag) where
+    pub refused-group : found ≡ None
+        → (Err (NoSuchGroup tag) ≡ group_answer words fields message position tag space (group_of words 0 tag)) × (space ≡ group_space words fields message position tag space (group_of words 0 tag))
     refused-group nowhere =
-        let none-there : group_of words 0 tag ≡ none = sym found_is ∙ ap (number_found 0) nowhere in
+        let none-there : group_of words 0 tag ≡ None = sym found_is ∙ ap (number_found 0) nowhere in
         rw none-there (refl, refl)
 
-    module _ (group : ℕ) (there : found ≡ At group) where
-      number_there : group_of words 0 tag ≡ some group
+    module _ (group : ℕ) (there : found ≡ Some group) where
+      number_there : group_of words 0 tag ≡ Some group
       number_there =
           let same : 0 + group ≡ group = omega arith in
-          sym found_is ∙ ap (number_found 0) there ∙ ap some same
+          sym found_is ∙ ap (number_found 0) there ∙ ap Some same
 
       pub group-valid : Passed gate_limits words → group < group_count words
       group-valid passed = group_of_number words passed 0 tag group (omega arith) number_there
 
-      pub group-found : (walked : Walked) (after : List ℕ) → walked ≡ space_answer (top_walk words fields message group position) space
+      pub group-found : (walked : Result Walked Refusal) (after : List ℕ) → walked ≡ space_answer (top_walk words fields message group position) space
           → after ≡ space_with (top_walk words fields message group position) space
           → (walked ≡ group_answer words fields message position tag space (group_of words 0 tag)) × (after ≡ group_space words fields message position tag space (group_of words 0 tag))
       group-found walked after answers left = rw number_there (answers, left)
@@ -103,7 +99,7 @@ module _ (words fields message : List ℕ) (passed : Passed gate_limits words) (
           ∙ rw whole
 
       pub walk_answers : needed_for (top_walk words fields message group position) ≤ length space
-          → (Done next past ≡ space_answer (top_walk words fields message group position) space) × (after ≡ space_with (top_walk words fields message group position) space)
+          → (Ok (record { position = next; words = past }) ≡ space_answer (top_walk words fields message group position) space) × (after ≡ space_with (top_walk words fields message group position) space)
       walk_answers room =
           rw (le-leb (needed_for (top_walk words fields message group position)) (length space) room)
           (rw (past_is, next_is), after_is room)
@@ -117,14 +113,14 @@ module _ (words fields message : List ℕ) (passed : Passed gate_limits words) (
       counted_is = past_is [] front counted other counts
 
       pub space_short : length (front ++ space) < counted
-          → (Refused (SpaceShort counted) ≡ space_answer (top_walk words fields message group position) space) × (front ++ space ≡ space_with (top_walk words fields message group position) space)
+          → (Err (SpaceShort counted) ≡ space_answer (top_walk words fields message group position) space) × (front ++ space ≡ space_with (top_walk words fields message group position) space)
       space_short short =
           let short' : length space < needed_for (top_walk words fields message group position) = rw (front-empty, counted_is) at short in
           rw (lt-leb (needed_for (top_walk words fields message group position)) (length space) short')
-          (ap (λ (words : ℕ). Refused (SpaceShort words)) counted_is, ap (λ (part : List ℕ). part ++ space) front-empty)
+          (ap (λ (words : ℕ). Err (SpaceShort words)) counted_is, ap (λ (part : List ℕ). part ++ space) front-empty)
 
       pub space-holds : counted ≤ length (front ++ space) → (after : List ℕ) (past next : ℕ) → Walks words fields message top group position 0 (front ++ space) after 0 past next
-          → (Done next past ≡ space_answer (top_walk words fields message group position) space) × (after ≡ space_with (top_walk words fields message group position) space)
+          → (Ok (record { position = next; words = past }) ≡ space_answer (top_walk words fields message group position) space) × (after ≡ space_with (top_walk words fields message group position) space)
       space-holds holds after past next walks =
           let room : needed_for (top_walk words fields message group position) ≤ length space = rw (front-empty, counted_is) at holds in
           walk_answers space after past next (rw front-empty at walks) room

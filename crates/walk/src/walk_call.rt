@@ -10,8 +10,7 @@ ghost use Rattle.walk_steps.specs.WalkWords.{group_of};
 ghost use Rattle.walk.specs.WalkCall.{top_walk, space_answer, space_with, group_answer, group_space, walked_of, events_in};
 ghost use Rattle.group_walk.specs.WalkPromises.{most_words};
 
-use ascending::search::Found;
-use field_table::field_table::{TableCheck, check_field_table};
+use field_table::field_table::check_field_table;
 use layout_check::layout_check::is_layout;
 use layouts::layout_words::members_at;
 use refusals::refusal::Refusal;
@@ -20,10 +19,9 @@ use walk_steps::layout_input::top_group;
 
 // What the call answers.
 #[derive(Clone, Copy)]
-pub enum Walked {
-    // The position of the first field behind the group, and how many words were written.
-    Done { position: usize, words: usize },
-    Refused(Refusal),
+pub struct Walked {
+    pub position: usize,
+    pub words: usize,
 }
 
 // As many words as a walk from the position on can need: five for each of 5 N - 2 events, where N fields are left.
@@ -47,7 +45,7 @@ fn count_first(
     position: usize,
     group: usize,
     events: &mut [u64],
-) -> Walked
+) -> Result<Walked, Refusal>
     requires { Accepted layout.now fields.now message.now group }
     ensures outcome { result ≡ space_answer (top_walk layout.now fields.now message.now group position) events.old }
     ensures memory { events.new ≡ space_with (top_walk layout.now fields.now message.now group position) events.old }
@@ -66,15 +64,15 @@ fn count_first(
     );
     let needed = counted.at;
     if events.len() < needed {
-        return Walked::Refused(Refusal::SpaceShort(needed as u64));
+        return Err(Refusal::SpaceShort(needed as u64));
     }
     let end = group_walk::group_walk::walk_group(
         fields, message, layout, top, group, position, 0, events, 0,
     );
-    Walked::Done {
+    Ok(Walked {
         position: end.next,
         words: end.at,
-    }
+    })
 }
 
 // The walk of a top group, once the lent words are accepted: one pass where the event space holds whatever it may need.
@@ -85,14 +83,14 @@ fn walk_top(
     position: usize,
     tag: u32,
     events: &mut [u64],
-) -> Walked
+) -> Result<Walked, Refusal>
     requires passed { Passed gate_limits layout.now }
     requires accepted_table { AcceptedTable fields.now (length message.now) }
     ensures outcome { result ≡ group_answer layout.now fields.now message.now position tag events.old (group_of layout.now 0 tag) }
     ensures memory { events.new ≡ group_space layout.now fields.now message.now position tag events.old (group_of layout.now 0 tag) }
 {
-    let Found::At(group) = top_group(layout, tag) else {
-        return Walked::Refused(Refusal::NoSuchGroup(tag));
+    let Some(group) = top_group(layout, tag) else {
+        return Err(Refusal::NoSuchGroup(tag));
     };
     let most = most_words(fields, position);
     if events.len() < most {
@@ -102,10 +100,10 @@ fn walk_top(
     let end = group_walk::group_walk::walk_group(
         fields, message, layout, top, group, position, 0, events, 0,
     );
-    Walked::Done {
+    Ok(Walked {
         position: end.next, // the first field after the group
         words: end.at,
-    }
+    })
 }
 
 // Walks the top group with this count tag from the field at `position` on, whatever its tag, and writes the events of the walk, five words each. Refuses,
@@ -117,15 +115,13 @@ pub fn walk_group(
     position: usize,
     tag: u32,
     events: &mut [u64],
-) -> Walked
+) -> Result<Walked, Refusal>
     ensures outcome { result ≡ walked_of layout.now fields.now message.now position tag events.old }
     ensures memory { events.new ≡ events_in layout.now fields.now message.now position tag events.old }
 {
     if !is_layout(layout) {
-        return Walked::Refused(Refusal::RuleBroken(0, 0));
+        return Err(Refusal::RuleBroken(0, 0));
     }
-    let TableCheck::Refused(place) = check_field_table(fields, message.len()) else {
-        return walk_top(layout, fields, message, position, tag, events);
-    };
-    Walked::Refused(Refusal::BadField(place as u64))
+    check_field_table(fields, message.len())?;
+    walk_top(layout, fields, message, position, tag, events)
 }

@@ -7,13 +7,9 @@
 --   ReadsGroup words layout number group  what is looked up by the number is the group's
 --   top-reads-layout, walk-reads-layout   that it is so
 --   top-group-read                        a top group of the layout has a number, and what is looked up by it is the group's
-use Rattle.std.specs.Prelude.{◌≡◌, refl, ℕ, ◌+◌, ◌≤◌, ◌<◌, true, List, ◌++◌, drop}
+use Rattle.std.specs.Prelude.{◌≡◌, refl, ℕ, ◌+◌, ◌≤◌, ◌<◌, true, List, ◌++◌, drop, slice_get, Option, Some, None}
 use Rattle.std.proofs.Common.{sym, subst, ◌∙◌, arith}
 use Rattle.std.proofs.Math.Path.{ap}
-use Rattle.std.proofs.Math.Option.{Option, none, some}
-use Rattle.std.proofs.Math.ListN.{get_elem?}
-use Rattle.ascending.specs.declared.search.Found.{Found}
-use Rattle.ascending.specs.declared.search.Found.TheVariants.{At, Nothing}
 use Rattle.ascending.specs.Search.{rank_in}
 use Rattle.layouts.specs.Limits.{gate_limits}
 use Rattle.layouts.specs.Layout.{Level, Group, Layout, members_of, groups_of, count_tag, delimiter, entry, all_groups}
@@ -29,15 +25,15 @@ use Rattle.walk_steps.specs.WalkWords.{number_found, group_of, layout_of, top_me
 use Rattle.walk_steps.specs.WalkWordsLaws.{group_of_number}
 
 abbrev pub group_numbered : Layout → Option ℕ → Option Group
-group_numbered layout none = none
-group_numbered layout (some number) = get_elem? (all_groups layout) number
+group_numbered layout None = None
+group_numbered layout (Some number) = slice_get (all_groups layout) number
 
 pub record ReadsTop (words : List ℕ) (layout : Layout) : Type 0 where
   pub members : (tag : ℕ) → top_members words tag ≡ tag ∈ᵇ members_of layout
   pub groups : (tag : ℕ) → group_numbered layout (group_of words 0 tag) ≡ group_named tag (groups_of layout)
 
 pub record ReadsGroup (words : List ℕ) (layout : Layout) (number : ℕ) (group : Group) : Type 0 where
-  pub numbered : group_numbered layout (some number) ≡ some group
+  pub numbered : group_numbered layout (Some number) ≡ Some group
   pub count_tag_lem : (layout_of words).count_tag number ≡ count_tag group
   pub delimits : (layout_of words).delimiter number ≡ delimiter group
   pub members : (tag : ℕ) → (layout_of words).is_member number tag ≡ tag ∈ᵇ members_of (entry group)
@@ -49,18 +45,18 @@ module _ (words : List ℕ) (passed : Passed gate_limits words) where
   abbrev there : ℕ → Group
   there number = group_at words number (drop (number + 1) (groups_from words 0 (group_count words)))
 
-  numbered-in : (number : ℕ) → number < group_count words → group_numbered (layout_in words) (some number) ≡ some (there number)
+  numbered-in : (number : ℕ) → number < group_count words → group_numbered (layout_in words) (Some number) ≡ Some (there number)
   numbered-in number inside =
-      ap (λ (groups : List Group). get_elem? groups number) (all_groups-in gate_limits words passed) ∙ group-numbered gate_limits words passed number inside
+      ap (λ (groups : List Group). slice_get groups number) (all_groups-in gate_limits words passed) ∙ group-numbered gate_limits words passed number inside
 
   nested-in : (level : ℕ) → level ≤ group_count words → (tag : ℕ)
       → group_numbered (layout_in words) (group_of words level tag) ≡ group_named tag (groups_of (level_numbered words level))
   nested-in level within tag = go (rank_in (level_count_tags words level) tag) refl
     where
-      go : (found : Found) → rank_in (level_count_tags words level) tag ≡ found
+      go : (found : Option ℕ) → rank_in (level_count_tags words level) tag ≡ found
           → group_numbered (layout_in words) (number_found (first_group words level) found) ≡ group_named tag (groups_of (level_numbered words level))
-      go Nothing found = sym (no_group_numbered gate_limits words passed level within tag found)
-      go (At rank) found =
+      go None found = sym (no_group_numbered gate_limits words passed level within tag found)
+      go (Some rank) found =
           let inside : first_group words level + rank < group_count words =
           group_of_number words passed level tag (first_group words level + rank) within (ap (number_found (first_group words level)) found) in
           numbered-in (first_group words level + rank) inside ∙ sym (some-group_numbered gate_limits words passed level within tag rank found (omega arith))
@@ -105,15 +101,15 @@ module _ (words : List ℕ) (layout : Layout) (behind : List ℕ) (begins : arra
       (there words passed number, subst (λ (tree : Layout). ReadsGroup words tree number (there words passed number)) same (group-read words passed number inside))
 
   -- a top group of the layout has a number, by which the walk reads what the layout has
-  pub top-group_read : (tag : ℕ) (group : Group) → group_named tag (groups_of layout) ≡ some group
-      → (number : ℕ) × ((group_of words 0 tag ≡ some number) × ReadsGroup words layout number group)
+  pub top-group_read : (tag : ℕ) (group : Group) → group_named tag (groups_of layout) ≡ Some group
+      → (number : ℕ) × ((group_of words 0 tag ≡ Some number) × ReadsGroup words layout number group)
   top-group_read tag group named = go (group_of words 0 tag) refl (top-reads_layout.groups tag ∙ named)
     where
-      go : (found : Option ℕ) → group_of words 0 tag ≡ found → group_numbered layout found ≡ some group
-          → (number : ℕ) × ((group_of words 0 tag ≡ some number) × ReadsGroup words layout number group)
-      go none found there-is = let zero_one : ◌≡◌ {A = ℕ} 0 1 = cc in absurd (omega arith)
-      go (some number) found there-is =
+      go : (found : Option ℕ) → group_of words 0 tag ≡ found → group_numbered layout found ≡ Some group
+          → (number : ℕ) × ((group_of words 0 tag ≡ Some number) × ReadsGroup words layout number group)
+      go None found there-is = let zero_one : ◌≡◌ {A = ℕ} 0 1 = cc in absurd (omega arith)
+      go (Some number) found there-is =
           let read = walk_reads_layout number (group_of_number words passed 0 tag number (omega arith) found) in
-          let both : some read.0 ≡ some group = sym read.1.numbered ∙ there-is in
+          let both : Some read.0 ≡ Some group = sym read.1.numbered ∙ there-is in
           let alike : read.0 ≡ group = cc in
           (number, (found, subst (λ (tree : Group). ReadsGroup words layout number tree) alike read.1))

@@ -7,10 +7,7 @@
 --   layout_of words              the layout: a group is its number, and its entry level has the number behind it
 --   input_of words fields message   all that a walk reads; "depth is 0 at the top and at most 32"
 --   top_members words            the level around a top group
-use Rattle.std.specs.Prelude.{ℕ, ◌+◌, Bool, List}
-use Rattle.std.proofs.Math.Option.{Option, none, some}
-use Rattle.ascending.specs.declared.search.Found.{Found}
-use Rattle.ascending.specs.declared.search.Found.TheVariants.{At, Nothing}
+use Rattle.std.specs.Prelude.{ℕ, ◌+◌, Bool, List, Option, Some, None}
 use Rattle.ascending.specs.Search.{rank_in}
 use Rattle.layouts.specs.Limits.{gate_limits}
 use Rattle.layouts.specs.LayoutRules.{◌∈ᵇ◌}
@@ -21,9 +18,9 @@ use Rattle.field_table.specs.FieldTable.{fields_of}
 abbrev pub among : List ℕ → ℕ → Bool
 among members tag = tag ∈ᵇ members
 
-abbrev pub number_found : ℕ → Found → Option ℕ
-number_found first (At place) = some (first + place)
-number_found first Nothing = none
+abbrev pub number_found : ℕ → Option ℕ → Option ℕ
+number_found first (Some place) = Some (first + place)
+number_found first None = None
 
 abbrev pub group_of : List ℕ → ℕ → ℕ → Option ℕ
 group_of words level tag = number_found (first_group words level) (rank_in (level_count_tags words level) tag)

@@ -2,13 +2,10 @@
 -- on readings relies on. Assumes nothing.
 --
 --   rank_of members tag   the rank of a member, its place among the members
-use Rattle.std.specs.Prelude.{◌≡◌, refl, ℕ, zero, suc, ◌+◌, ◌*◌, ◌-◌, ◌≤◌, ◌<◌, Bool, true, false, List, [], ◌∷◌, eqb, length, get_or, if◌then◌else◌}
+use Rattle.std.specs.Prelude.{◌≡◌, refl, ℕ, zero, suc, ◌+◌, ◌*◌, ◌-◌, ◌≤◌, ◌<◌, Bool, true, false, List, [], ◌∷◌, eqb, length, get_or, if◌then◌else◌, Option, Some, None}
 use Rattle.std.proofs.Math.Path.{sym}
 use Rattle.std.proofs.Common.{ap, ◌∙◌, true≢false, arith, eqb-true}
-use Rattle.std.proofs.Math.Option.{Option, none, some}
 use Rattle.std.proofs.Math.Nat.{ℕ_set}
-use Rattle.ascending.specs.declared.search.Found.{Found}
-use Rattle.ascending.specs.declared.search.Found.TheVariants.{At, Nothing}
 use Rattle.ascending.specs.Search.{StrictlyAscending, rank_from, rank_in, is_found}
 use Rattle.ascending.specs.SearchLaws.{is_strictly_ascending-true, is_found-rank}
 use Rattle.layouts.specs.Limits.{gate_limits}
@@ -20,9 +17,9 @@ use Rattle.layouts.specs.LayoutCheckFacts.{Passed, members_inside, members-ascen
 use Rattle.field_table.specs.ReliedRules.{LayoutRules}
 use Rattle.walk_steps.specs.WalkWords.{number_found, group_of, layout_of}
 
-abbrev pub rank_found : Found → ℕ
-rank_found (At rank) = rank
-rank_found Nothing = 0
+abbrev pub rank_found : Option ℕ → ℕ
+rank_found (Some rank) = rank
+rank_found None = 0
 
 abbrev pub rank_of : List ℕ → ℕ → ℕ
 rank_of members tag = rank_found (rank_in members tag)
@@ -33,24 +30,24 @@ pub found-member : (members : List ℕ) (tag : ℕ) → is_found (rank_in member
 found-member members tag = is_found-rank members tag
 
 module _ (members : List ℕ) (tag : ℕ) where
-  pub member-found : (rank : ℕ) → rank_in members tag ≡ At rank → tag ∈ᵇ members ≡ true
+  pub member-found : (rank : ℕ) → rank_in members tag ≡ Some rank → tag ∈ᵇ members ≡ true
   unfolding is_found
   member-found rank there = sym (found-member members tag) ∙ rw there
 
-  pub member-nowhere : rank_in members tag ≡ Nothing → tag ∈ᵇ members ≡ false
+  pub member-nowhere : rank_in members tag ≡ None → tag ∈ᵇ members ≡ false
   unfolding is_found
   member-nowhere nowhere = sym (found-member members tag) ∙ rw nowhere
 
 -- ---- what is found is there
 
-rank_from-there : (index : ℕ) (words : List ℕ) (tag place : ℕ) → rank_from index words tag ≡ At place
+rank_from-there : (index : ℕ) (words : List ℕ) (tag place : ℕ) → rank_from index words tag ≡ Some place
     → (index ≤ place) × (place < index + length words) × (get_or words (place - index) 0 ≡ tag)
 unfolding rank_from
 rank_from-there index [] tag place found = let zero_one : ◌≡◌ {A = ℕ} 0 1 = cc in absurd (omega arith)
 rank_from-there index (word ∷ rest) tag place found = go (eqb word tag) refl found (rank_from-there (index + 1) rest tag place)
   where
-    go : (same : Bool) → eqb word tag ≡ same → (if same then At index else rank_from (index + 1) rest tag) ≡ At place
-        → (rank_from (index + 1) rest tag ≡ At place → (index + 1 ≤ place) × (place < index + 1 + length rest) × (get_or rest (place - (index + 1)) 0 ≡ tag))
+    go : (same : Bool) → eqb word tag ≡ same → (if same then Some index else rank_from (index + 1) rest tag) ≡ Some place
+        → (rank_from (index + 1) rest tag ≡ Some place → (index + 1 ≤ place) × (place < index + 1 + length rest) × (get_or rest (place - (index + 1)) 0 ≡ tag))
         → (index ≤ place) × (place < index + length (word ∷ rest)) × (get_or (word ∷ rest) (place - index) 0 ≡ tag)
     go true same here later =
         let first : index ≡ place = cc in
@@ -61,7 +58,7 @@ rank_from-there index (word ∷ rest) tag place found = go (eqb word tag) refl f
         let one_more : place - index ≡ suc (place - (index + 1)) = omega (arith, behind.0) in
         (omega (arith, behind.0), omega (arith, behind.1), rw one_more behind.2)
 
-pub rank_in-there : (words : List ℕ) (tag place : ℕ) → rank_in words tag ≡ At place → (place < length words) × (get_or words place 0 ≡ tag)
+pub rank_in-there : (words : List ℕ) (tag place : ℕ) → rank_in words tag ≡ Some place → (place < length words) × (get_or words place 0 ≡ tag)
 unfolding rank_in
 rank_in-there words tag place found =
     let facts = rank_from-there 0 words tag place found in
@@ -71,15 +68,15 @@ rank_in-there words tag place found =
 -- ---- the rank of a member
 
 module _ (members : List ℕ) where
-  pub rank_of_found : (tag rank : ℕ) → rank_in members tag ≡ At rank → rank ≡ rank_of members tag
+  pub rank_of_found : (tag rank : ℕ) → rank_in members tag ≡ Some rank → rank ≡ rank_of members tag
   rank_of_found tag rank found = rw found
 
   rank_of_there : (tag : ℕ) → tag ∈ᵇ members ≡ true → (rank_of members tag < length members) × (get_or members (rank_of members tag) 0 ≡ tag)
   rank_of_there tag member = go (rank_in members tag) refl
     where
-      go : (found : Found) → rank_in members tag ≡ found → (rank_of members tag < length members) × (get_or members (rank_of members tag) 0 ≡ tag)
-      go (At rank) found = rw found (rank_in-there members tag rank found)
-      go Nothing found = absurd (true≢false (sym member ∙ member-nowhere members tag found))
+      go : (found : Option ℕ) → rank_in members tag ≡ found → (rank_of members tag < length members) × (get_or members (rank_of members tag) 0 ≡ tag)
+      go (Some rank) found = rw found (rank_in-there members tag rank found)
+      go None found = absurd (true≢false (sym member ∙ member-nowhere members tag found))
 
   pub rank_of_low : (tag : ℕ) → tag ∈ᵇ members ≡ true → rank_of members tag < length members
   rank_of_low tag member = (rank_of_there tag member).0
@@ -109,11 +106,11 @@ module _ (words : List ℕ) (passed : Passed gate_limits words) where
       let size = length-stretch words (group_places (group_count words) + level) inside in
       omega (arith, size, next, here, behind, rises, inside.rises)
 
-  pub group_of_number : (level tag number : ℕ) → level ≤ group_count words → group_of words level tag ≡ some number → number < group_count words
+  pub group_of_number : (level tag number : ℕ) → level ≤ group_count words → group_of words level tag ≡ Some number → number < group_count words
   group_of_number level tag number there is_number = go (rank_in (level_count_tags words level) tag) refl is_number
     where
-      go : (found : Found) → rank_in (level_count_tags words level) tag ≡ found → number_found (first_group words level) found ≡ some number → number < group_count words
-      go (At place) found same =
+      go : (found : Option ℕ) → rank_in (level_count_tags words level) tag ≡ found → number_found (first_group words level) found ≡ Some number → number < group_count words
+      go (Some place) found same =
           let sum : first_group words level + place ≡ number = cc in
           omega (
             arith,
@@ -121,7 +118,7 @@ module _ (words : List ℕ) (passed : Passed gate_limits words) where
             count_tags-length level there,
             first_group-within gate_limits words passed (level + 1) (omega arith),
           )
-      go Nothing found same = let zero_one : ◌≡◌ {A = ℕ} 0 1 = cc in absurd (omega arith)
+      go None found same = let zero_one : ◌≡◌ {A = ℕ} 0 1 = cc in absurd (omega arith)
 
   -- a level has no more members than all levels together may have
   pub members-few_here : (level : ℕ) → level ≤ group_count words → length (level_members words level) ≤ 8192
@@ -175,7 +172,7 @@ module _ (words : List ℕ) (passed : Passed gate_limits words) where
   top-ascends members are-members = rw are-members (members_ascend 0 (omega arith))
 
   -- the top's groups are the first ones
-  pub top-found : (tag : ℕ) (found : Found) (tags : List ℕ) → tags ≡ level_count_tags words 0 → (StrictlyAscending tags → found ≡ rank_in tags tag)
+  pub top-found : (tag : ℕ) (found : Option ℕ) (tags : List ℕ) → tags ≡ level_count_tags words 0 → (StrictlyAscending tags → found ≡ rank_in tags tag)
       → number_found 0 found ≡ group_of words 0 tag
   top-found tag found tags are-tags searched =
       let found_is : found ≡ rank_in (level_count_tags words 0) tag = searched (rw are-tags (count_tags-ascend 0 (omega arith))) ∙ rw are-tags in

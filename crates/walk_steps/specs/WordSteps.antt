@@ -4,12 +4,8 @@
 --   entry_step fields members count_tags first delimiter start cursor   what `scan_entry` does at the cursor, in an entry that begins at `start`; the
 --                          groups nested in the level have these count tags, and their numbers begin with `first`
 --   turn_at fields members enclosing delimiter declared entries cursor   what `walk_group` does at the cursor, behind so many entries
-use Rattle.std.specs.Prelude.{ℕ, Bool, not, ◌&&◌, List, if◌then◌else◌}
-use Rattle.std.proofs.Math.Option.{Option, none, some}
+use Rattle.std.specs.Prelude.{ℕ, Bool, not, ◌&&◌, List, if◌then◌else◌, Option, Some, None}
 use Rattle.ascii.specs.Notation.{◌<ᵇ◌, ◌≡ᵇ◌}
-use Rattle.counts.specs.declared.count.Count.{Count}
-use Rattle.ascending.specs.declared.search.Found.{Found}
-use Rattle.ascending.specs.declared.search.Found.TheVariants.{At, Nothing}
 use Rattle.ascending.specs.Search.{rank_in}
 use Rattle.layouts.specs.LayoutRules.{◌∈ᵇ◌}
 use Rattle.field_table.specs.FieldTable.{row_count, tag_of}
@@ -21,13 +17,13 @@ use Rattle.walk_steps.specs.declared.group_steps.Turn.TheVariants.{Over, Entry, 
 use Rattle.walk_steps.specs.WalkWords.{among, number_found}
 
 abbrev pub member_step : ℕ → ℕ → Option ℕ → EntryStep
-member_step rank tag none = Plain rank tag
-member_step rank tag (some number) = Nested rank tag number
+member_step rank tag None = Plain rank tag
+member_step rank tag (Some number) = Nested rank tag number
 
 -- `delimits`: the field is the delimiter and not the entry's first
-abbrev pub rank_step : Found → ℕ → (delimits : Bool) → Option ℕ → EntryStep
-rank_step Nothing tag delimits inner = Stop
-rank_step (At rank) tag delimits inner = if delimits then Stop else member_step rank tag inner
+abbrev pub rank_step : Option ℕ → ℕ → (delimits : Bool) → Option ℕ → EntryStep
+rank_step None tag delimits inner = Stop
+rank_step (Some rank) tag delimits inner = if delimits then Stop else member_step rank tag inner
 
 unfoldable pub entry_step : List ℕ → List ℕ → List ℕ → ℕ → ℕ → ℕ → ℕ → EntryStep
 entry_step fields members count_tags first delimiter start cursor =
@@ -47,7 +43,7 @@ turn_by inside delimits ends none_yet member tag =
     else if delimits then (if ends then Over else Entry)
     else lead_by none_yet member ends tag
 
-unfoldable pub turn_at : List ℕ → List ℕ → List ℕ → ℕ → Count → ℕ → ℕ → Turn
+unfoldable pub turn_at : List ℕ → List ℕ → List ℕ → ℕ → Option ℕ → ℕ → ℕ → Turn
 turn_at fields members enclosing delimiter declared entries cursor =
     turn_by (cursor <ᵇ row_count fields) (tag_of fields cursor ≡ᵇ delimiter) (ends_group declared entries (among enclosing) (tag_of fields cursor)) (entries ≡ᵇ 0)
     (tag_of fields cursor ∈ᵇ members) (tag_of fields cursor)

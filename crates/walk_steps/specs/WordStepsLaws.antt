@@ -1,17 +1,12 @@
 -- Laws of `WordSteps.antt`: what each step and turn is by the tests in the order of the code, and what it tells of the decisions of `GroupSteps.antt` of
 -- group_reading at the words' input. Assumes nothing.
-use Rattle.std.specs.Prelude.{◌≡◌, ℕ, ◌+◌, ◌≤◌, ◌<◌, Bool, not, ◌&&◌, List, ltb, if◌then◌else◌}
+use Rattle.std.specs.Prelude.{◌≡◌, ℕ, ◌+◌, ◌≤◌, ◌<◌, Bool, not, ◌&&◌, List, ltb, if◌then◌else◌, Option, Some, None}
 use Rattle.std.proofs.Math.Path.{refl}
 use Rattle.std.proofs.Common.{sym, ap, ◌∙◌, arith}
 use Rattle.std.proofs.Math.Bool.{true, false}
 use Rattle.std.proofs.lemmas.Bool.{false≢true}
-use Rattle.std.proofs.Math.Option.{Option, none, some}
 use Rattle.std.proofs.Math.Dec.{eqb}
 use borrow.Author.Tests.{lt-ltb, le-ltb, ltb-true, eq-eqb, ne_eqb, eqb-true, eqb-false}
-use Rattle.counts.specs.declared.count.Count.{Count}
-use Rattle.counts.specs.declared.count.Count.TheVariants.{Number, Nothing}
-use Rattle.ascending.specs.declared.search.Found.{Found}
-use Rattle.ascending.specs.declared.search.Found.TheVariants as found
 use Rattle.ascending.specs.Search.{rank_in, is_found}
 use Rattle.layouts.specs.LayoutRules.{◌∈ᵇ◌}
 use Rattle.layouts.specs.LayoutWords.{level_members, level_count_tags, first_group, delimiter_at}
@@ -35,14 +30,14 @@ module _ (fields members count_tags : List ℕ) (first delimiter start cursor : 
   step-outside over = rw (le-ltb cursor (row_count fields) over)
 
   module _ (inside : cursor < row_count fields) (tag : ℕ) (is-tag : tag ≡ tag_of fields cursor) where
-    pub step-foreign : rank_in members tag ≡ found.Nothing → Stop ≡ entry_step fields members count_tags first delimiter start cursor
+    pub step-foreign : rank_in members tag ≡ None → Stop ≡ entry_step fields members count_tags first delimiter start cursor
     unfolding entry_step
     step-foreign nowhere =
-        let nowhere' : rank_in members (tag_of fields cursor) ≡ found.Nothing = rw (← is-tag) nowhere in
+        let nowhere' : rank_in members (tag_of fields cursor) ≡ None = rw (← is-tag) nowhere in
         rw (lt-ltb cursor (row_count fields) inside, nowhere')
 
-    module _ (rank : ℕ) (there : rank_in members tag ≡ found.At rank) where
-      there-too : rank_in members (tag_of fields cursor) ≡ found.At rank
+    module _ (rank : ℕ) (there : rank_in members tag ≡ Some rank) where
+      there-too : rank_in members (tag_of fields cursor) ≡ Some rank
       there-too = rw (← is-tag) there
 
       pub step-delimiter : (cursor ≡ start → ⊥) → tag ≡ delimiter → Stop ≡ entry_step fields members count_tags first delimiter start cursor
@@ -71,32 +66,32 @@ taken-other cursor start tag delimiter other = go (eqb cursor start)
 
 -- ---- what a step tells
 
-pub record StepSays (inside at_start delimits : Bool) (rank-of : Found) (here : ℕ) (inner : Option ℕ) (step : EntryStep) : Type 0 where
+pub record StepSays (inside at_start delimits : Bool) (rank-of : Option ℕ) (here : ℕ) (inner : Option ℕ) (step : EntryStep) : Type 0 where
   pub stop : step ≡ Stop → stops_by inside (is_found rank-of) at_start delimits ≡ true
-  pub plain : (rank tag : ℕ) → step ≡ Plain rank tag → (stops_by inside (is_found rank-of) at_start delimits ≡ false) × (rank-of ≡ found.At rank) × (tag ≡ here) × (inner ≡ none)
+  pub plain : (rank tag : ℕ) → step ≡ Plain rank tag → (stops_by inside (is_found rank-of) at_start delimits ≡ false) × (rank-of ≡ Some rank) × (tag ≡ here) × (inner ≡ None)
   pub nested : (rank tag number : ℕ) → step ≡ Nested rank tag number
-      → (stops_by inside (is_found rank-of) at_start delimits ≡ false) × (rank-of ≡ found.At rank) × (tag ≡ here) × (inner ≡ some number)
+      → (stops_by inside (is_found rank-of) at_start delimits ≡ false) × (rank-of ≡ Some rank) × (tag ≡ here) × (inner ≡ Some number)
 
 taken-says : (at_start delimits ends : Bool) → (not at_start && delimits) ≡ ends → (there here : ℕ) (inner : Option ℕ)
-    → StepSays true at_start delimits (found.At there) here inner (if ends then Stop else member_step there here inner)
+    → StepSays true at_start delimits (Some there) here inner (if ends then Stop else member_step there here inner)
 unfolding is_found
 taken-says at_start delimits true is-ends there here inner = record {
   stop = λ same. is-ends;
   plain = λ rank tag same. let zero_one : ◌≡◌ {A = ℕ} 0 1 = cc in absurd (omega arith);
   nested = λ rank tag number same. let zero_one : ◌≡◌ {A = ℕ} 0 1 = cc in absurd (omega arith);
 }
-taken-says at_start delimits false is-ends there here none = record {
+taken-says at_start delimits false is-ends there here None = record {
   stop = λ same. let zero_one : ◌≡◌ {A = ℕ} 0 1 = cc in absurd (omega arith);
   plain = λ rank tag same. (is-ends, cc, cc, refl);
   nested = λ rank tag number same. let zero_one : ◌≡◌ {A = ℕ} 0 1 = cc in absurd (omega arith);
 }
-taken-says at_start delimits false is-ends there here (some inner) = record {
+taken-says at_start delimits false is-ends there here (Some inner) = record {
   stop = λ same. let zero_one : ◌≡◌ {A = ℕ} 0 1 = cc in absurd (omega arith);
   plain = λ rank tag same. let zero_one : ◌≡◌ {A = ℕ} 0 1 = cc in absurd (omega arith);
   nested = λ rank tag number same. (is-ends, cc, cc, cc);
 }
 
-step-says : (inside at_start delimits : Bool) (rank-of : Found) (here : ℕ) (inner : Option ℕ)
+step-says : (inside at_start delimits : Bool) (rank-of : Option ℕ) (here : ℕ) (inner : Option ℕ)
     → StepSays inside at_start delimits rank-of here inner (if inside then rank_step rank-of here (not at_start && delimits) inner else Stop)
 unfolding is_found
 step-says false at_start delimits rank-of here inner = record {
@@ -104,18 +99,18 @@ step-says false at_start delimits rank-of here inner = record {
   plain = λ rank tag same. let zero_one : ◌≡◌ {A = ℕ} 0 1 = cc in absurd (omega arith);
   nested = λ rank tag number same. let zero_one : ◌≡◌ {A = ℕ} 0 1 = cc in absurd (omega arith);
 }
-step-says true at_start delimits found.Nothing here inner = record {
+step-says true at_start delimits None here inner = record {
   stop = λ same. refl;
   plain = λ rank tag same. let zero_one : ◌≡◌ {A = ℕ} 0 1 = cc in absurd (omega arith);
   nested = λ rank tag number same. let zero_one : ◌≡◌ {A = ℕ} 0 1 = cc in absurd (omega arith);
 }
-step-says true at_start delimits (found.At there) here inner = taken-says at_start delimits (not at_start && delimits) refl there here inner
+step-says true at_start delimits (Some there) here inner = taken-says at_start delimits (not at_start && delimits) refl there here inner
 
 -- a field that is taken: its tag, and the tag's rank
 pub record FieldHere (words fields message : List ℕ) (group start cursor rank tag : ℕ) : Type 0 where
   pub goes_on : entry_stops (input_of words fields message) (eqb cursor start) group cursor ≡ false
   pub tag_is : tag ≡ tag_of fields cursor
-  pub ranked : rank_in (level_members words (1 + group)) tag ≡ found.At rank
+  pub ranked : rank_in (level_members words (1 + group)) tag ≡ Some rank
 
 module _ (words fields message : List ℕ) (group start cursor : ℕ) where
   entry_stops-is : (at_start : Bool) → entry_stops (input_of words fields message) at_start group cursor
@@ -136,13 +131,13 @@ module _ (words fields message : List ℕ) (group start cursor : ℕ) where
     entry-stops is = entry_stops-is (eqb cursor start) ∙ says.stop (sym steps ∙ is)
 
     pub entry-plain : (rank tag : ℕ) → step ≡ Plain rank tag
-        → FieldHere words fields message group start cursor rank tag × (group_of words (1 + group) (tag_of fields cursor) ≡ none)
+        → FieldHere words fields message group start cursor rank tag × (group_of words (1 + group) (tag_of fields cursor) ≡ None)
     entry-plain rank tag is =
         let facts = says.plain rank tag (sym steps ∙ is) in
         (record { goes_on = entry_stops-is (eqb cursor start) ∙ facts.0; tag_is = facts.2; ranked = rw facts.2 facts.1 }, facts.3)
 
     pub entry-nested : (rank tag number : ℕ) → step ≡ Nested rank tag number
-        → FieldHere words fields message group start cursor rank tag × (group_of words (1 + group) (tag_of fields cursor) ≡ some number)
+        → FieldHere words fields message group start cursor rank tag × (group_of words (1 + group) (tag_of fields cursor) ≡ Some number)
     entry-nested rank tag number is =
         let facts = says.nested rank tag number (sym steps ∙ is) in
         (record { goes_on = entry_stops-is (eqb cursor start) ∙ facts.0; tag_is = facts.2; ranked = rw facts.2 facts.1 }, facts.3)
@@ -150,14 +145,14 @@ module _ (words fields message : List ℕ) (group start cursor : ℕ) where
 -- ---- the end of a group by its declared count
 
 module _ (enclosing : List ℕ) (entries tag : ℕ) where
-  module _ (declared : Count) (number : ℕ) (is_number : declared ≡ Number number) where
+  module _ (declared : Option ℕ) (number : ℕ) (is_number : declared ≡ Some number) where
     pub ends-other : (number ≡ entries → ⊥) → false ≡ ends_group declared entries (among enclosing) tag
     ends-other other = rw (is_number, ne_eqb number entries other)
 
-    pub ends_foreign : number ≡ entries → rank_in enclosing tag ≡ found.Nothing → false ≡ ends_group declared entries (among enclosing) tag
+    pub ends_foreign : number ≡ entries → rank_in enclosing tag ≡ None → false ≡ ends_group declared entries (among enclosing) tag
     ends_foreign same nowhere = rw (is_number, eq-eqb number entries same, member-nowhere enclosing tag nowhere)
 
-    pub ends_there : number ≡ entries → (rank : ℕ) → rank_in enclosing tag ≡ found.At rank → true ≡ ends_group declared entries (among enclosing) tag
+    pub ends_there : number ≡ entries → (rank : ℕ) → rank_in enclosing tag ≡ Some rank → true ≡ ends_group declared entries (among enclosing) tag
     ends_there same rank there = rw (is_number, eq-eqb number entries same, member-found enclosing tag rank there)
 
 -- ---- lead_by and turn_at, as code finds them
@@ -166,17 +161,17 @@ module _ (members : List ℕ) (entries : ℕ) (ends : Bool) (tag : ℕ) where
   pub lead-later : (entries ≡ 0 → ⊥) → Over ≡ lead_by (eqb entries 0) (tag ∈ᵇ members) ends tag
   lead-later later = rw (ne_eqb entries 0 later)
 
-  pub lead-foreign : entries ≡ 0 → rank_in members tag ≡ found.Nothing → Over ≡ lead_by (eqb entries 0) (tag ∈ᵇ members) ends tag
+  pub lead-foreign : entries ≡ 0 → rank_in members tag ≡ None → Over ≡ lead_by (eqb entries 0) (tag ∈ᵇ members) ends tag
   lead-foreign none_yet nowhere = rw (eq-eqb entries 0 none_yet, member-nowhere members tag nowhere)
 
-  module _ (none_yet : entries ≡ 0) (rank : ℕ) (there : rank_in members tag ≡ found.At rank) where
+  module _ (none_yet : entries ≡ 0) (rank : ℕ) (there : rank_in members tag ≡ Some rank) where
     pub lead-ends : ends ≡ true → Over ≡ lead_by (eqb entries 0) (tag ∈ᵇ members) ends tag
     lead-ends is-end = rw (eq-eqb entries 0 none_yet, member-found members tag rank there, is-end)
 
     pub lead-here : ends ≡ false → Lead tag ≡ lead_by (eqb entries 0) (tag ∈ᵇ members) ends tag
     lead-here no_end = rw (eq-eqb entries 0 none_yet, member-found members tag rank there, no_end)
 
-module _ (fields members enclosing : List ℕ) (delimiter : ℕ) (declared : Count) (entries cursor : ℕ) where
+module _ (fields members enclosing : List ℕ) (delimiter : ℕ) (declared : Option ℕ) (entries cursor : ℕ) where
   pub turn-outside : row_count fields ≤ cursor → Over ≡ turn_at fields members enclosing delimiter declared entries cursor
   unfolding turn_at
   turn-outside over = rw (le-ltb cursor (row_count fields) over)
@@ -248,7 +243,7 @@ turn-says true false false true true here = record {
   lead = λ tag same. (refl, refl, cc);
 }
 
-module _ (words fields message enclosing : List ℕ) (group : ℕ) (declared : Count) (entries cursor : ℕ) where
+module _ (words fields message enclosing : List ℕ) (group : ℕ) (declared : Option ℕ) (entries cursor : ℕ) where
   turn-here : TurnSays (ltb cursor (row_count fields)) (eqb (tag_of fields cursor) (delimiter_at words group)) (ends_group declared entries (among enclosing) (tag_of fields cursor))
       (eqb entries 0) (tag_of fields cursor ∈ᵇ level_members words (1 + group)) (tag_of fields cursor)
       (turn_at fields (level_members words (1 + group)) enclosing (delimiter_at words group) declared entries cursor)
@@ -304,7 +299,7 @@ module _ (words : List ℕ) (group : ℕ) (members count_tags : List ℕ) (first
 
 module _ (words : List ℕ) (group : ℕ) (members : List ℕ) (delimiter : ℕ) (are-members : members ≡ level_members words (1 + group))
     (is-delimiter : delimiter ≡ delimiter_at words group) where
-  pub level-turn : (fields enclosing : List ℕ) (declared : Count) (entries cursor : ℕ) (turn : Turn) → turn ≡ turn_at fields members enclosing delimiter declared entries cursor
+  pub level-turn : (fields enclosing : List ℕ) (declared : Option ℕ) (entries cursor : ℕ) (turn : Turn) → turn ≡ turn_at fields members enclosing delimiter declared entries cursor
       → turn ≡ turn_at fields (level_members words (1 + group)) enclosing (delimiter_at words group) declared entries cursor
   level-turn fields enclosing declared entries cursor turn turns =
       turns

@@ -4,7 +4,6 @@ ghost use Rattle.std.specs.Prelude.{◌≡◌, not, ◌||◌, [], ◌∷◌, ◌
 ghost use Rattle.events.specs.EventSpaceLaws.{Wrote};
 ghost use Rattle.walk_steps.specs.WrittenEvents.{tag_event, begun_by, repeat_by, left_by};
 
-use counts::count::Count;
 use events::event::{Event, Kind, put};
 
 // One event of the group with this count tag.
@@ -30,13 +29,13 @@ pub fn put_start(
     tag: u32,
     depth: u32,
     index: usize,
-    declared: Count,
+    declared: Option<u64>,
 ) -> usize
     requires { at + 10 < 2 ^ 63 }
     ensures { Wrote events.old events.new at result (begun_by tag depth index declared) }
 {
     let next = put_event(events, at, tag, depth, Kind::Enter);
-    let Count::Number(_) = declared else {
+    let Some(_) = declared else {
         return put_event(events, next, tag, depth, Kind::BadCount(index as u64));
     };
     next
@@ -80,14 +79,14 @@ pub fn put_end(
     at: usize,
     tag: u32,
     depth: u32,
-    declared: Count,
+    declared: Option<u64>,
     unparseable: bool,
     entries: u64,
 ) -> usize
     requires { at + 10 < 2 ^ 63 }
     ensures { Wrote events.old events.new at result (left_by tag depth declared unparseable entries) }
 {
-    let Count::Number(number) = declared else {
+    let Some(number) = declared else {
         return put_event(events, at, tag, depth, Kind::Leave(false, entries));
     };
     if number == entries {

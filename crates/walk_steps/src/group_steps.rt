@@ -8,8 +8,7 @@ ghost use Rattle.group_reading.specs.GroupSteps.{ends_group};
 ghost use Rattle.walk_steps.specs.WalkWords.{among, number_found};
 ghost use Rattle.walk_steps.specs.WordSteps.{member_step, entry_step, lead_by, turn_at};
 
-use ascending::search::{Found, binary_search};
-use counts::count::Count;
+use ascending::search::binary_search;
 use field_table::field_table::tag_at;
 
 // What the field at a cursor is to an entry.
@@ -47,7 +46,7 @@ fn taken_step(tags: &[u32], first: usize, rank: usize, tag: u32) -> EntryStep
     requires tags_bound { first + length tags.now < 4294967296 }
     ensures { result ≡ member_step rank tag (number_found first (rank_in tags.now tag)) }
 {
-    let Found::At(place) = binary_search(tags, tag) else {
+    let Some(place) = binary_search(tags, tag) else {
         return EntryStep::Plain(rank, tag);
     };
     EntryStep::Nested(rank, tag, first + place)
@@ -72,7 +71,7 @@ pub fn step_at(
         return EntryStep::Stop;
     }
     let tag = tag_at(fields, cursor);
-    let Found::At(rank) = binary_search(members, tag) else {
+    let Some(rank) = binary_search(members, tag) else {
         return EntryStep::Stop;
     };
     if cursor == start {
@@ -85,24 +84,30 @@ pub fn step_at(
 }
 
 // Whether a field after the declared entries belongs to the enclosing scope rather than to this group.
-fn ends_group(declared: Count, entries: u64, enclosing: &[u32], tag: u32) -> bool
+fn ends_group(declared: Option<u64>, entries: u64, enclosing: &[u32], tag: u32) -> bool
     requires { StrictlyAscending enclosing.now }
     ensures { result ≡ ends_group declared entries (among enclosing.now) tag }
 {
-    let Count::Number(number) = declared else {
+    let Some(number) = declared else {
         return false;
     };
     if number != entries {
         return false;
     }
-    let Found::At(_) = binary_search(enclosing, tag) else {
+    let Some(_) = binary_search(enclosing, tag) else {
         return false; // the level around lacks the tag
     };
     true
 }
 
 // A field other than the delimiter: a member ahead of any delimiter, or not the group's.
-fn lead_at(members: &[u32], enclosing: &[u32], declared: Count, entries: u64, tag: u32) -> Turn
+fn lead_at(
+    members: &[u32],
+    enclosing: &[u32],
+    declared: Option<u64>,
+    entries: u64,
+    tag: u32,
+) -> Turn
     requires strictly_ascending { StrictlyAscending members.now }
     requires strictly_ascending_2 { StrictlyAscending enclosing.now }
     ensures { result ≡ lead_by (eqb entries 0) (tag ∈ᵇ members.now) (ends_group declared entries (among enclosing.now) tag) tag }
@@ -110,7 +115,7 @@ fn lead_at(members: &[u32], enclosing: &[u32], declared: Count, entries: u64, ta
     if entries != 0 {
         return Turn::Over;
     }
-    let Found::At(_) = binary_search(members, tag) else {
+    let Some(_) = binary_search(members, tag) else {
         return Turn::Over;
     };
     if ends_group(declared, entries, enclosing, tag) {
@@ -125,7 +130,7 @@ pub fn opening_at(
     members: &[u32],
     enclosing: &[u32],
     delimiter: u32,
-    declared: Count,
+    declared: Option<u64>,
     entries: u64,
     cursor: usize,
 ) -> Turn

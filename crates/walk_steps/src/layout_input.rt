@@ -6,7 +6,7 @@ ghost use Rattle.layouts.specs.LayoutWords.{group_count, first_group};
 ghost use Rattle.layouts.specs.LayoutCheckFacts.{Passed};
 ghost use Rattle.walk_steps.specs.WalkWords.{number_found, group_of};
 
-use ascending::search::{Found, binary_search};
+use ascending::search::binary_search;
 use layouts::layout_words::{count_tags_at, group_count, wide};
 
 // The number of the first group that stands in a level.
@@ -22,7 +22,7 @@ pub fn first_group_of(words: &[u32], level: usize) -> usize
 }
 
 // The number of the top group with this count tag. The top's groups are the first ones, so that it is the tag's place among theirs.
-pub fn top_group(words: &[u32], tag: u32) -> Found
+pub fn top_group(words: &[u32], tag: u32) -> Option<usize>
     requires { Passed gate_limits words.now }
     ensures { (number_found 0 result ≡ group_of words.now 0 tag) × (group_count words.now < 4294967296) }
 {

@@ -2,7 +2,7 @@
 -- messages that tell wrong meanings of its sentence on kinds 9 to 11 apart. Assumes nothing.
 --
 -- A layout is given by its arrangement, a message by the tags and the values of its fields.
-use Rattle.std.specs.Prelude.{◌≡◌, refl, ℕ, suc, ◌+◌, true, false, List, [], ◌∷◌, ◌++◌, map, length, replicate}
+use Rattle.std.specs.Prelude.{◌≡◌, refl, ℕ, suc, ◌+◌, true, false, List, [], ◌∷◌, ◌++◌, map, length, replicate, Some, None, Result, Ok, Err}
 use Prim.Native.String.{String}
 use Rattle.ascii.specs.Notation.{is_between}
 use Rattle.ascii.specs.Bytes.{ascii, non_empty, every}
@@ -14,8 +14,6 @@ use Rattle.refusals.specs.declared.refusal.Refusal.TheVariants.{UnknownForm, Rul
 use Rattle.line_forms.specs.declared.line.Line.{Line}
 use Rattle.line_forms.specs.declared.line.Line.TheVariants as line
 use Rattle.line_forms.specs.declared.line.Line.TheVariants.{Def, Value, BeginHeader, BeginTrailer, EndHeader, EndTrailer, Message, Group, End}
-use Rattle.lines.specs.declared.line_parts.Number32.TheVariants.{Number, NoNumber}
-use Rattle.lines.specs.declared.line_parts.MessageType.TheVariants.{Letters}
 use Rattle.lines.specs.LineParts.{no_leading_zero, number_of, is_alphanumeric}
 use Rattle.dictionary_order.specs.DictionaryOrder.{step_of}
 use Rattle.records.specs.Records.{holds_byte, holds_part, letters_length, letters_text, holds_letters, holds_value, record_of, is_unused, outer_from, body_from, line_from, lines_from}
@@ -32,11 +30,10 @@ use Rattle.events.specs.Events.{event_words, events_words}
 use Rattle.field_table.specs.FieldTable.{is_bad_field, bad_from, table_check_of}
 use Rattle.group_reading.specs.GroupSteps.{opening_at, member_leads, entry_begins, entry_stops, step_at}
 use Rattle.group_reading.specs.GroupWalk.{walk_by, walk_group}
-use Rattle.validator.specs.declared.message_call.WalkedMessage.{WalkedMessage}
-use Rattle.validator.specs.declared.message_call.WalkedMessage.TheVariants.{Done, Refused}
 use Rattle.message_level.specs.MessageWalk.{turn_at, turns_from, missing_tags, missing_groups, message_events}
 use Rattle.message_level.specs.MessageWords.{required_from, events_with}
 use Rattle.validator.specs.MessageCall.{walked_of, events_in}
+use Rattle.refusals.specs.declared.refusal.Refusal.{Refusal}
 
 pub record Field : Type 0 where
   pub tag : ℕ
@@ -76,8 +73,8 @@ dictionary =
     ∷ Message 1140850688 true
     ∷ Group 453 448 true
     ∷ line.Field 447 true
-    ∷ End (Number 453) (Letters 875901696)
-    ∷ End NoNumber (Letters 1140850688)
+    ∷ End (Some 453) (Some 875901696)
+    ∷ End None (Some 1140850688)
     ∷ []
 
 abbrev pub parties : Layout
@@ -90,7 +87,7 @@ abbrev pub listed : List (List ℕ)
 listed = (1 ∷ 453 ∷ 0 ∷ 0 ∷ 0 ∷ []) ∷ (5 ∷ 453 ∷ 0 ∷ 0 ∷ 2 ∷ []) ∷ (5 ∷ 453 ∷ 0 ∷ 1 ∷ 1 ∷ []) ∷ (8 ∷ 453 ∷ 0 ∷ 1 ∷ 2 ∷ []) ∷ []
 
 -- the call on so many words of space, and what it leaves there
-abbrev pub called : List ℕ → List ℕ → ℕ → WalkedMessage × List ℕ
+abbrev pub called : List ℕ → List ℕ → ℕ → Result ℕ Refusal × List ℕ
 called words layout room =
     (walked_of words layout (table_from 0 message) (values_of message) (replicate room 7), events_in words layout (table_from 0 message) (values_of message) (replicate room 7))
 
@@ -103,19 +100,19 @@ unfolding is_in rank_from rank_in groups_below level_order all_groups joined pla
 layout-passes = refl
 
 pub record MessageCalls : Type 0 where
-  pub list_in_full : called (dictionary_words dictionary) (arranged parties) 22 ≡ (Done 20, joined listed ++ (7 ∷ 7 ∷ []))
-  pub exact_space : called (dictionary_words dictionary) (arranged parties) 20 ≡ (Done 20, joined listed)
-  pub space_short : called (dictionary_words dictionary) (arranged parties) 19 ≡ (Refused (SpaceShort 20), replicate 19 7)
-  pub dictionary_first : called [] [] 19 ≡ (Refused (UnknownForm 0), replicate 19 7)
-  pub then_layout : called (dictionary_words dictionary) [] 19 ≡ (Refused (RuleBroken 0 0), replicate 19 7)
-  pub then_table : walked_of (dictionary_words dictionary) (arranged parties) (35 ∷ 2 ∷ 1 ∷ []) (ascii "D") [] ≡ Refused (BadField 1)
+  pub list_in_full : called (dictionary_words dictionary) (arranged parties) 22 ≡ (Ok 20, joined listed ++ (7 ∷ 7 ∷ []))
+  pub exact_space : called (dictionary_words dictionary) (arranged parties) 20 ≡ (Ok 20, joined listed)
+  pub space_short : called (dictionary_words dictionary) (arranged parties) 19 ≡ (Err (SpaceShort 20), replicate 19 7)
+  pub dictionary_first : called [] [] 19 ≡ (Err (UnknownForm 0), replicate 19 7)
+  pub then_layout : called (dictionary_words dictionary) [] 19 ≡ (Err (RuleBroken 0 0), replicate 19 7)
+  pub then_table : walked_of (dictionary_words dictionary) (arranged parties) (35 ∷ 2 ∷ 1 ∷ []) (ascii "D") [] ≡ Err (BadField 1)
 
 pub empty-refused : (is_dictionary [] ≡ false) × (is_layout gate_limits [] ≡ false)
 unfolding accepts stands_each check.count_of is_index is_dictionary is_layout_of is_layout non_empty
 empty-refused = (refl, refl)
 
 pub message-calls : MessageCalls
-unfolding is_in rank_from rank_in groups_below level_order all_groups joined places_from arranged_parts arranged stretch walk_group walk_by opening_at member_leads entry_begins entry_stops step_at count_of is_digits non_empty every is_between decimal_from event_words turn_at turns_from missing_tags missing_groups message_events required_from inserted sorted no_leading_zero number_of is_alphanumeric holds_byte holds_part letters_length letters_text holds_letters holds_value record_of is_unused outer_from body_from line_from is_of name_of names_of place_of records_of index_of dictionary_words lines_from values_first fields_in events_words is_bad_field bad_from table_check_of walked_of events_in
+unfolding is_in rank_from rank_in groups_below level_order all_groups joined places_from arranged_parts arranged stretch walk_group walk_by opening_at member_leads entry_begins entry_stops step_at is_digits non_empty every is_between decimal_from event_words turn_at turns_from missing_tags missing_groups message_events required_from inserted sorted no_leading_zero number_of is_alphanumeric holds_byte holds_part letters_length letters_text holds_letters holds_value record_of is_unused outer_from body_from line_from is_of name_of names_of place_of records_of index_of dictionary_words lines_from values_first fields_in events_words is_bad_field bad_from table_check_of walked_of events_in
 message-calls = record {
   list_in_full = rw (dictionary-passes, layout-passes) refl;
   exact_space = rw (dictionary-passes, layout-passes) refl;
@@ -157,7 +154,7 @@ pub record MessageCases : Type 0 where
   pub group_not_required : walked [] (level_of_lem (10 ∷ []) [] (group_and (group_of_lem 10 1 false (level_of_lem (1 ∷ []) [] no_groups)) no_groups)) [] ≡ []
 
 pub message-cases : MessageCases
-unfolding is_in rank_from rank_in groups_below level_order all_groups joined places_from arranged_parts arranged stretch walk_group walk_by opening_at member_leads entry_begins entry_stops step_at count_of is_digits non_empty every is_between decimal_from event_words turn_at turns_from missing_tags missing_groups message_events required_from
+unfolding is_in rank_from rank_in groups_below level_order all_groups joined places_from arranged_parts arranged stretch walk_group walk_by opening_at member_leads entry_begins entry_stops step_at is_digits non_empty every is_between decimal_from event_words turn_at turns_from missing_tags missing_groups message_events required_from
 message-cases = record {
   undefined_skipped = refl;
   undefined_count_tag = refl;

@@ -4,7 +4,7 @@
 --                 def=541,MonthYear value=202412, then an empty header and an empty trailer
 --   worked        the words of the definitions of 'One list in full': def=35,String def=448,String def=447,Char value=D def=453,NumInGroup
 --   worked_table   the fields of its message, 35=D 453=2 448=A 447=D 448=B, with the values one behind the other
-use Rattle.std.specs.Prelude.{◌≡◌, refl, ℕ, true, false, List, [], ◌∷◌}
+use Rattle.std.specs.Prelude.{◌≡◌, refl, ℕ, true, false, List, [], ◌∷◌, Ok, Err}
 use Rattle.ascii.specs.Notation.{is_between}
 use Rattle.ascii.specs.Bytes.{ascii, non_empty, every, how_many}
 use Rattle.ascii.specs.Digits.{is_digits, is_digits_of_len, decimal_from}
@@ -32,7 +32,6 @@ use Rattle.dictionary.specs.DictionaryCheck.{accepts, count_of, stands_at, stand
 use Rattle.definitions.specs.DefinedFields.{values_first, fields_in, field_called, is_one_of}
 use Rattle.field_table.specs.FieldTable.{is_bad_field, bad_from, table_check_of}
 use Rattle.verdict.specs.declared.verdict.Verdict.TheVariants.{Good, Undefined, WrongFormat, NotAdmitted}
-use Rattle.verdicts.specs.declared.verdicts_call.Judged.TheVariants.{Done, Refused}
 use Rattle.verdict.specs.Verdict.{admits_each, check_value}
 use Rattle.verdicts.specs.Verdicts.{verdicts_from, judged_of, verdicts_in}
 
@@ -90,18 +89,18 @@ pub record VerdictCases : Type 0 where
   pub two_spaces : check_value some false 276 (ascii "A  B") ≡ WrongFormat
   pub string_with_space : check_value some false 58 (ascii "A A") ≡ NotAdmitted
   -- "verdicts=00000"
-  pub worked_answer : judged_of worked worked_table worked_message (9 ∷ 9 ∷ 9 ∷ 9 ∷ 9 ∷ 9 ∷ []) ≡ Done 5
+  pub worked_answer : judged_of worked worked_table worked_message (9 ∷ 9 ∷ 9 ∷ 9 ∷ 9 ∷ 9 ∷ []) ≡ Ok 5
   pub worked_words : verdicts_in worked worked_table worked_message false (9 ∷ 9 ∷ 9 ∷ 9 ∷ 9 ∷ 9 ∷ []) ≡ 0 ∷ 0 ∷ 0 ∷ 0 ∷ 0 ∷ 9 ∷ []
   -- 447=X under def=447,Char value=D gets 3
   pub worked_not_admitted : verdicts_in worked (447 ∷ 0 ∷ 1 ∷ []) (ascii "X") false (9 ∷ []) ≡ 3 ∷ []
-  pub worked_short : judged_of worked worked_table worked_message (9 ∷ 9 ∷ 9 ∷ 9 ∷ []) ≡ Refused (SpaceShort 5)
+  pub worked_short : judged_of worked worked_table worked_message (9 ∷ 9 ∷ 9 ∷ 9 ∷ []) ≡ Err (SpaceShort 5)
   pub worked_untouched : verdicts_in worked worked_table worked_message false (9 ∷ 9 ∷ 9 ∷ 9 ∷ []) ≡ 9 ∷ 9 ∷ 9 ∷ 9 ∷ []
   -- the table before the space, and the dictionary before the table
-  pub table_first : judged_of worked (35 ∷ 0 ∷ 1 ∷ 453 ∷ 1 ∷ 6 ∷ []) worked_message [] ≡ Refused (BadField 2)
-  pub dictionary_first : judged_of [] (35 ∷ []) worked_message [] ≡ Refused (UnknownForm 0)
+  pub table_first : judged_of worked (35 ∷ 0 ∷ 1 ∷ 453 ∷ 1 ∷ 6 ∷ []) worked_message [] ≡ Err (BadField 2)
+  pub dictionary_first : judged_of [] (35 ∷ []) worked_message [] ≡ Err (UnknownForm 0)
 
 pub verdict_cases : VerdictCases
-unfolding is_between non_empty every how_many is_digits is_digits_of_len decimal_from with_first split every_part stands_for has_picture is_month_year is_in_range is_strict_month_year is_signed without_sign is_integer is_decimal_body is_decimal expected_after continues characters_from characters is_token is_multi_value_list type_numbered is_of_format is_in_ranges inserted sorted is_strictly_above is_strictly_ascending word_at step_of holds_byte holds_part holds_value record_of is_unused outer_from body_from line_from digit_count length_of is_of name_of names_of place_of records_of index_of dictionary_words lines_from accepts count_of stands_at stands_each is_index is_dictionary starts_with is_same bytes_from value_text values_first fields_in field_called is_one_of is_bad_field bad_from table_check_of admits_each check_value verdicts_from judged_of verdicts_in
+unfolding is_between non_empty every how_many is_digits is_digits_of_len decimal_from with_first split every_part has_picture is_in_range expected_after continues characters_from characters is_multi_value_list type_numbered is_of_format is_in_ranges inserted sorted is_strictly_above is_strictly_ascending word_at step_of holds_byte holds_part holds_value record_of is_unused outer_from body_from line_from digit_count length_of is_of name_of names_of place_of records_of index_of dictionary_words lines_from accepts count_of stands_at stands_each is_index is_dictionary starts_with is_same bytes_from value_text values_first fields_in field_called is_one_of is_bad_field bad_from table_check_of admits_each check_value verdicts_from judged_of verdicts_in
 verdict_cases = record {
   some_passes = refl;
   price_good = refl;

@@ -1,14 +1,12 @@
 -- The clauses of `walk_group` and `scan_entry` with no fuel in sight: what a proof of code cites. Assumes nothing.
 --
 -- Where a part of the walk is used twice, for its events and for where it ends, it is a variable with its equation.
-use Rattle.std.specs.Prelude.{◌≡◌, Bool, length}
+use Rattle.std.specs.Prelude.{◌≡◌, Bool, length, Option, Some, None}
 use Rattle.std.proofs.Math.Path.{refl}
 use Rattle.std.proofs.Common.{◌∙◌, arith, add-one}
 use Prim.Native.Nat.{ℕ, suc, ◌+◌, ◌*◌, ◌-◌, ◌≤◌, ◌<◌}
 use Rattle.std.proofs.Math.Bool.{true, false}
-use Rattle.std.proofs.Math.Option.{none, some}
 use mathlib.Core.List.{List, [], ◌∷◌}
-use Rattle.counts.specs.declared.count.Count.{Count}
 use Rattle.events.specs.declared.event.Kind.TheVariants.{Close, Deep}
 use Rattle.ascii.specs.Membership.{◌∈ᵇ◌}
 use Rattle.ascii.specs.Membership.{insert_if}
@@ -35,7 +33,7 @@ module _ (input : Input) (rules : LayoutRules input.layout) where
   walk_group-fuel fuel group depth enclosing index valid inside enough =
       walk_fuel input rules (3 * (field_count - index) + 1) fuel (opening_at input group depth enclosing index) group depth enclosing index valid refl inside (omega arith) enough
 
-  walk_entries-fuel : (fuel : ℕ) (group : Group) (depth : ℕ) (enclosing : ℕ → Bool) (declared : Count) (entries cursor : ℕ) → Valid group
+  walk_entries-fuel : (fuel : ℕ) (group : Group) (depth : ℕ) (enclosing : ℕ → Bool) (declared : Option ℕ) (entries cursor : ℕ) → Valid group
       → 3 * (field_count - cursor) + 3 ≤ fuel
       → walk_entries input group depth enclosing declared entries cursor ≡ entries_with input fuel group depth enclosing declared entries cursor
   unfolding walk_entries
@@ -93,7 +91,7 @@ module _ (input : Input) (rules : LayoutRules input.layout) where
 
   -- ---- its loop
 
-  module _ (group : Group) (depth : ℕ) (enclosing : ℕ → Bool) (declared : Count) (entries cursor : ℕ) (valid : Valid group) where
+  module _ (group : Group) (depth : ℕ) (enclosing : ℕ → Bool) (declared : Option ℕ) (entries cursor : ℕ) (valid : Valid group) where
     pub walk_entries-ends : entry_begins input group enclosing declared entries cursor ≡ false
         → walk_entries input group depth enclosing declared entries cursor ≡ record { events = []; next = cursor; unparseable = false; entries = entries }
     unfolding walk_by
@@ -129,7 +127,7 @@ module _ (input : Input) (rules : LayoutRules input.layout) where
         rw (scan_entry-fuel (suc (3 * (field_count - cursor) + 1)) at_start group depth seen cursor valid (omega arith), step_at-stops input at_start group cursor stopped)
 
     module _ (going_on : entry_stops input at_start group cursor ≡ false) where
-      pub scan_entry-plain : nested_group group (tag_at cursor) ≡ none
+      pub scan_entry-plain : nested_group group (tag_at cursor) ≡ None
           → scan_entry input at_start group depth seen cursor
           ≡ field_then (repeated_tag layout group depth (tag_at cursor) (tag_at cursor ∈ᵇ seen)) (tag_at cursor ∈ᵇ seen) (record { events = []; next = suc cursor })
           (scan_entry input false group depth (insert_if (tag_at cursor ∈ᵇ seen) (tag_at cursor) seen) (suc cursor))
@@ -142,7 +140,7 @@ module _ (input : Input) (rules : LayoutRules input.layout) where
             scan_entry-fuel (3 * (field_count - cursor) + 1) false group depth (insert_if (tag_at cursor ∈ᵇ seen) (tag_at cursor) seen) (suc cursor) valid (omega arith),
           )
 
-      pub scan_entry-nested : (inner : Group) → nested_group group (tag_at cursor) ≡ some inner
+      pub scan_entry-nested : (inner : Group) → nested_group group (tag_at cursor) ≡ Some inner
           → (walk : WalkedGroup) → walk ≡ walk_group input inner (suc depth) (is_member group) cursor
           → scan_entry input at_start group depth seen cursor
           ≡ field_then (repeated_tag layout group depth (tag_at cursor) (tag_at cursor ∈ᵇ seen)) (tag_at cursor ∈ᵇ seen) walk

@@ -1,11 +1,9 @@
 -- A walk that passes N fields, N at least 1, has at most 5 * N - 2 events; so five words for each of 5 * N - 2 events hold every walk over N
 -- fields. The bound is reached (`GroupWalkCases.antt`). Assumes nothing.
-use Rattle.std.specs.Prelude.{◌≡◌, ℕ, zero, suc, ◌+◌, ◌*◌, ◌-◌, ◌≤◌, ◌<◌, Bool, true, false, ◌||◌, List, [], ◌∷◌, eqb, length}
+use Rattle.std.specs.Prelude.{◌≡◌, ℕ, zero, suc, ◌+◌, ◌*◌, ◌-◌, ◌≤◌, ◌<◌, Bool, true, false, ◌||◌, List, [], ◌∷◌, eqb, length, Option, Some, None}
 use Rattle.std.proofs.Math.Path.{refl}
 use Rattle.std.proofs.Common.{sym, ◌∙◌, true≢false, length-append}
 use native.Mathlib.Omega.{arith}
-use Rattle.counts.specs.declared.count.Count.{Count}
-use Rattle.counts.specs.declared.count.Count.TheVariants.{Number, Nothing}
 use Rattle.events.specs.declared.event.Kind.TheVariants.{Close}
 use Rattle.events.specs.declared.event.Event.{Event}
 use Rattle.ascii.specs.Membership.{◌∈ᵇ◌}
@@ -33,14 +31,14 @@ module _ (layout : Layout) where
   ended_by-few group depth false false declared entries = omega arith
 
   -- a count that declares nothing brings no miscount
-  both_few : (group : Group) (depth index : ℕ) (declared : Count) (unparseable : Bool) (entries : ℕ)
+  both_few : (group : Group) (depth index : ℕ) (declared : Option ℕ) (unparseable : Bool) (entries : ℕ)
       → length (bad_count layout group depth index declared) + length (ended layout group depth declared unparseable entries) ≤ 2
-  both_few group depth index Nothing unparseable entries = omega arith
-  both_few group depth index (Number declared) unparseable entries =
+  both_few group depth index None unparseable entries = omega arith
+  both_few group depth index (Some declared) unparseable entries =
       let few = ended_by-few group depth (eqb declared entries) unparseable declared entries in
       omega arith
 
-  whole_group-few : (group : Group) (depth index : ℕ) (declared : Count) (unparseable : Bool) (leading : List Event) (rest : WalkedEntries)
+  whole_group-few : (group : Group) (depth index : ℕ) (declared : Option ℕ) (unparseable : Bool) (leading : List Event) (rest : WalkedEntries)
       → length (whole_group layout group depth index declared unparseable leading rest).events ≤ 3 + length leading + length rest.events
   whole_group-few group depth index declared unparseable leading rest =
       let few = both_few group depth index declared (unparseable || rest.unparseable) rest.entries in
@@ -94,7 +92,7 @@ module _ (input : Input) (rules : LayoutRules input.layout) where
         let whole = whole_group-few layout group depth index (count_at fields index) false [] rest in
         omega arith
 
-    entries-few : (fuel : ℕ) (begins : Bool) (group : Group) (depth : ℕ) (enclosing : ℕ → Bool) (declared : Count) (entries cursor : ℕ) → Valid group
+    entries-few : (fuel : ℕ) (begins : Bool) (group : Group) (depth : ℕ) (enclosing : ℕ → Bool) (declared : Option ℕ) (entries cursor : ℕ) → Valid group
         → entry_begins input group enclosing declared entries cursor ≡ begins → 3 * (field_count - cursor) + 3 ≤ fuel
         → length (entries_by input fuel begins group depth enclosing declared entries cursor).events + 5 * cursor
         ≤ 5 * (entries_by input fuel begins group depth enclosing declared entries cursor).next

@@ -1,7 +1,6 @@
 -- Any two bounds on the calls that are enough give the same walk: three calls for each field left. Assumes nothing.
-use Rattle.std.specs.Prelude.{◌≡◌, refl, ℕ, zero, suc, ◌+◌, ◌*◌, ◌-◌, ◌≤◌, ◌<◌, Bool, true, false, List, []}
+use Rattle.std.specs.Prelude.{◌≡◌, refl, ℕ, zero, suc, ◌+◌, ◌*◌, ◌-◌, ◌≤◌, ◌<◌, Bool, true, false, List, [], Option}
 use Rattle.std.proofs.Common.{arith}
-use Rattle.counts.specs.declared.count.Count.{Count}
 use Rattle.ascii.specs.Membership.{◌∈ᵇ◌}
 use Rattle.ascii.specs.Membership.{insert_if}
 use Rattle.field_table.specs.WalkInput.{Input, count_at}
@@ -40,7 +39,7 @@ module _ (input : Input) (rules : LayoutRules input.layout) where
         rw (entries-fuel fuel fuel' (entry_begins input group enclosing (count_at fields index) 0 (suc index)) group depth enclosing (count_at fields index) 0 (suc index) valid refl
         (omega arith) (omega arith))
 
-    pub entries-fuel : (fuel fuel' : ℕ) (begins : Bool) (group : Group) (depth : ℕ) (enclosing : ℕ → Bool) (declared : Count) (entries cursor : ℕ)
+    pub entries-fuel : (fuel fuel' : ℕ) (begins : Bool) (group : Group) (depth : ℕ) (enclosing : ℕ → Bool) (declared : Option ℕ) (entries cursor : ℕ)
         → Valid group
         → entry_begins input group enclosing declared entries cursor ≡ begins → 3 * (field_count - cursor) + 3 ≤ fuel
         → 3 * (field_count - cursor) + 3 ≤ fuel'

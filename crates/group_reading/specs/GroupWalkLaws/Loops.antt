@@ -5,11 +5,9 @@
 --   after_entries .. events unparseable rest    what entries that gave these events, and then the rest of the group, give
 --   EntrySoFar start .. cursor events          the fields of the entry from `start` up to the cursor are taken, and gave the events
 --   GroupSoFar index .. entries cursor events  so many entries of the group at `index` are taken, the last one up to the cursor
-use Rattle.std.specs.Prelude.{◌≡◌, refl, ℕ, suc, ◌≤◌, ◌<◌, Bool, true, false, ◌||◌, List, [], ◌∷◌, ◌++◌, length}
+use Rattle.std.specs.Prelude.{◌≡◌, refl, ℕ, suc, ◌≤◌, ◌<◌, Bool, true, false, ◌||◌, List, [], ◌∷◌, ◌++◌, length, Option, Some, None}
 use Rattle.std.proofs.Common.{◌∙◌, append_assoc, append-nil}
 use Rattle.std.proofs.Math.Bool.{or_assoc, or-false}
-use Rattle.std.proofs.Math.Option.{none, some}
-use Rattle.counts.specs.declared.count.Count.{Count}
 use Rattle.events.specs.declared.event.Kind.TheVariants.{Enter, Close}
 use Rattle.events.specs.declared.event.Event.{Event}
 use Rattle.ascii.specs.Membership.{◌∈ᵇ◌}
@@ -28,7 +26,7 @@ after_fields events unparseable rest = record {
   seen = rest.seen;
 }
 
-abbrev pub after_entries : (layout : Layout) → layout.Group → ℕ → Count → List Event → Bool → WalkedEntries → WalkedGroup
+abbrev pub after_entries : (layout : Layout) → layout.Group → ℕ → Option ℕ → List Event → Bool → WalkedEntries → WalkedGroup
 after_entries layout group depth declared events unparseable rest = record {
   events = events ++ (rest.events ++ ended layout group depth declared (unparseable || rest.unparseable) rest.entries);
   next = rest.next;
@@ -61,7 +59,7 @@ module _ (input : Input) where
       entry-ends stopped = so_far.whole ∙ rw (scan_entry-stops input rules at_start group depth seen cursor valid stopped, append-nil, or-false)
 
       module _ (going_on : entry_stops input at_start group cursor ≡ false) (repeated : Bool) (is-repeated : tag_at cursor ∈ᵇ seen ≡ repeated) where
-        pub entry-takes_field : nested_group group (tag_at cursor) ≡ none
+        pub entry-takes_field : nested_group group (tag_at cursor) ≡ None
             → EntrySoFar start group depth false (insert_if repeated (tag_at cursor) seen) (suc cursor) (events ++ repeated_tag layout group depth (tag_at cursor) repeated) (unparseable || repeated)
         entry-takes_field none-nested =
             let rest = scan_entry input false group depth (insert_if repeated (tag_at cursor) seen) (suc cursor) in
@@ -76,7 +74,7 @@ module _ (input : Input) where
                   );
             }
 
-        pub entry-takes_group : (inner : Group) → nested_group group (tag_at cursor) ≡ some inner
+        pub entry-takes_group : (inner : Group) → nested_group group (tag_at cursor) ≡ Some inner
             → (walk : WalkedGroup) → walk ≡ walk_group input inner (suc depth) (is_member group) cursor
             → EntrySoFar start group depth false (insert_if repeated (tag_at cursor) seen) walk.next
             ((events ++ repeated_tag layout group depth (tag_at cursor) repeated) ++ walk.events) (unparseable || repeated)

@@ -1,11 +1,10 @@
 -- A walk does not go back, passes a field where there is one, and stays within the table. Assumes nothing.
-use Rattle.std.specs.Prelude.{◌≡◌, ℕ, zero, suc, ◌≤◌, ◌<◌, Bool}
+use Rattle.std.specs.Prelude.{◌≡◌, ℕ, zero, suc, ◌≤◌, ◌<◌, Bool, Option}
 use Rattle.std.proofs.Math.Path.{refl}
 use Rattle.std.proofs.Common.{sym, ◌∙◌, true≢false}
 use Rattle.std.proofs.Math.Bool.{true, false}
 use mathlib.Core.List.{List, []}
 use native.Mathlib.Omega.{arith}
-use Rattle.counts.specs.declared.count.Count.{Count}
 use Rattle.ascii.specs.Membership.{◌∈ᵇ◌}
 use Rattle.ascii.specs.Membership.{insert_if}
 use Rattle.field_table.specs.WalkInput.{Input, count_at}
@@ -37,7 +36,7 @@ module _ (input : Input) where
         let rest-on = entries-not_back fuel (entry_begins input group enclosing (count_at fields index) 0 (suc index)) group depth enclosing (count_at fields index) 0 (suc index) in
         omega arith
 
-    pub entries-not_back : (fuel : ℕ) (begins : Bool) (group : Group) (depth : ℕ) (enclosing : ℕ → Bool) (declared : Count) (entries cursor : ℕ)
+    pub entries-not_back : (fuel : ℕ) (begins : Bool) (group : Group) (depth : ℕ) (enclosing : ℕ → Bool) (declared : Option ℕ) (entries cursor : ℕ)
         → cursor ≤ (entries_by input fuel begins group depth enclosing declared entries cursor).next
     entries-not_back zero begins group depth enclosing declared entries cursor = omega arith
     entries-not_back (suc fuel) false group depth enclosing declared entries cursor = omega arith
@@ -108,7 +107,7 @@ module _ (input : Input) where
     walk_within (suc fuel) entries_follow group depth enclosing index inside =
         entries-within fuel (entry_begins input group enclosing (count_at fields index) 0 (suc index)) group depth enclosing (count_at fields index) 0 (suc index) inside
 
-    entries-within : (fuel : ℕ) (begins : Bool) (group : Group) (depth : ℕ) (enclosing : ℕ → Bool) (declared : Count) (entries cursor : ℕ)
+    entries-within : (fuel : ℕ) (begins : Bool) (group : Group) (depth : ℕ) (enclosing : ℕ → Bool) (declared : Option ℕ) (entries cursor : ℕ)
         → cursor ≤ field_count
         → (entries_by input fuel begins group depth enclosing declared entries cursor).next ≤ field_count
     entries-within zero begins group depth enclosing declared entries cursor inside = omega arith

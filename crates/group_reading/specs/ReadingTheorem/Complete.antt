@@ -1,10 +1,7 @@
 -- Where there is a reading, the walk of the group ends behind it and gives its events. Assumes nothing.
-use Rattle.std.specs.Prelude.{◌≡◌, refl, ℕ, zero, suc, ◌+◌, ◌*◌, ◌-◌, ◌≤◌, ◌<◌, Bool, true, List, [], ◌∷◌, ◌++◌, length}
+use Rattle.std.specs.Prelude.{◌≡◌, refl, ℕ, zero, suc, ◌+◌, ◌*◌, ◌-◌, ◌≤◌, ◌<◌, Bool, true, List, [], ◌∷◌, ◌++◌, length, Option, Some, None}
 use Rattle.std.proofs.Common.{◌∙◌, append_assoc, arith, eq-eqb}
 use Rattle.std.proofs.Math.Bool.{false}
-use Rattle.std.proofs.Math.Option.{none, some}
-use Rattle.counts.specs.declared.count.Count.{Count}
-use Rattle.counts.specs.declared.count.Count.TheVariants.{Number}
 use Rattle.events.specs.declared.event.Kind.TheVariants.{Close}
 use Rattle.events.specs.declared.event.Event.{Event}
 use Rattle.ascii.specs.Membership.{◌∈ᵇ◌}
@@ -35,22 +32,22 @@ module _ (input : Input) where
   -- ---- the clauses of the walk, where its decisions are those along a reading
 
   group-goes_on : (fuel : ℕ) (group : Group) (depth : ℕ) (around : ℕ → Bool) (index declared : ℕ) → index < field_count → depth ≤ depth_limit
-      → count_at fields index ≡ Number declared
-      → member_leads input group around (Number declared) (suc index) ≡ false
+      → count_at fields index ≡ Some declared
+      → member_leads input group around (Some declared) (suc index) ≡ false
       → walk_with input (suc fuel) group depth around index
-      ≡ whole_group layout group depth index (Number declared) false [] (entries_with input fuel group depth around (Number declared) 0 (suc index))
+      ≡ whole_group layout group depth index (Some declared) false [] (entries_with input fuel group depth around (Some declared) 0 (suc index))
   unfolding walk_by
   group-goes_on fuel group depth around index declared inside shallow says no_lead =
       let no-lead' : member_leads input group around (count_at fields index) (suc index) ≡ false = rw says no_lead in
       rw (opening_at-entries_follow input group depth around index inside shallow no-lead', says)
 
-  entries-end : (fuel : ℕ) (group : Group) (depth : ℕ) (around : ℕ → Bool) (declared : Count) (before cursor : ℕ)
+  entries-end : (fuel : ℕ) (group : Group) (depth : ℕ) (around : ℕ → Bool) (declared : Option ℕ) (before cursor : ℕ)
       → entry_begins input group around declared before cursor ≡ false
       → entries_with input (suc fuel) group depth around declared before cursor ≡ entries_behind [] cursor before
   unfolding walk_by
   entries-end fuel group depth around declared before cursor no_other = rw no_other
 
-  entries-go_on : (fuel : ℕ) (group : Group) (depth : ℕ) (around : ℕ → Bool) (declared : Count) (before cursor next : ℕ) (events : List Event) (seen : ℕ)
+  entries-go_on : (fuel : ℕ) (group : Group) (depth : ℕ) (around : ℕ → Bool) (declared : Option ℕ) (before cursor next : ℕ) (events : List Event) (seen : ℕ)
       → entry_begins input group around declared before cursor ≡ true → scan_with input fuel true group depth [] cursor ≡ entry_behind events next seen
       → entries_with input (suc fuel) group depth around declared before cursor
       ≡ entry_then (event layout group depth (Close before seen)) (entry_behind events next seen) (entries_with input fuel group depth around declared (suc before) next)
@@ -63,13 +60,13 @@ module _ (input : Input) where
   entry-ends fuel at_start group depth seen cursor stopped = rw (step_at-stops input at_start group cursor stopped)
 
   module _ (fuel : ℕ) (at_start : Bool) (group : Group) (depth : ℕ) (seen : List ℕ) (cursor : ℕ) (going_on : entry_stops input at_start group cursor ≡ false) (fresh : tag_at cursor ∈ᵇ seen ≡ false) where
-    field_taken : nested_group group (tag_at cursor) ≡ none
+    field_taken : nested_group group (tag_at cursor) ≡ None
         → scan_with input (suc fuel) at_start group depth seen cursor
         ≡ field_then [] false (group_behind [] (suc cursor)) (scan_with input fuel false group depth (tag_at cursor ∷ seen) (suc cursor))
     unfolding walk_by
     field_taken none-nested = rw (step_at-plain input at_start group cursor going_on none-nested, fresh)
 
-    group-taken : (inner : Group) (next : ℕ) (events : List Event) → nested_group group (tag_at cursor) ≡ some inner
+    group-taken : (inner : Group) (next : ℕ) (events : List Event) → nested_group group (tag_at cursor) ≡ Some inner
         → walk_with input fuel inner (suc depth) (is_member group) cursor ≡ group_behind events next
         → scan_with input (suc fuel) at_start group depth seen cursor
         ≡ field_then [] false (group_behind events next) (scan_with input fuel false group depth (tag_at cursor ∷ seen) next)
@@ -96,12 +93,12 @@ module _ (input : Input) where
       entries-walked : {group : Group} {depth more first past : ℕ} (body : Entries input group depth more first past) → Valid group
           → (around : ℕ → Bool) (declared before : ℕ) → declared ≡ before + more → may_follow input group around declared past ≡ true
           → (fuel : ℕ) → 3 * (field_count - first) + 3 ≤ fuel
-          → entries_with input fuel group depth around (Number declared) before first ≡ entries_behind (entries_events input body before) past declared
+          → entries_with input fuel group depth around (Some declared) before first ≡ entries_behind (entries_events input body before) past declared
       entries-walked (no_entry none_left same) valid around declared before in_all follows zero enough = absurd (omega arith)
       entries-walked (entry others second next _ _ _ _ _ _) valid around declared before in_all follows zero enough = absurd (omega arith)
       entries-walked {group = group} {depth = depth} {first = first} {past = past} (no_entry none_left same) valid around declared before in_all follows (suc fuel) enough =
           let all_found : declared ≡ before = omega arith in
-          entries-end fuel group depth around (Number declared) before first
+          entries-end fuel group depth around (Some declared) before first
           (rw same (follows_begins_not input group around declared past before (delimiter_member group valid) all_found follows)) ∙ (cc)
       entries-walked (entry others second next _ inside _ _ _ _) valid around declared before in_all follows (suc zero) enough = absurd (omega arith)
       entries-walked (entry {group = group} {depth = depth} {first = first} {past = past} others second next one_more inside delimits lead items rest) valid around declared before in_all follows (suc (suc fuel)) enough =
@@ -113,7 +110,7 @@ module _ (input : Input) where
           let scanned : scan_with input (suc fuel) true group depth [] first ≡ entry_behind (item_events input lead ++ items_events input items) next (suc (item_count input items)) =
           item-walked lead valid inside fuel (omega arith) true [] (entry_stops-first input group first (delimiter_member group valid) inside delimits) refl ∙ rw (items-read, counted) in
           let rest_read = entries-walked rest valid around declared (suc before) (omega arith) follows (suc fuel) (omega arith) in
-          entries-go_on (suc fuel) group depth around (Number declared) before first next (item_events input lead ++ items_events input items) (suc (item_count input items))
+          entries-go_on (suc fuel) group depth around (Some declared) before first next (item_events input lead ++ items_events input items) (suc (item_count input items))
           (declared_begins input group around declared before first (omega arith) inside delimits) scanned
           ∙ rw (rest_read, append_assoc)
 

@@ -1,9 +1,8 @@
 -- What may follow a reading is what ends the walk of its group: `may_follow` of the grammar against the decisions of the walk. Assumes nothing.
-use Rattle.std.specs.Prelude.{◌≡◌, refl, ◌≢◌, ◌⊎◌, ℕ, ◌<◌, Bool, true, false, ltb, eqb}
+use Rattle.std.specs.Prelude.{◌≡◌, refl, ◌≢◌, ◌⊎◌, ℕ, ◌<◌, Bool, true, false, ltb, eqb, Some}
 use Rattle.std.proofs.Common.{◌∙◌, inl, inr, true≢false, arith}
 use Rattle.std.proofs.lemmas.Bool.{false≢true}
 use borrow.Author.Tests.{eqb-true, lt-ltb, eq-eqb, ne_eqb}
-use Rattle.counts.specs.declared.count.Count.TheVariants.{Number}
 use Rattle.field_table.specs.WalkInput.{Input}
 use Rattle.group_reading.specs.GroupReading.{may_follow, Entries, no_entry, entry}
 use Rattle.group_reading.specs.GroupReadingLaws.{follows_by}
@@ -67,15 +66,15 @@ module _ (input : Input) where
   open fields use {field_count, tag_at}
 
   module _ (group : Group) (around : ℕ → Bool) (entries position : ℕ) where
-    follows_behind_entry : entry_stops input false group position ≡ true → entry_begins input group around (Number entries) entries position ≡ false
+    follows_behind_entry : entry_stops input false group position ≡ true → entry_begins input group around (Some entries) entries position ≡ false
         → may_follow input group around entries position ≡ true
     unfolding may_follow entry_stops entry_begins
     follows_behind_entry stopped no_other =
         follows_some (ltb position field_count) (is_member group (tag_at position)) (eqb (tag_at position) (delimiter group)) (around (tag_at position)) (eqb entries 0)
         stopped (rw (eq-eqb entries entries refl) at no_other)
 
-    follows_behind_zero : entries ≡ 0 → member_leads input group around (Number entries) position ≡ false
-        → entry_begins input group around (Number entries) entries position ≡ false
+    follows_behind_zero : entries ≡ 0 → member_leads input group around (Some entries) position ≡ false
+        → entry_begins input group around (Some entries) entries position ≡ false
         → may_follow input group around entries position ≡ true
     unfolding may_follow member_leads entry_begins
     follows_behind_zero none-there no_lead no_other =
@@ -85,7 +84,7 @@ module _ (input : Input) where
 
     pub follows_begins_not : (found : ℕ) → is_member group (delimiter group) ≡ true → entries ≡ found
         → may_follow input group around entries position ≡ true
-        → entry_begins input group around (Number entries) found position ≡ false
+        → entry_begins input group around (Some entries) found position ≡ false
     unfolding may_follow entry_begins
     follows_begins_not found member all_found follows =
         rw (eq-eqb entries found all_found)
@@ -99,7 +98,7 @@ module _ (input : Input) where
         (rw (ne_eqb entries 0 (omega arith)) at follows)
 
     follows_leads_not : entries ≡ 0 → may_follow input group around entries position ≡ true
-        → member_leads input group around (Number entries) position ≡ false
+        → member_leads input group around (Some entries) position ≡ false
     unfolding may_follow member_leads
     follows_leads_not none-there follows =
         rw (eq-eqb entries 0 none-there)
@@ -109,8 +108,8 @@ module _ (input : Input) where
   -- the walk of so many entries ended at `past`: no entry was there (so nothing was passed), or the last one stopped
   pub follows_behind : (group : Group) (around : ℕ → Bool) (entries found first past : ℕ) → entries ≡ found → (found ≡ 0 → first ≡ past)
       → (found ≡ 0) ⊎ (entry_stops input false group past ≡ true)
-      → member_leads input group around (Number entries) first ≡ false
-      → entry_begins input group around (Number entries) entries past ≡ false
+      → member_leads input group around (Some entries) first ≡ false
+      → entry_begins input group around (Some entries) entries past ≡ false
       → may_follow input group around found past ≡ true
   follows_behind group around entries found first past all_found nothing-passed (inl none-there) no_lead no_other =
       rw all_found at (follows_behind_zero group around entries past (all_found ∙ none-there) (rw (nothing-passed none-there) at no_lead) no_other)
@@ -120,7 +119,7 @@ module _ (input : Input) where
   -- a declared entry that is not yet there begins at its delimiter
   pub declared_begins : (group : Group) (around : ℕ → Bool) (entries found cursor : ℕ) → entries ≢ found → cursor < field_count
       → tag_at cursor ≡ delimiter group
-      → entry_begins input group around (Number entries) found cursor ≡ true
+      → entry_begins input group around (Some entries) found cursor ≡ true
   unfolding entry_begins
   declared_begins group around entries found cursor not-all inside delimits =
       rw (lt-ltb cursor field_count inside, eq-eqb (tag_at cursor) (delimiter group) delimits, ne_eqb entries found not-all)
@@ -134,6 +133,6 @@ module _ (input : Input) where
 
   -- nor does a member lead there
   pub entries-no_lead : {group : Group} {depth entries first past : ℕ} (around : ℕ → Bool) → Entries input group depth entries first past
-      → may_follow input group around entries past ≡ true → member_leads input group around (Number entries) first ≡ false
+      → may_follow input group around entries past ≡ true → member_leads input group around (Some entries) first ≡ false
   entries-no_lead {group = group} around (no_entry {entries = entries} {past = past} none-there same) follows = rw same (follows_leads_not group around entries past none-there follows)
-  entries-no_lead {group = group} around (entry {entries = entries} {first = first} _ _ _ _ _ delimits _ _ _) follows = member_leads-delimiter input group around (Number entries) first delimits
+  entries-no_lead {group = group} around (entry {entries = entries} {first = first} _ _ _ _ _ delimits _ _ _) follows = member_leads-delimiter input group around (Some entries) first delimits

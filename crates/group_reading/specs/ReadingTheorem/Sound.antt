@@ -2,16 +2,13 @@
 --
 --   SoundGroup, SoundEntries, SoundEntry, SoundRest   what a walk without a fault event says of what it gave: of a group, of the rest of its entries,
 --                                                     of an entry, of the rest of an entry
-use Rattle.std.specs.Prelude.{◌≡◌, ◌⊎◌, Bool, not, List, [], ◌∷◌, ◌++◌, eqb, length}
+use Rattle.std.specs.Prelude.{◌≡◌, ◌⊎◌, Bool, not, List, [], ◌∷◌, ◌++◌, eqb, length, Option, Some, None}
 use Rattle.std.proofs.Math.Path.{refl, ap}
 use Rattle.std.proofs.Common.{sym, ◌∙◌, true≢false, append_assoc, eqb-true}
 use Rattle.std.proofs.Math.Logic.{inl, inr}
 use Prim.Native.Nat.{ℕ, zero, suc, ◌+◌, ◌≤◌, ◌<◌}
 use Rattle.std.proofs.Math.Bool.{true, false}
-use Rattle.std.proofs.Math.Option.{none, some}
 use native.Mathlib.Omega.{arith}
-use Rattle.counts.specs.declared.count.Count.{Count}
-use Rattle.counts.specs.declared.count.Count.TheVariants.{Number, Nothing}
 use Rattle.events.specs.declared.event.Kind.TheVariants.{Close, Leave}
 use Rattle.ascii.specs.Membership.{◌∈ᵇ◌}
 use Rattle.events.specs.Events.{NoFault}
@@ -35,7 +32,7 @@ module _ (input : Input) where
     pub read : Reading input group depth around index walk.next
     pub same : walk.events ≡ reading_events input read
 
-  record SoundEntries (group : Group) (depth : ℕ) (around : ℕ → Bool) (declared : Count) (before cursor : ℕ) (rest : WalkedEntries) : Type 0 where
+  record SoundEntries (group : Group) (depth : ℕ) (around : ℕ → Bool) (declared : Option ℕ) (before cursor : ℕ) (rest : WalkedEntries) : Type 0 where
     pub more : ℕ
     pub read : Entries input group depth more cursor rest.next
     pub same : rest.events ≡ entries_events input read before
@@ -76,38 +73,38 @@ module _ (input : Input) where
   ended-sound group depth false false declared entries parsed good = absurd (true≢false good.0)
 
   module _ (group : Group) (depth : ℕ) (around : ℕ → Bool) (index : ℕ) (inside : index < field_count) (shallow : depth ≤ depth_limit) where
-    group_ends_lem : (declared : ℕ) (rest : WalkedEntries) → count_at fields index ≡ Number declared
-        → member_leads input group around (Number declared) (suc index) ≡ false
-        → SoundEntries group depth around (Number declared) 0 (suc index) rest → declared ≡ rest.entries
-        → ended layout group depth (Number declared) rest.unparseable rest.entries ≡ event layout group depth (Leave true rest.entries) ∷ []
-        → SoundGroup group depth around index (whole_group layout group depth index (Number declared) false [] rest)
+    group_ends_lem : (declared : ℕ) (rest : WalkedEntries) → count_at fields index ≡ Some declared
+        → member_leads input group around (Some declared) (suc index) ≡ false
+        → SoundEntries group depth around (Some declared) 0 (suc index) rest → declared ≡ rest.entries
+        → ended layout group depth (Some declared) rest.unparseable rest.entries ≡ event layout group depth (Leave true rest.entries) ∷ []
+        → SoundGroup group depth around index (whole_group layout group depth index (Some declared) false [] rest)
     unfolding reading_events
     group_ends_lem declared rest says no_lead sound all_found left =
         let found : declared ≡ sound.more = omega arith in
         record {
           read =
-              reading sound.more inside shallow (says ∙ ap Number found) sound.read
+              reading sound.more inside shallow (says ∙ ap Some found) sound.read
               (follows_behind input group around declared sound.more (suc index) rest.next found (no_entries input sound.read) sound.stopped no_lead
               (rw (← all_found) at sound.no_other));
           same = cc (sound.same, left, all_found, found);
         }
 
-    group-step : (declared : Count) (rest : WalkedEntries) → count_at fields index ≡ declared
+    group-step : (declared : Option ℕ) (rest : WalkedEntries) → count_at fields index ≡ declared
         → member_leads input group around declared (suc index) ≡ false
         → (NoFault rest.events → SoundEntries group depth around declared 0 (suc index) rest)
         → NoFault (whole_group layout group depth index declared false [] rest).events
         → SoundGroup group depth around index (whole_group layout group depth index declared false [] rest)
-    group-step Nothing rest says no_lead sound good = absurd (true≢false good.1.0)
-    group-step (Number declared) rest says no_lead sound good =
-        let both : NoFault (rest.events ++ ended layout group depth (Number declared) rest.unparseable rest.entries) = good.1 in
-        let entries-sound = sound (no_fault_left rest.events (ended layout group depth (Number declared) rest.unparseable rest.entries) both) in
+    group-step None rest says no_lead sound good = absurd (true≢false good.1.0)
+    group-step (Some declared) rest says no_lead sound good =
+        let both : NoFault (rest.events ++ ended layout group depth (Some declared) rest.unparseable rest.entries) = good.1 in
+        let entries-sound = sound (no_fault_left rest.events (ended layout group depth (Some declared) rest.unparseable rest.entries) both) in
         let left =
         ended-sound group depth (eqb declared rest.entries) rest.unparseable declared rest.entries entries-sound.parsed
-        (no_fault_right (ended layout group depth (Number declared) rest.unparseable rest.entries) rest.events both) in
+        (no_fault_right (ended layout group depth (Some declared) rest.unparseable rest.entries) rest.events both) in
         group_ends_lem declared rest says no_lead entries-sound (eqb-true declared rest.entries left.0) left.1
 
   -- an entry, then the rest of the entries
-  entries-step : (group : Group) (depth : ℕ) (around : ℕ → Bool) (declared : Count) (before cursor : ℕ) (scan : ScannedEntry) (rest : WalkedEntries)
+  entries-step : (group : Group) (depth : ℕ) (around : ℕ → Bool) (declared : Option ℕ) (before cursor : ℕ) (scan : ScannedEntry) (rest : WalkedEntries)
       → cursor < field_count → tag_at cursor ≡ delimiter group
       → SoundEntry group depth cursor scan → SoundEntries group depth around declared (suc before) scan.next rest
       → SoundEntries group depth around declared before cursor (entry_then (event layout group depth (Close before scan.seen)) scan rest)
@@ -179,18 +176,18 @@ module _ (input : Input) where
       (field-sound (no_fault_left field.events (rest (tag_at cursor ∷ seen)).events good))
       (rest-sound (no_fault_right (rest (tag_at cursor ∷ seen)).events field.events good))
 
-  plain-sound : (group : Group) (depth cursor : ℕ) → nested_group group (tag_at cursor) ≡ none
+  plain-sound : (group : Group) (depth cursor : ℕ) → nested_group group (tag_at cursor) ≡ None
       → SoundItem group depth cursor (record { events = []; next = suc cursor })
   unfolding reading_events
   plain-sound group depth cursor none-nested = record { read = plain none-nested refl; same = refl }
 
-  nested-sound : (group inner : Group) (depth cursor : ℕ) (walk : WalkedGroup) → nested_group group (tag_at cursor) ≡ some inner
+  nested-sound : (group inner : Group) (depth cursor : ℕ) (walk : WalkedGroup) → nested_group group (tag_at cursor) ≡ Some inner
       → SoundGroup inner (suc depth) (is_member group) cursor walk → SoundItem group depth cursor walk
   unfolding reading_events
   nested-sound group inner depth cursor walk found sound = record { read = nested inner found sound.read; same = sound.same }
 
   -- where nothing more is taken
-  none-begins : (group : Group) (depth : ℕ) (around : ℕ → Bool) (declared : Count) (before cursor : ℕ)
+  none-begins : (group : Group) (depth : ℕ) (around : ℕ → Bool) (declared : Option ℕ) (before cursor : ℕ)
       → entry_begins input group around declared before cursor ≡ false
       → SoundEntries group depth around declared before cursor (record { events = []; next = cursor; unparseable = false; entries = before })
   unfolding reading_events
@@ -225,7 +222,7 @@ module _ (input : Input) where
           (λ entries-good. entries-sound fuel (entry_begins input group around (count_at fields index) 0 (suc index)) group depth around (count_at fields index) 0 (suc index) valid refl entries-good)
           good
 
-      entries-sound : (fuel : ℕ) (begins : Bool) (group : Group) (depth : ℕ) (around : ℕ → Bool) (declared : Count) (before cursor : ℕ) → Valid group
+      entries-sound : (fuel : ℕ) (begins : Bool) (group : Group) (depth : ℕ) (around : ℕ → Bool) (declared : Option ℕ) (before cursor : ℕ) → Valid group
           → entry_begins input group around declared before cursor ≡ begins
           → NoFault (entries_by input fuel begins group depth around declared before cursor).events
           → SoundEntries group depth around declared before cursor (entries_by input fuel begins group depth around declared before cursor)

@@ -1,16 +1,13 @@
 -- From one position there is at most one reading of a group, and it has one derivation. Two readings end alike since the walk ends behind
 -- both (`Complete.antt`); two derivations between the same positions are then equal, constructor by constructor. Assumes nothing.
-use Rattle.std.specs.Prelude.{◌≡◌, refl, ◌≢◌, ℕ, suc, ◌+◌, ◌*◌, ◌-◌, ◌≤◌, ◌<◌, Bool, true, false, List, [], ◌∷◌}
+use Rattle.std.specs.Prelude.{◌≡◌, refl, ◌≢◌, ℕ, suc, ◌+◌, ◌*◌, ◌-◌, ◌≤◌, ◌<◌, Bool, true, false, List, [], ◌∷◌, Option, Some, None}
 use Rattle.std.proofs.Common.{sym, ap, ◌∙◌, subst, arith}
 use Rattle.std.proofs.Math.Path.{subst₃}
 use mathlib.Core.HLevel.{Discrete, hedberg, ¬_prop, Σ_prop_path}
 use Rattle.std.proofs.Math.Bool.{Bool-set}
-use Rattle.std.proofs.Math.Option.{Option, none, some, is_set}
 use Rattle.std.proofs.Math.Nat.{ℕ_set}
 use Rattle.std.proofs.Math.Bridge.{le_prop}
 use Rattle.std.proofs.Math.Decide.{ℕ_discrete}
-use Rattle.counts.specs.declared.count.Count.{Count}
-use Rattle.counts.specs.declared.count.Count.TheVariants.{Number, Nothing}
 use Rattle.ascii.specs.Membership.{◌∈ᵇ◌}
 use Rattle.field_table.specs.WalkInput.{Input, count_at}
 use Rattle.field_table.specs.ReliedRules.{LayoutRules}
@@ -18,23 +15,24 @@ use Rattle.group_reading.specs.GroupReading.{may_follow, Reading, Entries, Items
 use Rattle.group_reading.specs.GroupReadingLaws.{items_advance, item-advances}
 use Rattle.group_reading.specs.GroupSteps.{entry_stops}
 use Rattle.group_reading.specs.ReadingTheorem.Follow.{rest-stops}
+use Rattle.group_reading.specs.ReadingTheorem.OptionSet.{option-set}
 use Rattle.group_reading.specs.ReadingTheorem.Complete.{reading-walked, items_walked}
 
 -- two counts are equal in at most one way
-count-discrete : Discrete Count
-count-discrete Nothing Nothing = yes refl
-count-discrete Nothing (Number n) = no (λ same. let zero_one : ◌≡◌ {A = ℕ} 0 1 = cc in omega arith)
-count-discrete (Number m) Nothing = no (λ same. let zero_one : ◌≡◌ {A = ℕ} 0 1 = cc in omega arith)
-count-discrete (Number m) (Number n) = go (ℕ_discrete m n)
+count-discrete : Discrete (Option ℕ)
+count-discrete None None = yes refl
+count-discrete None (Some n) = no (λ same. let zero_one : ◌≡◌ {A = ℕ} 0 1 = cc in omega arith)
+count-discrete (Some m) None = no (λ same. let zero_one : ◌≡◌ {A = ℕ} 0 1 = cc in omega arith)
+count-discrete (Some m) (Some n) = go (ℕ_discrete m n)
   where
-    go : Dec (m ≡ n) → Dec (Number m ≡ Number n)
-    go (yes same) = yes (ap Number same)
+    go : Dec (m ≡ n) → Dec (Some m ≡ Some n)
+    go (yes same) = yes (ap Some same)
     go (no other) = no (λ same. let inner : m ≡ n = cc in other inner)
 
-count_set : IsSet Count
+count_set : IsSet (Option ℕ)
 count_set = hedberg count-discrete
 
-none_or_some : {A : Type 0} {found : Option A} {inner : A} → found ≡ none → found ≡ some inner → ⊥
+none_or_some : {A : Type 0} {found : Option A} {inner : A} → found ≡ None → found ≡ Some inner → ⊥
 none_or_some nothing something = let zero_one : ◌≡◌ {A = ℕ} 0 1 = cc in omega arith
 
 module _ (input : Input) (rules : LayoutRules input.layout) where
@@ -70,14 +68,14 @@ module _ (input : Input) (rules : LayoutRules input.layout) where
   -- ---- two uses of one constructor, where their parts are equal
 
   reading-path : {group : Group} {depth : ℕ} {around : ℕ → Bool} {first past : ℕ} (entries : ℕ) (inside : first < field_count) (shallow : depth ≤ depth_limit)
-      (says : count_at fields first ≡ Number entries) (body : Entries input group depth entries (suc first) past) (follows : may_follow input group around entries past ≡ true)
+      (says : count_at fields first ≡ Some entries) (body : Entries input group depth entries (suc first) past) (follows : may_follow input group around entries past ≡ true)
       → ((other : Entries input group depth entries (suc first) past) → body ≡ other)
-      → (entries' : ℕ) (inside' : first < field_count) (shallow' : depth ≤ depth_limit) (says' : count_at fields first ≡ Number entries')
+      → (entries' : ℕ) (inside' : first < field_count) (shallow' : depth ≤ depth_limit) (says' : count_at fields first ≡ Some entries')
       (body' : Entries input group depth entries' (suc first) past) (follows' : may_follow input group around entries' past ≡ true)
       → ◌≡◌ {A = Reading input group depth around first past} (reading entries inside shallow says body follows) (reading entries' inside' shallow' says' body' follows')
   reading-path {group = group} {depth = depth} {around = around} {first = first} {past = past} entries inside shallow says body follows bodies entries' inside' shallow' says' body' follows' =
       let same : entries ≡ entries' = cc in
-      subst (λ number. (says'' : count_at fields first ≡ Number number) (body'' : Entries input group depth number (suc first) past) (follows'' : may_follow input group around number past ≡ true)
+      subst (λ number. (says'' : count_at fields first ≡ Some number) (body'' : Entries input group depth number (suc first) past) (follows'' : may_follow input group around number past ≡ true)
       → ◌≡◌ {A = Reading input group depth around first past} (reading entries inside shallow says body follows) (reading number inside' shallow' says'' body'' follows''))
       same
       (λ says'' body'' follows''. λ x. reading entries (le_prop inside inside' x) (le_prop shallow shallow' x) (count_set _ _ says says'' x) (bodies body'' x) (Bool-set _ _ follows follows'' x))
@@ -116,16 +114,16 @@ module _ (input : Input) (rules : LayoutRules input.layout) where
       (λ one'' rest''. λ x. item next (le_prop inside inside' x) (Bool-set _ _ member member' x) (¬_prop other_tag other-tag' x) (Bool-set _ _ fresh fresh' x) (ones one'' x) (rests rest'' x))
       one' rest'
 
-  nested-path : {group : Group} {depth first past : ℕ} (inner : Group) (found : nested_group group (tag_at first) ≡ some inner) (read : Reading input inner (suc depth) (is_member group) first past)
+  nested-path : {group : Group} {depth first past : ℕ} (inner : Group) (found : nested_group group (tag_at first) ≡ Some inner) (read : Reading input inner (suc depth) (is_member group) first past)
       → ((other : Reading input inner (suc depth) (is_member group) first past) → read ≡ other)
-      → (inner' : Group) (found' : nested_group group (tag_at first) ≡ some inner') (read' : Reading input inner' (suc depth) (is_member group) first past)
+      → (inner' : Group) (found' : nested_group group (tag_at first) ≡ Some inner') (read' : Reading input inner' (suc depth) (is_member group) first past)
       → ◌≡◌ {A = Item input group depth first past} (nested inner found read) (nested inner' found' read')
   nested-path {group = group} {depth = depth} {first = first} {past = past} inner found read reads inner' found' read' =
       let same : inner ≡ inner' = cc in
-      subst (λ one. (found'' : nested_group group (tag_at first) ≡ some one) (read'' : Reading input one (suc depth) (is_member group) first past)
+      subst (λ one. (found'' : nested_group group (tag_at first) ≡ Some one) (read'' : Reading input one (suc depth) (is_member group) first past)
       → ◌≡◌ {A = Item input group depth first past} (nested inner found read) (nested one found'' read''))
       same
-      (λ found'' read''. λ x. nested inner (is_set group_set _ _ found found'' x) (reads read'' x))
+      (λ found'' read''. λ x. nested inner (option-set group_set _ _ found found'' x) (reads read'' x))
       found' read'
 
   -- ---- one derivation
@@ -168,7 +166,7 @@ module _ (input : Input) (rules : LayoutRules input.layout) where
         next' (item-ends one one' valid) inside' member' other-tag' fresh' one' rest'
 
     item-unique : {group : Group} {depth first past : ℕ} (one one' : Item input group depth first past) → Valid group → one ≡ one'
-    item-unique (plain nothing passed) (plain nothing' passed') valid = λ x. plain (is_set group_set _ _ nothing nothing' x) (ℕ_set _ _ passed passed' x)
+    item-unique (plain nothing passed) (plain nothing' passed') valid = λ x. plain (option-set group_set _ _ nothing nothing' x) (ℕ_set _ _ passed passed' x)
     item-unique (plain nothing _) (nested inner found _) valid = absurd (none_or_some nothing found)
     item-unique (nested inner found _) (plain nothing _) valid = absurd (none_or_some nothing found)
     item-unique {group = group} {first = first} (nested inner found read) (nested inner' found' read') valid =

@@ -3,13 +3,11 @@
 --   is_bound event                  an enter or a leave at depth 0
 --   Closed events                  the last event is a leave at depth 0, and none before it bounds a group there
 --   Bracketed events               the same behind an enter at depth 0
-use Rattle.std.specs.Prelude.{◌≡◌, Bool, true, false, not, ◌&&◌, ◌||◌, List, [], ◌∷◌, ◌++◌, eqb}
+use Rattle.std.specs.Prelude.{◌≡◌, Bool, true, false, not, ◌&&◌, ◌||◌, List, [], ◌∷◌, ◌++◌, eqb, Option, Some, None}
 use Rattle.std.proofs.Math.Path.{refl}
 use Rattle.std.proofs.Common.{sym, ap, ◌∙◌, append_assoc, arith, add-one, ne_eqb}
 use Prim.Native.Nat.{ℕ, zero, suc, ◌+◌, ◌*◌, ◌-◌, ◌≤◌, ◌<◌}
 use Rattle.ascii.specs.Notation.{◌≡ᵇ◌}
-use Rattle.counts.specs.declared.count.Count.{Count}
-use Rattle.counts.specs.declared.count.Count.TheVariants.{Number, Nothing}
 use Rattle.events.specs.declared.event.Kind.{Kind}
 use Rattle.events.specs.declared.event.Kind.TheVariants.{Enter, Close, Miscount, Leave}
 use Rattle.events.specs.declared.event.Event.{Event}
@@ -20,7 +18,7 @@ use Rattle.field_table.specs.WalkInput.{Layout, Input, count_at, event}
 use Rattle.group_reading.specs.GroupSteps.{Opening, outside, too_deep, member_leads_lem, entries_follow, Step, stops, plain_field, nested_group_lem, member_leads, entry_begins, opening_at, step_at}
 use Rattle.group_reading.specs.GroupStepsLaws.{opening_at-member_leads, opening_at-entries_follow}
 use Rattle.group_reading.specs.GroupWalk.{WalkedGroup, WalkedEntries, ScannedEntry, bad_count, repeated_tag, ended_by, ended, whole_group, leading_entry, field_then, entry_then, walk_by, entries_by, scan_by, walk_group}
-use Rattle.validator.specs.MessageStretches.{is_enter, is_leave, None}
+use Rattle.validator.specs.MessageStretches.{is_enter, is_leave, NoneOf}
 
 abbrev pub is_bound : Event → Bool
 is_bound event = (kind_number event.kind ≡ᵇ 1 || kind_number event.kind ≡ᵇ 8) && event.depth ≡ᵇ 0
@@ -28,7 +26,7 @@ is_bound event = (kind_number event.kind ≡ᵇ 1 || kind_number event.kind ≡�
 pub record Closed (events : List Event) : Type 0 where
   pub middle : List Event
   pub last : Event
-  pub none_bounds : None is_bound middle
+  pub none_bounds : NoneOf is_bound middle
   pub leaves : is_leave last ≡ true
   pub whole : events ≡ middle ++ (last ∷ [])
 
@@ -41,11 +39,11 @@ pub record Bracketed (events : List Event) : Type 0 where
 
 -- ---- lists
 
-pub none-append : (test : Event → Bool) (events others : List Event) → None test events → None test others → None test (events ++ others)
+pub none-append : (test : Event → Bool) (events others : List Event) → NoneOf test events → NoneOf test others → NoneOf test (events ++ others)
 none-append test [] others none these = these
 none-append test (event ∷ rest) others none these = (none.0, none-append test rest others none.1 these)
 
-closed-behind : (events others : List Event) → None is_bound events → Closed others → Closed (events ++ others)
+closed-behind : (events others : List Event) → NoneOf is_bound events → Closed others → Closed (events ++ others)
 closed-behind events others none closed = record {
   middle = events ++ closed.middle;
   last = closed.last;
@@ -68,29 +66,29 @@ module _ (layout : Layout) where
   inner-event group depth kind =
       rw (ne_eqb (suc depth) 0 (λ (same : suc depth ≡ 0). omega (arith, same))) (and-false (eqb (kind_number kind) 1 || eqb (kind_number kind) 8))
 
-  bad_count-none : (group : Group) (depth index : ℕ) (declared : Count) → None is_bound (bad_count layout group depth index declared)
-  bad_count-none group depth index Nothing = (refl, tt)
-  bad_count-none group depth index (Number declared) = tt
+  bad_count-none : (group : Group) (depth index : ℕ) (declared : Option ℕ) → NoneOf is_bound (bad_count layout group depth index declared)
+  bad_count-none group depth index None = (refl, tt)
+  bad_count-none group depth index (Some declared) = tt
 
-  repeated_tag-none : (group : Group) (depth tag : ℕ) (repeated : Bool) → None is_bound (repeated_tag layout group depth tag repeated)
+  repeated_tag-none : (group : Group) (depth tag : ℕ) (repeated : Bool) → NoneOf is_bound (repeated_tag layout group depth tag repeated)
   repeated_tag-none group depth tag true = (refl, tt)
   repeated_tag-none group depth tag false = tt
 
-  leading_entry-none : (group : Group) (depth tag : ℕ) (entry : ScannedEntry) → None is_bound entry.events → None is_bound (leading_entry layout group depth tag entry)
+  leading_entry-none : (group : Group) (depth tag : ℕ) (entry : ScannedEntry) → NoneOf is_bound entry.events → NoneOf is_bound (leading_entry layout group depth tag entry)
   leading_entry-none group depth tag entry none = (refl, none-append is_bound entry.events (event layout group depth (Close 0 entry.seen) ∷ []) none (refl, tt))
 
   ended_by-inner : (group : Group) (depth : ℕ) (same unparseable : Bool) (declared entries : ℕ)
-      → None is_bound (ended_by layout group (suc depth) same unparseable declared entries)
+      → NoneOf is_bound (ended_by layout group (suc depth) same unparseable declared entries)
   ended_by-inner group depth true unparseable declared entries = (inner-event group depth (Leave (not unparseable) entries), tt)
   ended_by-inner group depth false true declared entries = (inner-event group depth (Leave false entries), tt)
   ended_by-inner group depth false false declared entries = (refl, (inner-event group depth (Leave false entries), tt))
 
-  ended-inner : (group : Group) (depth : ℕ) (declared : Count) (unparseable : Bool) (entries : ℕ) → None is_bound (ended layout group (suc depth) declared unparseable entries)
-  ended-inner group depth Nothing unparseable entries = (inner-event group depth (Leave false entries), tt)
-  ended-inner group depth (Number declared) unparseable entries = ended_by-inner group depth (eqb declared entries) unparseable declared entries
+  ended-inner : (group : Group) (depth : ℕ) (declared : Option ℕ) (unparseable : Bool) (entries : ℕ) → NoneOf is_bound (ended layout group (suc depth) declared unparseable entries)
+  ended-inner group depth None unparseable entries = (inner-event group depth (Leave false entries), tt)
+  ended-inner group depth (Some declared) unparseable entries = ended_by-inner group depth (eqb declared entries) unparseable declared entries
 
-  whole_group-inner : (group : Group) (depth index : ℕ) (declared : Count) (unparseable : Bool) (leading : List Event) (rest : WalkedEntries)
-      → None is_bound leading → None is_bound rest.events → None is_bound (whole_group layout group (suc depth) index declared unparseable leading rest).events
+  whole_group-inner : (group : Group) (depth index : ℕ) (declared : Option ℕ) (unparseable : Bool) (leading : List Event) (rest : WalkedEntries)
+      → NoneOf is_bound leading → NoneOf is_bound rest.events → NoneOf is_bound (whole_group layout group (suc depth) index declared unparseable leading rest).events
   whole_group-inner group depth index declared unparseable leading rest none-leading none_rest = (
     inner-event group depth Enter,
     none-append is_bound (bad_count layout group (suc depth) index declared) _ (bad_count-none group (suc depth) index declared)
@@ -110,12 +108,12 @@ module _ (layout : Layout) where
     whole = refl;
   }
 
-  ended-closed : (group : Group) (declared : Count) (unparseable : Bool) (entries : ℕ) → Closed (ended layout group 0 declared unparseable entries)
-  ended-closed group Nothing unparseable entries = record { middle = []; last = _; none_bounds = tt; leaves = refl; whole = refl }
-  ended-closed group (Number declared) unparseable entries = ended_by-closed group (eqb declared entries) unparseable declared entries
+  ended-closed : (group : Group) (declared : Option ℕ) (unparseable : Bool) (entries : ℕ) → Closed (ended layout group 0 declared unparseable entries)
+  ended-closed group None unparseable entries = record { middle = []; last = _; none_bounds = tt; leaves = refl; whole = refl }
+  ended-closed group (Some declared) unparseable entries = ended_by-closed group (eqb declared entries) unparseable declared entries
 
-  whole_group-bracketed : (group : Group) (index : ℕ) (declared : Count) (unparseable : Bool) (leading : List Event) (rest : WalkedEntries)
-      → None is_bound leading → None is_bound rest.events → Bracketed (whole_group layout group 0 index declared unparseable leading rest).events
+  whole_group-bracketed : (group : Group) (index : ℕ) (declared : Option ℕ) (unparseable : Bool) (leading : List Event) (rest : WalkedEntries)
+      → NoneOf is_bound leading → NoneOf is_bound rest.events → Bracketed (whole_group layout group 0 index declared unparseable leading rest).events
   whole_group-bracketed group index declared unparseable leading rest none-leading none_rest = record {
     first = event layout group 0 Enter;
     rest = _;
@@ -127,12 +125,12 @@ module _ (layout : Layout) where
   }
 
 field_then-none : (repeat : List Event) (repeated : Bool) (field : WalkedGroup) (rest : ScannedEntry)
-    → None is_bound repeat → None is_bound field.events → None is_bound rest.events → None is_bound (field_then repeat repeated field rest).events
+    → NoneOf is_bound repeat → NoneOf is_bound field.events → NoneOf is_bound rest.events → NoneOf is_bound (field_then repeat repeated field rest).events
 field_then-none repeat repeated field rest none-repeat none-field none_rest =
     none-append is_bound repeat (field.events ++ rest.events) none-repeat (none-append is_bound field.events rest.events none-field none_rest)
 
 entry_then-none : (close : Event) (entry : ScannedEntry) (rest : WalkedEntries)
-    → is_bound close ≡ false → None is_bound entry.events → None is_bound rest.events → None is_bound (entry_then close entry rest).events
+    → is_bound close ≡ false → NoneOf is_bound entry.events → NoneOf is_bound rest.events → NoneOf is_bound (entry_then close entry rest).events
 entry_then-none close entry rest none-close none-entry none_rest = none-append is_bound entry.events (close ∷ rest.events) none-entry (none-close, none_rest)
 
 -- ---- the walk
@@ -146,7 +144,7 @@ module _ (input : Input) where
     unfolding walk_by
 
     walk_inner : (fuel : ℕ) (opening : Opening) (group : Group) (depth : ℕ) (enclosing : ℕ → Bool) (index : ℕ)
-        → None is_bound (walk_by input fuel opening group (suc depth) enclosing index).events
+        → NoneOf is_bound (walk_by input fuel opening group (suc depth) enclosing index).events
     walk_inner zero opening group depth enclosing index = (refl, tt)
     walk_inner (suc fuel) outside group depth enclosing index = tt
     walk_inner (suc fuel) too_deep group depth enclosing index = (refl, tt)
@@ -162,8 +160,8 @@ module _ (input : Input) where
         tt
         (entries_none fuel (entry_begins input group enclosing (count_at fields index) 0 (suc index)) group (suc depth) enclosing (count_at fields index) 0 (suc index))
 
-    entries_none : (fuel : ℕ) (begins : Bool) (group : Group) (depth : ℕ) (enclosing : ℕ → Bool) (declared : Count) (entries cursor : ℕ)
-        → None is_bound (entries_by input fuel begins group depth enclosing declared entries cursor).events
+    entries_none : (fuel : ℕ) (begins : Bool) (group : Group) (depth : ℕ) (enclosing : ℕ → Bool) (declared : Option ℕ) (entries cursor : ℕ)
+        → NoneOf is_bound (entries_by input fuel begins group depth enclosing declared entries cursor).events
     entries_none zero begins group depth enclosing declared entries cursor = (refl, tt)
     entries_none (suc fuel) false group depth enclosing declared entries cursor = tt
     entries_none (suc fuel) true group depth enclosing declared entries cursor =
@@ -175,7 +173,7 @@ module _ (input : Input) where
         (entries_none fuel (entry_begins input group enclosing declared (suc entries) scan.next) group depth enclosing declared (suc entries) scan.next)
 
     scan_none : (fuel : ℕ) (step : Step Group) (group : Group) (depth : ℕ) (seen : List ℕ) (cursor : ℕ)
-        → None is_bound (scan_by input fuel step group depth seen cursor).events
+        → NoneOf is_bound (scan_by input fuel step group depth seen cursor).events
     scan_none zero step group depth seen cursor = (refl, tt)
     scan_none (suc fuel) stops group depth seen cursor = tt
     scan_none (suc fuel) plain_field group depth seen cursor =

@@ -3,12 +3,11 @@
 --
 --   Parts input level events         the events are such a row
 --   BeginsWalk input level events    the events begin with the walk of a top group
-use Rattle.std.specs.Prelude.{◌≡◌, Bool, ◌&&◌, ◌||◌, eqb, if◌then◌else◌}
+use Rattle.std.specs.Prelude.{◌≡◌, Bool, ◌&&◌, ◌||◌, eqb, if◌then◌else◌, Option, Some, None}
 use Rattle.std.proofs.Math.Path.{refl}
 use Rattle.std.proofs.Common.{sym, ap, ◌∙◌, true≢false, arith, ltb-true, eqb-true}
 use Prim.Native.Nat.{ℕ, zero, suc, ◌<◌}
 use Rattle.std.proofs.Math.Bool.{true, false, not}
-use Rattle.std.proofs.Math.Option.{Option, none, some}
 use mathlib.Core.List.{List, [], ◌∷◌, ◌++◌, append_assoc, append-nil}
 use Rattle.std.proofs.Math.Dec.{ltb}
 use Rattle.ascii.specs.Notation.{◌≡ᵇ◌}
@@ -19,7 +18,7 @@ use Rattle.events.specs.Events.{kind_number}
 use Rattle.field_table.specs.WalkInput.{Input}
 use Rattle.group_reading.specs.GroupWalk.{walk_group}
 use Rattle.message_level.specs.MessageWalk.{MessageLevel, twice_if, foreign_unless, missing_if, Turns, turn_and, defined_turn, place_at, turn_at, turns_from, message_turns, missing_tags, missing_groups, message_events}
-use Rattle.validator.specs.MessageStretches.{is_enter, is_leave, None, WalkAt}
+use Rattle.validator.specs.MessageStretches.{is_enter, is_leave, NoneOf, WalkAt}
 use Rattle.validator.specs.MessageWalkTheorem.GroupBounds.{is_bound, Closed, Bracketed, none-append, walk_group-bracketed}
 
 module _ (input : Input) (level : MessageLevel input.layout.Group) where
@@ -43,30 +42,30 @@ module _ (input : Input) (level : MessageLevel input.layout.Group) where
 
   -- ---- the row
 
-  level-events : (events rest : List Event) → None is_bound events → Parts rest → Parts (events ++ rest)
+  level-events : (events rest : List Event) → NoneOf is_bound events → Parts rest → Parts (events ++ rest)
   level-events [] rest clear parts = parts
   level-events (event ∷ events) rest clear parts = level_event event (events ++ rest) clear.0 (level-events events rest clear.1 parts) refl
 
-  twice-none : (repeated : Bool) (tag : ℕ) → None is_bound (twice_if repeated tag)
+  twice-none : (repeated : Bool) (tag : ℕ) → NoneOf is_bound (twice_if repeated tag)
   twice-none true tag = (refl, tt)
   twice-none false tag = tt
 
-  foreign_none : (allowed : Bool) (tag : ℕ) → None is_bound (foreign_unless allowed tag)
+  foreign_none : (allowed : Bool) (tag : ℕ) → NoneOf is_bound (foreign_unless allowed tag)
   foreign_none true tag = tt
   foreign_none false tag = (refl, tt)
 
-  missing_none : (absent : Bool) (tag : ℕ) → None is_bound (missing_if absent tag)
+  missing_none : (absent : Bool) (tag : ℕ) → NoneOf is_bound (missing_if absent tag)
   missing_none true tag = (refl, tt)
   missing_none false tag = tt
 
-  missing_tags-none : (seen tags : List ℕ) → None is_bound (missing_tags seen tags)
+  missing_tags-none : (seen tags : List ℕ) → NoneOf is_bound (missing_tags seen tags)
   unfolding missing_tags
   missing_tags-none seen [] = tt
   missing_tags-none seen (tag ∷ rest) =
       none-append is_bound (missing_if (not (tag ≡ᵇ 10) && not (tag ∈ᵇ seen)) tag) (missing_tags seen rest)
       (missing_none (not (tag ≡ᵇ 10) && not (tag ∈ᵇ seen)) tag) (missing_tags-none seen rest)
 
-  missing_groups-none : (seen tags : List ℕ) → None is_bound (missing_groups seen tags)
+  missing_groups-none : (seen tags : List ℕ) → NoneOf is_bound (missing_groups seen tags)
   unfolding missing_groups
   missing_groups-none seen [] = tt
   missing_groups-none seen (tag ∷ rest) =
@@ -74,9 +73,9 @@ module _ (input : Input) (level : MessageLevel input.layout.Group) where
 
   place-parts : (found : Option Group) (index : ℕ) (rest : List Event) → index < field_count → is_defined (tag_at index) ≡ true → top_group (tag_at index) ≡ found → Parts rest
       → Parts ((place_at input level found index).events ++ rest)
-  place-parts none index rest inside known there parts =
+  place-parts None index rest inside known there parts =
       level-events (foreign_unless (allows (tag_at index)) (tag_at index)) rest (foreign_none (allows (tag_at index)) (tag_at index)) parts
-  place-parts (some group) index rest inside known there parts = group_walk index group rest (record { inside = inside; defined = known; counts = there }) parts refl
+  place-parts (Some group) index rest inside known there parts = group_walk index group rest (record { inside = inside; defined = known; counts = there }) parts refl
 
   turn-parts : (seen : List ℕ) (index : ℕ) (rest : List Event) → index < field_count → Parts rest → Parts ((turn_at input level seen index).events ++ rest)
   unfolding turn_at
@@ -130,7 +129,7 @@ module _ (input : Input) (level : MessageLevel input.layout.Group) where
       go true eight top clear = clear
       go false eight top clear = refl
 
-  enter_none : (events : List Event) → None is_bound events → None is_enter events
+  enter_none : (events : List Event) → NoneOf is_bound events → NoneOf is_enter events
   enter_none [] clear = tt
   enter_none (event ∷ rest) clear = (bound-enter event clear.0, enter_none rest clear.1)
 
@@ -148,7 +147,7 @@ module _ (input : Input) (level : MessageLevel input.layout.Group) where
     not-empty (other ∷ before) same = let zero_one : ◌≡◌ {A = ℕ} 0 1 = cc in omega arith
 
     -- events without an enter stand before it
-    passed : (events rest before : List Event) → None is_enter events → events ++ rest ≡ before ++ (first ∷ tail)
+    passed : (events rest before : List Event) → NoneOf is_enter events → events ++ rest ≡ before ++ (first ∷ tail)
         → (before' : List Event) × (rest ≡ before' ++ (first ∷ tail))
     passed [] rest before clear same = (before, same)
     passed (event ∷ events) rest [] clear same = let is-first : event ≡ first = cc in absurd (not_first event clear.0 is-first)

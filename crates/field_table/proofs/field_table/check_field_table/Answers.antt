@@ -7,7 +7,7 @@ use Rattle.field_table.specs.FieldTableLaws.{is_bad_field-reversed, is_bad_field
 use borrow.Author.Rules.{rules}
 use Rattle.field_table.proofs.field_table.check_field_table.Goals as goal
 
--- return TableCheck::Refused(0);
+-- return Err(0);
 pub returns-then-fields-ne0 : goal.returns-then-fields-ne0
 returns-then-fields-ne0 c = record { outcome = sym (table_check_of-not_threes _ _ c.if-fields-ne0.true) }
 
@@ -27,6 +27,6 @@ returns-then-message_len-past c = record { outcome = sym (rows_bad _ _ _ c.loop-
 pub loop-index-preserved : goal.loop-index-preserved
 loop-index-preserved c = rows_go_on _ _ _ c.loop-index.invariant c.loop-index-test.true (is_bad_field-good _ _ _ (omega (arith, c.first_at-first.ensures, c.past_at-past.ensures)) (omega (arith, c.past_at-past.ensures)))
 
--- pub fn check_field_table(fields: &[u32], message_len: usize) -> TableCheck
+-- pub fn check_field_table(fields: &[u32], message_len: usize) -> Result<(), usize>
 pub returns : goal.returns
 returns c = record { outcome = sym (rows_end _ _ _ c.loop-index.invariant c.loop-index-test.false) }

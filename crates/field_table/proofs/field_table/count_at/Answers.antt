@@ -16,6 +16,6 @@ slice_bounds-parse_count-start c = omega (arith, c.requires.accepted_table.order
 pub slice_bounds-parse_count-end : goal.slice_bounds-parse_count-end
 slice_bounds-parse_count-end c = omega (arith, c.requires.accepted_table.inside c.args.index c.requires.index_bound, c.past_at-past.ensures)
 
--- pub fn count_at(fields: &[u32], message: &[u8], index: usize) -> Count
+-- pub fn count_at(fields: &[u32], message: &[u8], index: usize) -> Option<u64>
 pub returns : goal.returns
 returns c = c.parse_count.ensures.outcome ∙ ap count_of (value_at_part c.args.fields.now c.args.message.now c.args.index _ _ c.first_at-first.ensures c.past_at-past.ensures)

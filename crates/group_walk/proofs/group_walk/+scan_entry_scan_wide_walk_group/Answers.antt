@@ -60,9 +60,9 @@ scan_entry-step_at-requires t c = record {
   tags_bound = (level-searches c.args.words.now c.requires.lent.passed c.requires.lent.few_groups_lem c.args.group c.requires.lent.valid _ _ _ c.members_at-members.ensures c.count_tags_at-tags.ensures c.first_group_of-first.ensures).1.1;
 }
 
--- let inserted = seen.insert_rank(rank);
-pub scan_entry-insert_rank-inserted-requires : goal.scan_entry-insert_rank-inserted-requires
-scan_entry-insert_rank-inserted-requires t c = omega (arith, rank_low c.args.words.now c.args.fields.now c.args.message.now c.requires.lent.passed c.args.group c.requires.lent.valid c.args.start c.args.depth c.args.events.now c.args.at 4 _ _ c.loop-rank.cursor _ _ c.loop-rank.invariant _ _ (entry-plain c.args.words.now c.args.fields.now c.args.message.now c.args.group c.args.start c.loop-rank.cursor _ (level-step c.args.words.now c.args.group _ _ _ _ c.members_at-members.ensures c.delimiter_at-delimiter.ensures c.count_tags_at-tags.ensures c.first_group_of-first.ensures c.args.fields.now c.args.start c.loop-rank.cursor _ c.step_at.ensures) _ _ c.in-Plain.is).0, (level-length c.args.words.now (1 + c.args.group) _ c.members_at-members.ensures), c.requires.few_members_lem)
+-- let (with, fresh) = seen.insert_rank(rank);
+pub scan_entry-insert_rank-fresh-requires : goal.scan_entry-insert_rank-fresh-requires
+scan_entry-insert_rank-fresh-requires t c = omega (arith, rank_low c.args.words.now c.args.fields.now c.args.message.now c.requires.lent.passed c.args.group c.requires.lent.valid c.args.start c.args.depth c.args.events.now c.args.at 4 _ _ c.loop-rank.cursor _ _ c.loop-rank.invariant _ _ (entry-plain c.args.words.now c.args.fields.now c.args.message.now c.args.group c.args.start c.loop-rank.cursor _ (level-step c.args.words.now c.args.group _ _ _ _ c.members_at-members.ensures c.delimiter_at-delimiter.ensures c.count_tags_at-tags.ensures c.first_group_of-first.ensures c.args.fields.now c.args.start c.loop-rank.cursor _ c.step_at.ensures) _ _ c.in-Plain.is).0, (level-length c.args.words.now (1 + c.args.group) _ c.members_at-members.ensures), c.requires.few_members_lem)
 
 -- to = put_repeat(events, to, tag, depth, member, inserted.fresh);
 pub scan_entry-put_repeat-to-requires : goal.scan_entry-put_repeat-to-requires
@@ -77,11 +77,11 @@ pub scan_entry-loop-rank-smaller-in-Plain : goal.scan_entry-loop-rank-smaller-in
 scan_entry-loop-rank-smaller-in-Plain t c = omega (arith, field_inside c.args.words.now c.args.fields.now c.args.message.now c.requires.lent.passed c.args.group c.requires.lent.valid c.args.start c.args.depth c.args.events.now c.args.at 4 _ _ c.loop-rank.cursor _ _ c.loop-rank.invariant _ _ (entry-plain c.args.words.now c.args.fields.now c.args.message.now c.args.group c.args.start c.loop-rank.cursor _ (level-step c.args.words.now c.args.group _ _ _ _ c.members_at-members.ensures c.delimiter_at-delimiter.ensures c.count_tags_at-tags.ensures c.first_group_of-first.ensures c.args.fields.now c.args.start c.loop-rank.cursor _ c.step_at.ensures) _ _ c.in-Plain.is).0)
 
 pub scan_entry-loop-rank-preserved-in-Plain : goal.scan_entry-loop-rank-preserved-in-Plain
-scan_entry-loop-rank-preserved-in-Plain t c = entry-adds_plain c.args.words.now c.args.fields.now c.args.message.now c.requires.lent.passed c.args.group c.requires.lent.valid c.args.start c.args.depth c.args.events.now c.args.at 4 _ _ c.loop-rank.cursor _ _ c.loop-rank.invariant _ _ (entry-plain c.args.words.now c.args.fields.now c.args.message.now c.args.group c.args.start c.loop-rank.cursor _ (level-step c.args.words.now c.args.group _ _ _ _ c.members_at-members.ensures c.delimiter_at-delimiter.ensures c.count_tags_at-tags.ensures c.first_group_of-first.ensures c.args.fields.now c.args.start c.loop-rank.cursor _ c.step_at.ensures) _ _ c.in-Plain.is).0 _ _ c.insert_rank-inserted.ensures.0 c.insert_rank-inserted.ensures.1 _ c.count_tag_at-tag.ensures _ _ c.put_repeat-to.ensures _ c.spoilt_by-unparseable.ensures (entry-plain c.args.words.now c.args.fields.now c.args.message.now c.args.group c.args.start c.loop-rank.cursor _ (level-step c.args.words.now c.args.group _ _ _ _ c.members_at-members.ensures c.delimiter_at-delimiter.ensures c.count_tags_at-tags.ensures c.first_group_of-first.ensures c.args.fields.now c.args.start c.loop-rank.cursor _ c.step_at.ensures) _ _ c.in-Plain.is).1
+scan_entry-loop-rank-preserved-in-Plain t c = entry-adds_plain c.args.words.now c.args.fields.now c.args.message.now c.requires.lent.passed c.args.group c.requires.lent.valid c.args.start c.args.depth c.args.events.now c.args.at 4 _ _ c.loop-rank.cursor _ _ c.loop-rank.invariant _ _ (entry-plain c.args.words.now c.args.fields.now c.args.message.now c.args.group c.args.start c.loop-rank.cursor _ (level-step c.args.words.now c.args.group _ _ _ _ c.members_at-members.ensures c.delimiter_at-delimiter.ensures c.count_tags_at-tags.ensures c.first_group_of-first.ensures c.args.fields.now c.args.start c.loop-rank.cursor _ c.step_at.ensures) _ _ c.in-Plain.is).0 _ _ c.insert_rank-fresh.ensures.tags c.insert_rank-fresh.ensures.fresh _ c.count_tag_at-tag.ensures _ _ c.put_repeat-to.ensures _ c.spoilt_by-unparseable.ensures (entry-plain c.args.words.now c.args.fields.now c.args.message.now c.args.group c.args.start c.loop-rank.cursor _ (level-step c.args.words.now c.args.group _ _ _ _ c.members_at-members.ensures c.delimiter_at-delimiter.ensures c.count_tags_at-tags.ensures c.first_group_of-first.ensures c.args.fields.now c.args.start c.loop-rank.cursor _ c.step_at.ensures) _ _ c.in-Plain.is).1
 
--- let inserted = seen.insert_rank(rank);
-pub scan_entry-insert_rank-inserted-requires-in-Nested : goal.scan_entry-insert_rank-inserted-requires-in-Nested
-scan_entry-insert_rank-inserted-requires-in-Nested t c = omega (arith, rank_low c.args.words.now c.args.fields.now c.args.message.now c.requires.lent.passed c.args.group c.requires.lent.valid c.args.start c.args.depth c.args.events.now c.args.at 4 _ _ c.loop-rank.cursor _ _ c.loop-rank.invariant _ _ (entry-nested c.args.words.now c.args.fields.now c.args.message.now c.args.group c.args.start c.loop-rank.cursor _ (level-step c.args.words.now c.args.group _ _ _ _ c.members_at-members.ensures c.delimiter_at-delimiter.ensures c.count_tags_at-tags.ensures c.first_group_of-first.ensures c.args.fields.now c.args.start c.loop-rank.cursor _ c.step_at.ensures) _ _ _ c.in-Nested.is).0, (level-length c.args.words.now (1 + c.args.group) _ c.members_at-members.ensures), c.requires.few_members_lem)
+-- let (with, fresh) = seen.insert_rank(rank);
+pub scan_entry-insert_rank-fresh-requires-in-Nested : goal.scan_entry-insert_rank-fresh-requires-in-Nested
+scan_entry-insert_rank-fresh-requires-in-Nested t c = omega (arith, rank_low c.args.words.now c.args.fields.now c.args.message.now c.requires.lent.passed c.args.group c.requires.lent.valid c.args.start c.args.depth c.args.events.now c.args.at 4 _ _ c.loop-rank.cursor _ _ c.loop-rank.invariant _ _ (entry-nested c.args.words.now c.args.fields.now c.args.message.now c.args.group c.args.start c.loop-rank.cursor _ (level-step c.args.words.now c.args.group _ _ _ _ c.members_at-members.ensures c.delimiter_at-delimiter.ensures c.count_tags_at-tags.ensures c.first_group_of-first.ensures c.args.fields.now c.args.start c.loop-rank.cursor _ c.step_at.ensures) _ _ _ c.in-Nested.is).0, (level-length c.args.words.now (1 + c.args.group) _ c.members_at-members.ensures), c.requires.few_members_lem)
 
 -- to = put_repeat(events, to, tag, depth, member, inserted.fresh);
 pub scan_entry-put_repeat-to-requires-in-Nested : goal.scan_entry-put_repeat-to-requires-in-Nested
@@ -94,13 +94,13 @@ scan_entry-overflow_add-below t c = omega (arith, c.requires.shallow)
 -- let nested = walk_group(
 pub scan_entry-walk_group-nested-requires : goal.scan_entry-walk_group-nested-requires
 scan_entry-walk_group-nested-requires t c = let inside = field_inside c.args.words.now c.args.fields.now c.args.message.now c.requires.lent.passed c.args.group c.requires.lent.valid c.args.start c.args.depth c.args.events.now c.args.at 4 _ _ c.loop-rank.cursor _ _ c.loop-rank.invariant _ _ (entry-nested c.args.words.now c.args.fields.now c.args.message.now c.args.group c.args.start c.loop-rank.cursor _ (level-step c.args.words.now c.args.group _ _ _ _ c.members_at-members.ensures c.delimiter_at-delimiter.ensures c.count_tags_at-tags.ensures c.first_group_of-first.ensures c.args.fields.now c.args.start c.loop-rank.cursor _ c.step_at.ensures) _ _ _ c.in-Nested.is).0 in
-    let repeats = repeat_room c.args.words.now c.args.fields.now c.args.message.now c.requires.lent.passed c.args.group c.requires.lent.valid c.args.start c.args.depth c.args.events.now c.args.at 4 _ _ c.loop-rank.cursor _ _ c.loop-rank.invariant _ _ (entry-nested c.args.words.now c.args.fields.now c.args.message.now c.args.group c.args.start c.loop-rank.cursor _ (level-step c.args.words.now c.args.group _ _ _ _ c.members_at-members.ensures c.delimiter_at-delimiter.ensures c.count_tags_at-tags.ensures c.first_group_of-first.ensures c.args.fields.now c.args.start c.loop-rank.cursor _ c.step_at.ensures) _ _ _ c.in-Nested.is).0 _ _ c.insert_rank-inserted-in-Nested.ensures.0 c.insert_rank-inserted-in-Nested.ensures.1 _ c.count_tag_at-tag.ensures _ _ c.put_repeat-to-in-Nested.ensures in (
+    let repeats = repeat_room c.args.words.now c.args.fields.now c.args.message.now c.requires.lent.passed c.args.group c.requires.lent.valid c.args.start c.args.depth c.args.events.now c.args.at 4 _ _ c.loop-rank.cursor _ _ c.loop-rank.invariant _ _ (entry-nested c.args.words.now c.args.fields.now c.args.message.now c.args.group c.args.start c.loop-rank.cursor _ (level-step c.args.words.now c.args.group _ _ _ _ c.members_at-members.ensures c.delimiter_at-delimiter.ensures c.count_tags_at-tags.ensures c.first_group_of-first.ensures c.args.fields.now c.args.start c.loop-rank.cursor _ c.step_at.ensures) _ _ _ c.in-Nested.is).0 _ _ c.insert_rank-fresh-in-Nested.ensures.tags c.insert_rank-fresh-in-Nested.ensures.fresh _ c.count_tag_at-tag.ensures _ _ c.put_repeat-to-in-Nested.ensures in (
       omega (arith, c.decreases, inside, c.loop-rank.invariant.ahead, c.requires.shallow),
       record {
         lent = record {
           passed = c.requires.lent.passed;
           few_groups_lem = c.requires.lent.few_groups_lem;
-          valid = inner-valid c.args.words.now c.args.fields.now c.args.message.now c.requires.lent.passed c.args.group c.requires.lent.valid c.args.start c.args.depth c.args.events.now c.args.at 4 _ _ c.loop-rank.cursor _ _ c.loop-rank.invariant _ _ (entry-nested c.args.words.now c.args.fields.now c.args.message.now c.args.group c.args.start c.loop-rank.cursor _ (level-step c.args.words.now c.args.group _ _ _ _ c.members_at-members.ensures c.delimiter_at-delimiter.ensures c.count_tags_at-tags.ensures c.first_group_of-first.ensures c.args.fields.now c.args.start c.loop-rank.cursor _ c.step_at.ensures) _ _ _ c.in-Nested.is).0 _ _ c.insert_rank-inserted-in-Nested.ensures.0 c.insert_rank-inserted-in-Nested.ensures.1 _ c.count_tag_at-tag.ensures _ _ c.put_repeat-to-in-Nested.ensures _ c.spoilt_by-unparseable-in-Nested.ensures _ (entry-nested c.args.words.now c.args.fields.now c.args.message.now c.args.group c.args.start c.loop-rank.cursor _ (level-step c.args.words.now c.args.group _ _ _ _ c.members_at-members.ensures c.delimiter_at-delimiter.ensures c.count_tags_at-tags.ensures c.first_group_of-first.ensures c.args.fields.now c.args.start c.loop-rank.cursor _ c.step_at.ensures) _ _ _ c.in-Nested.is).1;
+          valid = inner-valid c.args.words.now c.args.fields.now c.args.message.now c.requires.lent.passed c.args.group c.requires.lent.valid c.args.start c.args.depth c.args.events.now c.args.at 4 _ _ c.loop-rank.cursor _ _ c.loop-rank.invariant _ _ (entry-nested c.args.words.now c.args.fields.now c.args.message.now c.args.group c.args.start c.loop-rank.cursor _ (level-step c.args.words.now c.args.group _ _ _ _ c.members_at-members.ensures c.delimiter_at-delimiter.ensures c.count_tags_at-tags.ensures c.first_group_of-first.ensures c.args.fields.now c.args.start c.loop-rank.cursor _ c.step_at.ensures) _ _ _ c.in-Nested.is).0 _ _ c.insert_rank-fresh-in-Nested.ensures.tags c.insert_rank-fresh-in-Nested.ensures.fresh _ c.count_tag_at-tag.ensures _ _ c.put_repeat-to-in-Nested.ensures _ c.spoilt_by-unparseable-in-Nested.ensures _ (entry-nested c.args.words.now c.args.fields.now c.args.message.now c.args.group c.args.start c.loop-rank.cursor _ (level-step c.args.words.now c.args.group _ _ _ _ c.members_at-members.ensures c.delimiter_at-delimiter.ensures c.count_tags_at-tags.ensures c.first_group_of-first.ensures c.args.fields.now c.args.start c.loop-rank.cursor _ c.step_at.ensures) _ _ _ c.in-Nested.is).1;
           table = c.requires.lent.table;
         };
         around = level-ascends c.args.words.now c.requires.lent.passed c.args.group c.requires.lent.valid _ c.members_at-members.ensures;
@@ -112,10 +112,10 @@ scan_entry-walk_group-nested-requires t c = let inside = field_inside c.args.wor
 -- loop {
 pub scan_entry-loop-rank-smaller : goal.scan_entry-loop-rank-smaller
 scan_entry-loop-rank-smaller t c = let inside = field_inside c.args.words.now c.args.fields.now c.args.message.now c.requires.lent.passed c.args.group c.requires.lent.valid c.args.start c.args.depth c.args.events.now c.args.at 4 _ _ c.loop-rank.cursor _ _ c.loop-rank.invariant _ _ (entry-nested c.args.words.now c.args.fields.now c.args.message.now c.args.group c.args.start c.loop-rank.cursor _ (level-step c.args.words.now c.args.group _ _ _ _ c.members_at-members.ensures c.delimiter_at-delimiter.ensures c.count_tags_at-tags.ensures c.first_group_of-first.ensures c.args.fields.now c.args.start c.loop-rank.cursor _ c.step_at.ensures) _ _ _ c.in-Nested.is).0 in
-    omega (arith, inside, nested-moves c.args.words.now c.args.fields.now c.args.message.now c.requires.lent.passed c.args.group c.requires.lent.valid c.args.start c.args.depth c.args.events.now c.args.at 4 _ _ c.loop-rank.cursor _ _ c.loop-rank.invariant _ _ (entry-nested c.args.words.now c.args.fields.now c.args.message.now c.args.group c.args.start c.loop-rank.cursor _ (level-step c.args.words.now c.args.group _ _ _ _ c.members_at-members.ensures c.delimiter_at-delimiter.ensures c.count_tags_at-tags.ensures c.first_group_of-first.ensures c.args.fields.now c.args.start c.loop-rank.cursor _ c.step_at.ensures) _ _ _ c.in-Nested.is).0 _ _ c.insert_rank-inserted-in-Nested.ensures.0 c.insert_rank-inserted-in-Nested.ensures.1 _ c.count_tag_at-tag.ensures _ _ c.put_repeat-to-in-Nested.ensures _ c.spoilt_by-unparseable-in-Nested.ensures _ (entry-nested c.args.words.now c.args.fields.now c.args.message.now c.args.group c.args.start c.loop-rank.cursor _ (level-step c.args.words.now c.args.group _ _ _ _ c.members_at-members.ensures c.delimiter_at-delimiter.ensures c.count_tags_at-tags.ensures c.first_group_of-first.ensures c.args.fields.now c.args.start c.loop-rank.cursor _ c.step_at.ensures) _ _ _ c.in-Nested.is).1 _ _ _ _ c.members_at-members.ensures c.walk_group-nested.ensures)
+    omega (arith, inside, nested-moves c.args.words.now c.args.fields.now c.args.message.now c.requires.lent.passed c.args.group c.requires.lent.valid c.args.start c.args.depth c.args.events.now c.args.at 4 _ _ c.loop-rank.cursor _ _ c.loop-rank.invariant _ _ (entry-nested c.args.words.now c.args.fields.now c.args.message.now c.args.group c.args.start c.loop-rank.cursor _ (level-step c.args.words.now c.args.group _ _ _ _ c.members_at-members.ensures c.delimiter_at-delimiter.ensures c.count_tags_at-tags.ensures c.first_group_of-first.ensures c.args.fields.now c.args.start c.loop-rank.cursor _ c.step_at.ensures) _ _ _ c.in-Nested.is).0 _ _ c.insert_rank-fresh-in-Nested.ensures.tags c.insert_rank-fresh-in-Nested.ensures.fresh _ c.count_tag_at-tag.ensures _ _ c.put_repeat-to-in-Nested.ensures _ c.spoilt_by-unparseable-in-Nested.ensures _ (entry-nested c.args.words.now c.args.fields.now c.args.message.now c.args.group c.args.start c.loop-rank.cursor _ (level-step c.args.words.now c.args.group _ _ _ _ c.members_at-members.ensures c.delimiter_at-delimiter.ensures c.count_tags_at-tags.ensures c.first_group_of-first.ensures c.args.fields.now c.args.start c.loop-rank.cursor _ c.step_at.ensures) _ _ _ c.in-Nested.is).1 _ _ _ _ c.members_at-members.ensures c.walk_group-nested.ensures)
 
 pub scan_entry-loop-rank-preserved : goal.scan_entry-loop-rank-preserved
-scan_entry-loop-rank-preserved t c = entry-adds_nested c.args.words.now c.args.fields.now c.args.message.now c.requires.lent.passed c.args.group c.requires.lent.valid c.args.start c.args.depth c.args.events.now c.args.at 4 _ _ c.loop-rank.cursor _ _ c.loop-rank.invariant _ _ (entry-nested c.args.words.now c.args.fields.now c.args.message.now c.args.group c.args.start c.loop-rank.cursor _ (level-step c.args.words.now c.args.group _ _ _ _ c.members_at-members.ensures c.delimiter_at-delimiter.ensures c.count_tags_at-tags.ensures c.first_group_of-first.ensures c.args.fields.now c.args.start c.loop-rank.cursor _ c.step_at.ensures) _ _ _ c.in-Nested.is).0 _ _ c.insert_rank-inserted-in-Nested.ensures.0 c.insert_rank-inserted-in-Nested.ensures.1 _ c.count_tag_at-tag.ensures _ _ c.put_repeat-to-in-Nested.ensures _ c.spoilt_by-unparseable-in-Nested.ensures _ (entry-nested c.args.words.now c.args.fields.now c.args.message.now c.args.group c.args.start c.loop-rank.cursor _ (level-step c.args.words.now c.args.group _ _ _ _ c.members_at-members.ensures c.delimiter_at-delimiter.ensures c.count_tags_at-tags.ensures c.first_group_of-first.ensures c.args.fields.now c.args.start c.loop-rank.cursor _ c.step_at.ensures) _ _ _ c.in-Nested.is).1 _ _ _ _ c.members_at-members.ensures c.walk_group-nested.ensures
+scan_entry-loop-rank-preserved t c = entry-adds_nested c.args.words.now c.args.fields.now c.args.message.now c.requires.lent.passed c.args.group c.requires.lent.valid c.args.start c.args.depth c.args.events.now c.args.at 4 _ _ c.loop-rank.cursor _ _ c.loop-rank.invariant _ _ (entry-nested c.args.words.now c.args.fields.now c.args.message.now c.args.group c.args.start c.loop-rank.cursor _ (level-step c.args.words.now c.args.group _ _ _ _ c.members_at-members.ensures c.delimiter_at-delimiter.ensures c.count_tags_at-tags.ensures c.first_group_of-first.ensures c.args.fields.now c.args.start c.loop-rank.cursor _ c.step_at.ensures) _ _ _ c.in-Nested.is).0 _ _ c.insert_rank-fresh-in-Nested.ensures.tags c.insert_rank-fresh-in-Nested.ensures.fresh _ c.count_tag_at-tag.ensures _ _ c.put_repeat-to-in-Nested.ensures _ c.spoilt_by-unparseable-in-Nested.ensures _ (entry-nested c.args.words.now c.args.fields.now c.args.message.now c.args.group c.args.start c.loop-rank.cursor _ (level-step c.args.words.now c.args.group _ _ _ _ c.members_at-members.ensures c.delimiter_at-delimiter.ensures c.count_tags_at-tags.ensures c.first_group_of-first.ensures c.args.fields.now c.args.start c.loop-rank.cursor _ c.step_at.ensures) _ _ _ c.in-Nested.is).1 _ _ _ _ c.members_at-members.ensures c.walk_group-nested.ensures
 
 -- let count = seen.close(members.len());
 pub scan_entry-close-count-requires : goal.scan_entry-close-count-requires
@@ -172,9 +172,9 @@ scan_wide-step_at-requires t c = record {
   tags_bound = (level-searches c.args.words.now c.requires.lent.passed c.requires.lent.few_groups_lem c.args.group c.requires.lent.valid _ _ _ c.members_at-members.ensures c.count_tags_at-tags.ensures c.first_group_of-first.ensures).1.1;
 }
 
--- let inserted = seen.insert_rank(rank);
-pub scan_wide-insert_rank-inserted-requires : goal.scan_wide-insert_rank-inserted-requires
-scan_wide-insert_rank-inserted-requires t c = omega (arith, rank_low c.args.words.now c.args.fields.now c.args.message.now c.requires.lent.passed c.args.group c.requires.lent.valid c.args.start c.args.depth c.args.events.now c.args.at 128 _ _ c.loop-rank.cursor _ _ c.loop-rank.invariant _ _ (entry-plain c.args.words.now c.args.fields.now c.args.message.now c.args.group c.args.start c.loop-rank.cursor _ (level-step c.args.words.now c.args.group _ _ _ _ c.members_at-members.ensures c.delimiter_at-delimiter.ensures c.count_tags_at-tags.ensures c.first_group_of-first.ensures c.args.fields.now c.args.start c.loop-rank.cursor _ c.step_at.ensures) _ _ c.in-Plain.is).0, (level-length c.args.words.now (1 + c.args.group) _ c.members_at-members.ensures), c.requires.few_members_lem)
+-- let (with, fresh) = seen.insert_rank(rank);
+pub scan_wide-insert_rank-fresh-requires : goal.scan_wide-insert_rank-fresh-requires
+scan_wide-insert_rank-fresh-requires t c = omega (arith, rank_low c.args.words.now c.args.fields.now c.args.message.now c.requires.lent.passed c.args.group c.requires.lent.valid c.args.start c.args.depth c.args.events.now c.args.at 128 _ _ c.loop-rank.cursor _ _ c.loop-rank.invariant _ _ (entry-plain c.args.words.now c.args.fields.now c.args.message.now c.args.group c.args.start c.loop-rank.cursor _ (level-step c.args.words.now c.args.group _ _ _ _ c.members_at-members.ensures c.delimiter_at-delimiter.ensures c.count_tags_at-tags.ensures c.first_group_of-first.ensures c.args.fields.now c.args.start c.loop-rank.cursor _ c.step_at.ensures) _ _ c.in-Plain.is).0, (level-length c.args.words.now (1 + c.args.group) _ c.members_at-members.ensures), c.requires.few_members_lem)
 
 -- to = put_repeat(events, to, tag, depth, member, inserted.fresh);
 pub scan_wide-put_repeat-to-requires : goal.scan_wide-put_repeat-to-requires
@@ -189,11 +189,11 @@ pub scan_wide-loop-rank-smaller-in-Plain : goal.scan_wide-loop-rank-smaller-in-P
 scan_wide-loop-rank-smaller-in-Plain t c = omega (arith, field_inside c.args.words.now c.args.fields.now c.args.message.now c.requires.lent.passed c.args.group c.requires.lent.valid c.args.start c.args.depth c.args.events.now c.args.at 128 _ _ c.loop-rank.cursor _ _ c.loop-rank.invariant _ _ (entry-plain c.args.words.now c.args.fields.now c.args.message.now c.args.group c.args.start c.loop-rank.cursor _ (level-step c.args.words.now c.args.group _ _ _ _ c.members_at-members.ensures c.delimiter_at-delimiter.ensures c.count_tags_at-tags.ensures c.first_group_of-first.ensures c.args.fields.now c.args.start c.loop-rank.cursor _ c.step_at.ensures) _ _ c.in-Plain.is).0)
 
 pub scan_wide-loop-rank-preserved-in-Plain : goal.scan_wide-loop-rank-preserved-in-Plain
-scan_wide-loop-rank-preserved-in-Plain t c = entry-adds_plain c.args.words.now c.args.fields.now c.args.message.now c.requires.lent.passed c.args.group c.requires.lent.valid c.args.start c.args.depth c.args.events.now c.args.at 128 _ _ c.loop-rank.cursor _ _ c.loop-rank.invariant _ _ (entry-plain c.args.words.now c.args.fields.now c.args.message.now c.args.group c.args.start c.loop-rank.cursor _ (level-step c.args.words.now c.args.group _ _ _ _ c.members_at-members.ensures c.delimiter_at-delimiter.ensures c.count_tags_at-tags.ensures c.first_group_of-first.ensures c.args.fields.now c.args.start c.loop-rank.cursor _ c.step_at.ensures) _ _ c.in-Plain.is).0 _ _ c.insert_rank-inserted.ensures.0 c.insert_rank-inserted.ensures.1 _ c.count_tag_at-tag.ensures _ _ c.put_repeat-to.ensures _ c.spoilt_by-unparseable.ensures (entry-plain c.args.words.now c.args.fields.now c.args.message.now c.args.group c.args.start c.loop-rank.cursor _ (level-step c.args.words.now c.args.group _ _ _ _ c.members_at-members.ensures c.delimiter_at-delimiter.ensures c.count_tags_at-tags.ensures c.first_group_of-first.ensures c.args.fields.now c.args.start c.loop-rank.cursor _ c.step_at.ensures) _ _ c.in-Plain.is).1
+scan_wide-loop-rank-preserved-in-Plain t c = entry-adds_plain c.args.words.now c.args.fields.now c.args.message.now c.requires.lent.passed c.args.group c.requires.lent.valid c.args.start c.args.depth c.args.events.now c.args.at 128 _ _ c.loop-rank.cursor _ _ c.loop-rank.invariant _ _ (entry-plain c.args.words.now c.args.fields.now c.args.message.now c.args.group c.args.start c.loop-rank.cursor _ (level-step c.args.words.now c.args.group _ _ _ _ c.members_at-members.ensures c.delimiter_at-delimiter.ensures c.count_tags_at-tags.ensures c.first_group_of-first.ensures c.args.fields.now c.args.start c.loop-rank.cursor _ c.step_at.ensures) _ _ c.in-Plain.is).0 _ _ c.insert_rank-fresh.ensures.tags c.insert_rank-fresh.ensures.fresh _ c.count_tag_at-tag.ensures _ _ c.put_repeat-to.ensures _ c.spoilt_by-unparseable.ensures (entry-plain c.args.words.now c.args.fields.now c.args.message.now c.args.group c.args.start c.loop-rank.cursor _ (level-step c.args.words.now c.args.group _ _ _ _ c.members_at-members.ensures c.delimiter_at-delimiter.ensures c.count_tags_at-tags.ensures c.first_group_of-first.ensures c.args.fields.now c.args.start c.loop-rank.cursor _ c.step_at.ensures) _ _ c.in-Plain.is).1
 
--- let inserted = seen.insert_rank(rank);
-pub scan_wide-insert_rank-inserted-requires-in-Nested : goal.scan_wide-insert_rank-inserted-requires-in-Nested
-scan_wide-insert_rank-inserted-requires-in-Nested t c = omega (arith, rank_low c.args.words.now c.args.fields.now c.args.message.now c.requires.lent.passed c.args.group c.requires.lent.valid c.args.start c.args.depth c.args.events.now c.args.at 128 _ _ c.loop-rank.cursor _ _ c.loop-rank.invariant _ _ (entry-nested c.args.words.now c.args.fields.now c.args.message.now c.args.group c.args.start c.loop-rank.cursor _ (level-step c.args.words.now c.args.group _ _ _ _ c.members_at-members.ensures c.delimiter_at-delimiter.ensures c.count_tags_at-tags.ensures c.first_group_of-first.ensures c.args.fields.now c.args.start c.loop-rank.cursor _ c.step_at.ensures) _ _ _ c.in-Nested.is).0, (level-length c.args.words.now (1 + c.args.group) _ c.members_at-members.ensures), c.requires.few_members_lem)
+-- let (with, fresh) = seen.insert_rank(rank);
+pub scan_wide-insert_rank-fresh-requires-in-Nested : goal.scan_wide-insert_rank-fresh-requires-in-Nested
+scan_wide-insert_rank-fresh-requires-in-Nested t c = omega (arith, rank_low c.args.words.now c.args.fields.now c.args.message.now c.requires.lent.passed c.args.group c.requires.lent.valid c.args.start c.args.depth c.args.events.now c.args.at 128 _ _ c.loop-rank.cursor _ _ c.loop-rank.invariant _ _ (entry-nested c.args.words.now c.args.fields.now c.args.message.now c.args.group c.args.start c.loop-rank.cursor _ (level-step c.args.words.now c.args.group _ _ _ _ c.members_at-members.ensures c.delimiter_at-delimiter.ensures c.count_tags_at-tags.ensures c.first_group_of-first.ensures c.args.fields.now c.args.start c.loop-rank.cursor _ c.step_at.ensures) _ _ _ c.in-Nested.is).0, (level-length c.args.words.now (1 + c.args.group) _ c.members_at-members.ensures), c.requires.few_members_lem)
 
 -- to = put_repeat(events, to, tag, depth, member, inserted.fresh);
 pub scan_wide-put_repeat-to-requires-in-Nested : goal.scan_wide-put_repeat-to-requires-in-Nested
@@ -206,13 +206,13 @@ scan_wide-overflow_add-below t c = omega (arith, c.requires.shallow)
 -- let nested = walk_group(
 pub scan_wide-walk_group-nested-requires : goal.scan_wide-walk_group-nested-requires
 scan_wide-walk_group-nested-requires t c = let inside = field_inside c.args.words.now c.args.fields.now c.args.message.now c.requires.lent.passed c.args.group c.requires.lent.valid c.args.start c.args.depth c.args.events.now c.args.at 128 _ _ c.loop-rank.cursor _ _ c.loop-rank.invariant _ _ (entry-nested c.args.words.now c.args.fields.now c.args.message.now c.args.group c.args.start c.loop-rank.cursor _ (level-step c.args.words.now c.args.group _ _ _ _ c.members_at-members.ensures c.delimiter_at-delimiter.ensures c.count_tags_at-tags.ensures c.first_group_of-first.ensures c.args.fields.now c.args.start c.loop-rank.cursor _ c.step_at.ensures) _ _ _ c.in-Nested.is).0 in
-    let repeats = repeat_room c.args.words.now c.args.fields.now c.args.message.now c.requires.lent.passed c.args.group c.requires.lent.valid c.args.start c.args.depth c.args.events.now c.args.at 128 _ _ c.loop-rank.cursor _ _ c.loop-rank.invariant _ _ (entry-nested c.args.words.now c.args.fields.now c.args.message.now c.args.group c.args.start c.loop-rank.cursor _ (level-step c.args.words.now c.args.group _ _ _ _ c.members_at-members.ensures c.delimiter_at-delimiter.ensures c.count_tags_at-tags.ensures c.first_group_of-first.ensures c.args.fields.now c.args.start c.loop-rank.cursor _ c.step_at.ensures) _ _ _ c.in-Nested.is).0 _ _ c.insert_rank-inserted-in-Nested.ensures.0 c.insert_rank-inserted-in-Nested.ensures.1 _ c.count_tag_at-tag.ensures _ _ c.put_repeat-to-in-Nested.ensures in (
+    let repeats = repeat_room c.args.words.now c.args.fields.now c.args.message.now c.requires.lent.passed c.args.group c.requires.lent.valid c.args.start c.args.depth c.args.events.now c.args.at 128 _ _ c.loop-rank.cursor _ _ c.loop-rank.invariant _ _ (entry-nested c.args.words.now c.args.fields.now c.args.message.now c.args.group c.args.start c.loop-rank.cursor _ (level-step c.args.words.now c.args.group _ _ _ _ c.members_at-members.ensures c.delimiter_at-delimiter.ensures c.count_tags_at-tags.ensures c.first_group_of-first.ensures c.args.fields.now c.args.start c.loop-rank.cursor _ c.step_at.ensures) _ _ _ c.in-Nested.is).0 _ _ c.insert_rank-fresh-in-Nested.ensures.tags c.insert_rank-fresh-in-Nested.ensures.fresh _ c.count_tag_at-tag.ensures _ _ c.put_repeat-to-in-Nested.ensures in (
       omega (arith, c.decreases, inside, c.loop-rank.invariant.ahead, c.requires.shallow),
       record {
         lent = record {
           passed = c.requires.lent.passed;
           few_groups_lem = c.requires.lent.few_groups_lem;
-          valid = inner-valid c.args.words.now c.args.fields.now c.args.message.now c.requires.lent.passed c.args.group c.requires.lent.valid c.args.start c.args.depth c.args.events.now c.args.at 128 _ _ c.loop-rank.cursor _ _ c.loop-rank.invariant _ _ (entry-nested c.args.words.now c.args.fields.now c.args.message.now c.args.group c.args.start c.loop-rank.cursor _ (level-step c.args.words.now c.args.group _ _ _ _ c.members_at-members.ensures c.delimiter_at-delimiter.ensures c.count_tags_at-tags.ensures c.first_group_of-first.ensures c.args.fields.now c.args.start c.loop-rank.cursor _ c.step_at.ensures) _ _ _ c.in-Nested.is).0 _ _ c.insert_rank-inserted-in-Nested.ensures.0 c.insert_rank-inserted-in-Nested.ensures.1 _ c.count_tag_at-tag.ensures _ _ c.put_repeat-to-in-Nested.ensures _ c.spoilt_by-unparseable-in-Nested.ensures _ (entry-nested c.args.words.now c.args.fields.now c.args.message.now c.args.group c.args.start c.loop-rank.cursor _ (level-step c.args.words.now c.args.group _ _ _ _ c.members_at-members.ensures c.delimiter_at-delimiter.ensures c.count_tags_at-tags.ensures c.first_group_of-first.ensures c.args.fields.now c.args.start c.loop-rank.cursor _ c.step_at.ensures) _ _ _ c.in-Nested.is).1;
+          valid = inner-valid c.args.words.now c.args.fields.now c.args.message.now c.requires.lent.passed c.args.group c.requires.lent.valid c.args.start c.args.depth c.args.events.now c.args.at 128 _ _ c.loop-rank.cursor _ _ c.loop-rank.invariant _ _ (entry-nested c.args.words.now c.args.fields.now c.args.message.now c.args.group c.args.start c.loop-rank.cursor _ (level-step c.args.words.now c.args.group _ _ _ _ c.members_at-members.ensures c.delimiter_at-delimiter.ensures c.count_tags_at-tags.ensures c.first_group_of-first.ensures c.args.fields.now c.args.start c.loop-rank.cursor _ c.step_at.ensures) _ _ _ c.in-Nested.is).0 _ _ c.insert_rank-fresh-in-Nested.ensures.tags c.insert_rank-fresh-in-Nested.ensures.fresh _ c.count_tag_at-tag.ensures _ _ c.put_repeat-to-in-Nested.ensures _ c.spoilt_by-unparseable-in-Nested.ensures _ (entry-nested c.args.words.now c.args.fields.now c.args.message.now c.args.group c.args.start c.loop-rank.cursor _ (level-step c.args.words.now c.args.group _ _ _ _ c.members_at-members.ensures c.delimiter_at-delimiter.ensures c.count_tags_at-tags.ensures c.first_group_of-first.ensures c.args.fields.now c.args.start c.loop-rank.cursor _ c.step_at.ensures) _ _ _ c.in-Nested.is).1;
           table = c.requires.lent.table;
         };
         around = level-ascends c.args.words.now c.requires.lent.passed c.args.group c.requires.lent.valid _ c.members_at-members.ensures;
@@ -224,10 +224,10 @@ scan_wide-walk_group-nested-requires t c = let inside = field_inside c.args.word
 -- loop {
 pub scan_wide-loop-rank-smaller : goal.scan_wide-loop-rank-smaller
 scan_wide-loop-rank-smaller t c = let inside = field_inside c.args.words.now c.args.fields.now c.args.message.now c.requires.lent.passed c.args.group c.requires.lent.valid c.args.start c.args.depth c.args.events.now c.args.at 128 _ _ c.loop-rank.cursor _ _ c.loop-rank.invariant _ _ (entry-nested c.args.words.now c.args.fields.now c.args.message.now c.args.group c.args.start c.loop-rank.cursor _ (level-step c.args.words.now c.args.group _ _ _ _ c.members_at-members.ensures c.delimiter_at-delimiter.ensures c.count_tags_at-tags.ensures c.first_group_of-first.ensures c.args.fields.now c.args.start c.loop-rank.cursor _ c.step_at.ensures) _ _ _ c.in-Nested.is).0 in
-    omega (arith, inside, nested-moves c.args.words.now c.args.fields.now c.args.message.now c.requires.lent.passed c.args.group c.requires.lent.valid c.args.start c.args.depth c.args.events.now c.args.at 128 _ _ c.loop-rank.cursor _ _ c.loop-rank.invariant _ _ (entry-nested c.args.words.now c.args.fields.now c.args.message.now c.args.group c.args.start c.loop-rank.cursor _ (level-step c.args.words.now c.args.group _ _ _ _ c.members_at-members.ensures c.delimiter_at-delimiter.ensures c.count_tags_at-tags.ensures c.first_group_of-first.ensures c.args.fields.now c.args.start c.loop-rank.cursor _ c.step_at.ensures) _ _ _ c.in-Nested.is).0 _ _ c.insert_rank-inserted-in-Nested.ensures.0 c.insert_rank-inserted-in-Nested.ensures.1 _ c.count_tag_at-tag.ensures _ _ c.put_repeat-to-in-Nested.ensures _ c.spoilt_by-unparseable-in-Nested.ensures _ (entry-nested c.args.words.now c.args.fields.now c.args.message.now c.args.group c.args.start c.loop-rank.cursor _ (level-step c.args.words.now c.args.group _ _ _ _ c.members_at-members.ensures c.delimiter_at-delimiter.ensures c.count_tags_at-tags.ensures c.first_group_of-first.ensures c.args.fields.now c.args.start c.loop-rank.cursor _ c.step_at.ensures) _ _ _ c.in-Nested.is).1 _ _ _ _ c.members_at-members.ensures c.walk_group-nested.ensures)
+    omega (arith, inside, nested-moves c.args.words.now c.args.fields.now c.args.message.now c.requires.lent.passed c.args.group c.requires.lent.valid c.args.start c.args.depth c.args.events.now c.args.at 128 _ _ c.loop-rank.cursor _ _ c.loop-rank.invariant _ _ (entry-nested c.args.words.now c.args.fields.now c.args.message.now c.args.group c.args.start c.loop-rank.cursor _ (level-step c.args.words.now c.args.group _ _ _ _ c.members_at-members.ensures c.delimiter_at-delimiter.ensures c.count_tags_at-tags.ensures c.first_group_of-first.ensures c.args.fields.now c.args.start c.loop-rank.cursor _ c.step_at.ensures) _ _ _ c.in-Nested.is).0 _ _ c.insert_rank-fresh-in-Nested.ensures.tags c.insert_rank-fresh-in-Nested.ensures.fresh _ c.count_tag_at-tag.ensures _ _ c.put_repeat-to-in-Nested.ensures _ c.spoilt_by-unparseable-in-Nested.ensures _ (entry-nested c.args.words.now c.args.fields.now c.args.message.now c.args.group c.args.start c.loop-rank.cursor _ (level-step c.args.words.now c.args.group _ _ _ _ c.members_at-members.ensures c.delimiter_at-delimiter.ensures c.count_tags_at-tags.ensures c.first_group_of-first.ensures c.args.fields.now c.args.start c.loop-rank.cursor _ c.step_at.ensures) _ _ _ c.in-Nested.is).1 _ _ _ _ c.members_at-members.ensures c.walk_group-nested.ensures)
 
 pub scan_wide-loop-rank-preserved : goal.scan_wide-loop-rank-preserved
-scan_wide-loop-rank-preserved t c = entry-adds_nested c.args.words.now c.args.fields.now c.args.message.now c.requires.lent.passed c.args.group c.requires.lent.valid c.args.start c.args.depth c.args.events.now c.args.at 128 _ _ c.loop-rank.cursor _ _ c.loop-rank.invariant _ _ (entry-nested c.args.words.now c.args.fields.now c.args.message.now c.args.group c.args.start c.loop-rank.cursor _ (level-step c.args.words.now c.args.group _ _ _ _ c.members_at-members.ensures c.delimiter_at-delimiter.ensures c.count_tags_at-tags.ensures c.first_group_of-first.ensures c.args.fields.now c.args.start c.loop-rank.cursor _ c.step_at.ensures) _ _ _ c.in-Nested.is).0 _ _ c.insert_rank-inserted-in-Nested.ensures.0 c.insert_rank-inserted-in-Nested.ensures.1 _ c.count_tag_at-tag.ensures _ _ c.put_repeat-to-in-Nested.ensures _ c.spoilt_by-unparseable-in-Nested.ensures _ (entry-nested c.args.words.now c.args.fields.now c.args.message.now c.args.group c.args.start c.loop-rank.cursor _ (level-step c.args.words.now c.args.group _ _ _ _ c.members_at-members.ensures c.delimiter_at-delimiter.ensures c.count_tags_at-tags.ensures c.first_group_of-first.ensures c.args.fields.now c.args.start c.loop-rank.cursor _ c.step_at.ensures) _ _ _ c.in-Nested.is).1 _ _ _ _ c.members_at-members.ensures c.walk_group-nested.ensures
+scan_wide-loop-rank-preserved t c = entry-adds_nested c.args.words.now c.args.fields.now c.args.message.now c.requires.lent.passed c.args.group c.requires.lent.valid c.args.start c.args.depth c.args.events.now c.args.at 128 _ _ c.loop-rank.cursor _ _ c.loop-rank.invariant _ _ (entry-nested c.args.words.now c.args.fields.now c.args.message.now c.args.group c.args.start c.loop-rank.cursor _ (level-step c.args.words.now c.args.group _ _ _ _ c.members_at-members.ensures c.delimiter_at-delimiter.ensures c.count_tags_at-tags.ensures c.first_group_of-first.ensures c.args.fields.now c.args.start c.loop-rank.cursor _ c.step_at.ensures) _ _ _ c.in-Nested.is).0 _ _ c.insert_rank-fresh-in-Nested.ensures.tags c.insert_rank-fresh-in-Nested.ensures.fresh _ c.count_tag_at-tag.ensures _ _ c.put_repeat-to-in-Nested.ensures _ c.spoilt_by-unparseable-in-Nested.ensures _ (entry-nested c.args.words.now c.args.fields.now c.args.message.now c.args.group c.args.start c.loop-rank.cursor _ (level-step c.args.words.now c.args.group _ _ _ _ c.members_at-members.ensures c.delimiter_at-delimiter.ensures c.count_tags_at-tags.ensures c.first_group_of-first.ensures c.args.fields.now c.args.start c.loop-rank.cursor _ c.step_at.ensures) _ _ _ c.in-Nested.is).1 _ _ _ _ c.members_at-members.ensures c.walk_group-nested.ensures
 
 -- let count = seen.close(members.len());
 pub scan_wide-close-count-requires : goal.scan_wide-close-count-requires

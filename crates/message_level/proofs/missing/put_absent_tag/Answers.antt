@@ -1,7 +1,6 @@
 -- `message_level::missing::put_absent_tag` meets its contract. The laws are those of specs/MissingLaws.antt.
 use native.Mathlib.Omega.{arith}
 use Rattle.message_level.specs.MissingLaws.{tag-10, tag-other}
-use borrow.Author.Rules.{rules}
 use Rattle.message_level.proofs.missing.put_absent_tag.Goals as goal
 
 -- return at;

@@ -3,7 +3,6 @@ use mathlib.Core.Path.{ap}
 use native.Mathlib.Omega.{arith}
 use lib.ListN.{length}
 use Rattle.message_level.specs.MissingLaws.{both_missing, required-part_few, groups-part_few}
-use borrow.Author.Rules.{rules}
 use Rattle.message_level.proofs.missing.put_missing.Goals as goal
 
 -- let to = put_missing_tags(defined, required, seen, events, at);

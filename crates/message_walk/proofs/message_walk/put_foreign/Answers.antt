@@ -8,4 +8,4 @@ returns-in_default c = foreign_outside c.args.layout.now c.requires.passed _ c.m
 
 -- fn put_foreign(layout: &[u32], events: &mut [u64], at: usize, tag: u32) -> usize
 pub returns : goal.returns
-returns c = foreign_member c.args.layout.now c.requires.passed _ c.members_at-top.ensures c.args.tag _ c.binary_search.ensures.outcome _ c.in-At.is _ _
+returns c = foreign_member c.args.layout.now c.requires.passed _ c.members_at-top.ensures c.args.tag _ c.binary_search.ensures.outcome _ c.in-Some.is _ _

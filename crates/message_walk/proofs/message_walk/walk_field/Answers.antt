@@ -10,11 +10,11 @@ returns-in_default c = λ tags kept. turn-skips c.args.defined.now c.args.layout
 
 -- let fresh = insert(seen, rank);
 pub insert-fresh-requires : goal.insert-fresh-requires
-insert-fresh-requires c = rank_inside c.args.defined.now c.args.layout.now c.args.fields.now c.args.message.now c.args.seen.now c.args.index c.args.at c.requires _ c.tag_at-tag.ensures _ c.binary_search.ensures.outcome _ c.in-At.is
+insert-fresh-requires c = rank_inside c.args.defined.now c.args.layout.now c.args.fields.now c.args.message.now c.args.seen.now c.args.index c.args.at c.requires _ c.tag_at-tag.ensures _ c.binary_search.ensures.outcome _ c.in-Some.is
 
 -- walk_place(layout, fields, message, index, tag, events, to)
 pub walk_place-requires : goal.walk_place-requires
-walk_place-requires c = record { passed = c.requires.lent.passed; table = c.requires.lent.table; inside = c.requires.inside; tag_is = c.tag_at-tag.ensures; room = omega (arith, twice-room c.args.defined.now c.args.layout.now c.args.fields.now c.args.message.now c.args.seen.now c.args.index c.args.at c.requires _ c.tag_at-tag.ensures _ c.binary_search.ensures.outcome _ c.in-At.is _ _ c.insert-fresh.ensures.outcome c.insert-fresh.ensures.memory _ _ _ c.put_twice-to.ensures, c.requires.room) }
+walk_place-requires c = record { passed = c.requires.lent.passed; table = c.requires.lent.table; inside = c.requires.inside; tag_is = c.tag_at-tag.ensures; room = omega (arith, twice-room c.args.defined.now c.args.layout.now c.args.fields.now c.args.message.now c.args.seen.now c.args.index c.args.at c.requires _ c.tag_at-tag.ensures _ c.binary_search.ensures.outcome _ c.in-Some.is _ _ c.insert-fresh.ensures.outcome c.insert-fresh.ensures.memory _ _ _ c.put_twice-to.ensures, c.requires.room) }
 
 pub returns : goal.returns
-returns c = λ tags kept. turn-taken c.args.defined.now c.args.layout.now c.args.fields.now c.args.message.now c.args.seen.now c.args.index c.args.at c.requires _ c.tag_at-tag.ensures _ c.binary_search.ensures.outcome _ c.in-At.is _ _ c.insert-fresh.ensures.outcome c.insert-fresh.ensures.memory _ _ _ c.put_twice-to.ensures _ _ _ c.walk_place.ensures tags kept
+returns c = λ tags kept. turn-taken c.args.defined.now c.args.layout.now c.args.fields.now c.args.message.now c.args.seen.now c.args.index c.args.at c.requires _ c.tag_at-tag.ensures _ c.binary_search.ensures.outcome _ c.in-Some.is _ _ c.insert-fresh.ensures.outcome c.insert-fresh.ensures.memory _ _ _ c.put_twice-to.ensures _ _ _ c.walk_place.ensures tags kept

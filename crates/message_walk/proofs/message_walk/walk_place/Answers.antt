@@ -11,11 +11,11 @@ returns-in_default c = place-plain c.args.layout.now c.args.fields.now c.args.me
 -- walk_group(fields, message, layout, top, group, index, 0, events, at)
 pub walk_group-requires : goal.walk_group-requires
 walk_group-requires c = record {
-  lent = record { passed = c.requires.passed; few_groups_lem = c.top_group.ensures.1; valid = group-valid c.args.layout.now c.args.fields.now c.args.message.now c.args.index c.args.tag c.args.at c.requires _ c.top_group.ensures.0 _ c.in-At.is; table = c.requires.table };
+  lent = record { passed = c.requires.passed; few_groups_lem = c.top_group.ensures.1; valid = group-valid c.args.layout.now c.args.fields.now c.args.message.now c.args.index c.args.tag c.args.at c.requires _ c.top_group.ensures.0 _ c.in-Some.is; table = c.requires.table };
   around = top-ascends c.args.layout.now c.requires.passed _ c.members_at-top.ensures;
   shallow = omega arith;
   room = c.requires.room;
 }
 
 pub returns : goal.returns
-returns c = place-group c.args.layout.now c.args.fields.now c.args.message.now c.args.index c.args.tag c.args.at c.requires _ c.top_group.ensures.0 _ c.in-At.is _ c.members_at-top.ensures _ _ _ _ c.walk_group.ensures
+returns c = place-group c.args.layout.now c.args.fields.now c.args.message.now c.args.index c.args.tag c.args.at c.requires _ c.top_group.ensures.0 _ c.in-Some.is _ c.members_at-top.ensures _ _ _ _ c.walk_group.ensures

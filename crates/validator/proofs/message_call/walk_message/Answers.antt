@@ -1,4 +1,5 @@
 -- `validator::message_call::walk_message` meets its contract. The laws are those of specs/MessageCallLaws.antt.
+use Rattle.refusals.specs.HandedOn.{handed_on}
 use mathlib.Core.Path.{sym, ◌∙◌}
 use native.Mathlib.Omega.{arith}
 use borrow.Author.Tests.{not-true, not-false}
@@ -9,14 +10,14 @@ use Rattle.validator.specs.MessageCallLaws.{refused-dictionary, refused-layout, 
 use borrow.Author.Rules.{rules}
 use Rattle.validator.proofs.message_call.walk_message.Goals as goal
 
--- return WalkedMessage::Refused(Refusal::UnknownForm(0));
+-- return Err(Refusal::UnknownForm(0));
 pub returns-then-not-is_dictionary : goal.returns-then-not-is_dictionary
 returns-then-not-is_dictionary c = record {
   outcome = (refused-dictionary c.args.dictionary.now c.args.layout.now c.args.fields.now c.args.message.now c.args.events.now (sym c.is_dictionary.ensures.outcome ∙ not-true _ c.if-not-is_dictionary.true-raw)).0;
   memory = (refused-dictionary c.args.dictionary.now c.args.layout.now c.args.fields.now c.args.message.now c.args.events.now (sym c.is_dictionary.ensures.outcome ∙ not-true _ c.if-not-is_dictionary.true-raw)).1;
 }
 
--- return WalkedMessage::Refused(Refusal::RuleBroken(0, 0));
+-- return Err(Refusal::RuleBroken(0, 0));
 pub returns-then-not-is_layout : goal.returns-then-not-is_layout
 returns-then-not-is_layout c = record {
   outcome = (refused-layout c.args.dictionary.now c.args.layout.now c.args.fields.now c.args.message.now c.args.events.now (sym c.is_dictionary.ensures.outcome ∙ not-false _ c.if-not-is_dictionary.false-raw) (sym c.is_layout.ensures.outcome ∙ not-true _ c.if-not-is_layout.true-raw)).0;
@@ -28,18 +29,18 @@ walk_accepted-requires c = record {
   defines = (sym c.is_dictionary.ensures.outcome ∙ not-false _ c.if-not-is_dictionary.false-raw);
   passed = is_layout-passed gate_limits _ (sym c.is_layout.ensures.outcome ∙ not-false _ c.if-not-is_layout.false-raw);
   few_groups_lem = omega (arith, c.shared_slice_known-2-1.given 0);
-  table = (table_check_of-accepted _ _).0 (sym c.check_field_table.ensures.outcome ∙ c.in_default.is);
+  table = (table_check_of-accepted _ _).0 (sym c.check_field_table.ensures.outcome ∙ c.in_ok-check_field_table.was);
 }
 
-pub returns-in_default : goal.returns-in_default
-returns-in_default c = record {
-  outcome = (table-accepted c.args.dictionary.now c.args.layout.now c.args.fields.now c.args.message.now c.args.events.now (sym c.is_dictionary.ensures.outcome ∙ not-false _ c.if-not-is_dictionary.false-raw) (sym c.is_layout.ensures.outcome ∙ not-false _ c.if-not-is_layout.false-raw) _ _ (sym c.check_field_table.ensures.outcome ∙ c.in_default.is) c.walk_accepted.ensures.outcome c.walk_accepted.ensures.memory).0;
-  memory = (table-accepted c.args.dictionary.now c.args.layout.now c.args.fields.now c.args.message.now c.args.events.now (sym c.is_dictionary.ensures.outcome ∙ not-false _ c.if-not-is_dictionary.false-raw) (sym c.is_layout.ensures.outcome ∙ not-false _ c.if-not-is_layout.false-raw) _ _ (sym c.check_field_table.ensures.outcome ∙ c.in_default.is) c.walk_accepted.ensures.outcome c.walk_accepted.ensures.memory).1;
+pub returns : goal.returns
+returns c = record {
+  outcome = (table-accepted c.args.dictionary.now c.args.layout.now c.args.fields.now c.args.message.now c.args.events.now (sym c.is_dictionary.ensures.outcome ∙ not-false _ c.if-not-is_dictionary.false-raw) (sym c.is_layout.ensures.outcome ∙ not-false _ c.if-not-is_layout.false-raw) _ _ (sym c.check_field_table.ensures.outcome ∙ c.in_ok-check_field_table.was) c.walk_accepted.ensures.outcome c.walk_accepted.ensures.memory).0;
+  memory = (table-accepted c.args.dictionary.now c.args.layout.now c.args.fields.now c.args.message.now c.args.events.now (sym c.is_dictionary.ensures.outcome ∙ not-false _ c.if-not-is_dictionary.false-raw) (sym c.is_layout.ensures.outcome ∙ not-false _ c.if-not-is_layout.false-raw) _ _ (sym c.check_field_table.ensures.outcome ∙ c.in_ok-check_field_table.was) c.walk_accepted.ensures.outcome c.walk_accepted.ensures.memory).1;
 }
 
 -- pub fn walk_message(
-pub returns : goal.returns
-returns c = record {
-  outcome = (refused-table c.args.dictionary.now c.args.layout.now c.args.fields.now c.args.message.now c.args.events.now (sym c.is_dictionary.ensures.outcome ∙ not-false _ c.if-not-is_dictionary.false-raw) (sym c.is_layout.ensures.outcome ∙ not-false _ c.if-not-is_layout.false-raw) _ (sym c.check_field_table.ensures.outcome ∙ c.in-Refused.is)).0;
-  memory = (refused-table c.args.dictionary.now c.args.layout.now c.args.fields.now c.args.message.now c.args.events.now (sym c.is_dictionary.ensures.outcome ∙ not-false _ c.if-not-is_dictionary.false-raw) (sym c.is_layout.ensures.outcome ∙ not-false _ c.if-not-is_layout.false-raw) _ (sym c.check_field_table.ensures.outcome ∙ c.in-Refused.is)).1;
+pub returns-in_err-check_field_table : goal.returns-in_err-check_field_table
+returns-in_err-check_field_table c = record {
+  outcome = handed_on _ _ c.from_residual.ensures.1 ∙ (refused-table c.args.dictionary.now c.args.layout.now c.args.fields.now c.args.message.now c.args.events.now (sym c.is_dictionary.ensures.outcome ∙ not-false _ c.if-not-is_dictionary.false-raw) (sym c.is_layout.ensures.outcome ∙ not-false _ c.if-not-is_layout.false-raw) _ (sym c.check_field_table.ensures.outcome ∙ c.in_err-check_field_table.was)).0;
+  memory = (refused-table c.args.dictionary.now c.args.layout.now c.args.fields.now c.args.message.now c.args.events.now (sym c.is_dictionary.ensures.outcome ∙ not-false _ c.if-not-is_dictionary.false-raw) (sym c.is_layout.ensures.outcome ∙ not-false _ c.if-not-is_layout.false-raw) _ (sym c.check_field_table.ensures.outcome ∙ c.in_err-check_field_table.was)).1;
 }

@@ -1,9 +1,8 @@
 -- `verdicts::verdicts_call::judge_fields` meets its contract. The laws are those of specs/VerdictsLaws.antt.
 use Rattle.verdicts.specs.VerdictsLaws.{space_short, space-holds}
-use borrow.Author.Rules.{rules}
 use Rattle.verdicts.proofs.verdicts_call.judge_fields.Goals as goal
 
--- return Judged::Refused(Refusal::SpaceShort(needed as u64));
+-- return Err(Refusal::SpaceShort(needed as u64));
 pub returns-then-verdicts-needed : goal.returns-then-verdicts-needed
 returns-then-verdicts-needed c = record {
   outcome = (space_short c.args.dictionary.now c.args.fields.now c.args.message.now c.args.strict c.args.verdicts.now c.if-verdicts-needed.true).0;

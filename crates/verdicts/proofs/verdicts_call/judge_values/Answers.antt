@@ -1,14 +1,7 @@
 -- `verdicts::verdicts_call::judge_values` meets its contract. The loop's invariant is `WrittenSoFar`; the laws are those of specs/VerdictsLaws.antt.
-use Prim.Native.Nat.{◌-◌}
 use native.Mathlib.Omega.{arith}
-use Rattle.field_table.specs.FieldTable.{row_count}
-use Rattle.verdicts.specs.VerdictsLaws.{WrittenSoFar, written-begins, written-record, written-goes_on, written-ends}
-use borrow.Author.Rules.{rules}
+use Rattle.verdicts.specs.VerdictsLaws.{written-record, written-goes_on, written-ends}
 use Rattle.verdicts.proofs.verdicts_call.judge_values.Goals as goal
-
--- while index < rows {
-pub loop-index-init : goal.loop-index-init
-loop-index-init c = written-begins _ _ _ _ _
 
 -- let verdict = verdict_at(dictionary, fields, message, strict, index, number);
 pub verdict_at-verdict-requires : goal.verdict_at-verdict-requires
@@ -19,15 +12,8 @@ verdict_at-verdict-requires c = record {
   number_value = written-record _ _ _ _ _ _ _ c.loop-index.invariant c.requires.holds (omega (arith, c.loop-index-test.true));
 }
 
-pub bounds-verdicts-index-in-loop-index : goal.bounds-verdicts-index-in-loop-index
-bounds-verdicts-index-in-loop-index c = omega (arith, c.loop-index.invariant.same_length, c.requires.fields_in_bounds)
-
 pub loop-index-preserved : goal.loop-index-preserved
-loop-index-preserved c = written-goes_on _ _ _ _ _ _ _ c.loop-index.invariant _ _ (omega (arith, c.loop-index-test.true)) c.verdict_at-verdict.ensures c.verdict_word.ensures.outcome
-
--- fn judge_values(
-pub shape_of-verdicts : goal.shape_of-verdicts
-shape_of-verdicts c = c.loop-index.invariant.same_length
+loop-index-preserved c = written-goes_on _ _ _ _ _ _ _ c.loop-index.invariant _ _ (omega (arith, c.loop-index-test.true)) c.verdict_at-verdict.ensures c.from.ensures.outcome
 
 pub returns : goal.returns
 returns c = record { memory = written-ends _ _ _ _ _ _ _ c.loop-index.invariant c.requires.fields_in_bounds c.loop-index-test.false }

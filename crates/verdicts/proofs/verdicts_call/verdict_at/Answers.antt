@@ -3,18 +3,7 @@ use mathlib.Core.Path.{◌∙◌}
 use native.Mathlib.Omega.{arith}
 use Rattle.field_table.specs.FieldTableLaws.{value_at_part}
 use Rattle.verdict.specs.FieldRecordsLaws.{recorded_verdict-of}
-use borrow.Author.Rules.{rules}
 use Rattle.verdicts.proofs.verdicts_call.verdict_at.Goals as goal
-
--- check_value(dictionary, number, &message[first..past], strict)
-pub slice_bounds-check_value-count : goal.slice_bounds-check_value-count
-slice_bounds-check_value-count c = omega (arith, c.requires.accepted_table.ordered c.args.index c.requires.index_bound, c.first_at-first.ensures, c.past_at-past.ensures)
-
-pub slice_bounds-check_value-start : goal.slice_bounds-check_value-start
-slice_bounds-check_value-start c = omega (arith, c.requires.accepted_table.ordered c.args.index c.requires.index_bound, c.first_at-first.ensures, c.past_at-past.ensures)
-
-pub slice_bounds-check_value-end : goal.slice_bounds-check_value-end
-slice_bounds-check_value-end c = omega (arith, c.requires.accepted_table.inside c.args.index c.requires.index_bound, c.past_at-past.ensures)
 
 -- fn verdict_at(
 pub returns : goal.returns

@@ -1,16 +1,8 @@
 -- `verdicts::verdicts_call::write_records` meets its contract. The loop's invariant is `FilledSoFar`; the laws are those of verdict, specs/FieldRecordsLaws.antt.
-use mathlib.Core.Path.{ap, ◌∙◌}
-use Prim.Native.Nat.{◌-◌}
-use native.Mathlib.Omega.{arith}
 use Rattle.field_table.specs.FieldTable.{row_count}
-use Rattle.verdict.specs.FieldRecords.{record_of}
 use Rattle.verdict.specs.FieldRecords.{field_record}
-use Rattle.verdict.specs.FieldRecordsLaws.{FilledSoFar, filled_begins, filled_goes_on, filled_ends}
-use borrow.Author.Rules.{rules}
+use Rattle.verdict.specs.FieldRecordsLaws.{FilledSoFar}
 use Rattle.verdicts.proofs.verdicts_call.write_records.Given as goal
 
 abbrev pub invariant-loop-position : goal.invariant-loop-position
 invariant-loop-position l = FilledSoFar (field_record l.dictionary l.fields) (row_count l.fields) l.initial.verdicts l.position l.verdicts
-
-abbrev pub decreases-loop-position : goal.decreases-loop-position
-decreases-loop-position l = row_count l.fields - l.position

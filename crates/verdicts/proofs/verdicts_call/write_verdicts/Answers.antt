@@ -2,7 +2,6 @@
 use native.Mathlib.Omega.{arith}
 use Rattle.verdict.specs.FieldRecordsLaws.{filled_in-holds}
 use Rattle.verdicts.specs.VerdictsLaws.{written_over}
-use borrow.Author.Rules.{rules}
 use Rattle.verdicts.proofs.verdicts_call.write_verdicts.Goals as goal
 
 -- judge_values(dictionary, fields, message, strict, verdicts);

@@ -7,4 +7,4 @@ pub returns-in_default : goal.returns-in_default
 returns-in_default c = begun-nothing _ _ _ _ c.in_default.is c.put_event-next.ensures c.put_event.ensures
 
 pub returns : goal.returns
-returns c = begun-number _ _ _ _ _ c.in-Number.is c.put_event-next.ensures
+returns c = begun-number _ _ _ _ _ c.in-Some.is c.put_event-next.ensures

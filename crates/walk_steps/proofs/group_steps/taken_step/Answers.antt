@@ -10,8 +10,8 @@ returns-in_default c = rw (sym (c.binary_search.ensures.outcome c.requires.stric
 
 -- EntryStep::Nested(rank, tag, first + place)
 pub overflow_add-result : goal.overflow_add-result
-overflow_add-result c = omega (arith, holds_at _ _ _ _ c.in-At.is c.binary_search.ensures.there, c.requires.tags_bound)
+overflow_add-result c = omega (arith, holds_at _ _ _ _ c.in-Some.is c.binary_search.ensures.there, c.requires.tags_bound)
 
 -- fn taken_step(tags: &[u32], first: usize, rank: usize, tag: u32) -> EntryStep
 pub returns : goal.returns
-returns c = rw (sym (c.binary_search.ensures.outcome c.requires.strictly_ascending) ∙ c.in-At.is)
+returns c = rw (sym (c.binary_search.ensures.outcome c.requires.strictly_ascending) ∙ c.in-Some.is)
