@@ -2,13 +2,12 @@
 --
 --   Within read space   a file that was read has at most so many bytes
 --   bytes-within        so many, where they were read
-use Rattle.std.specs.Prelude.{◌≡◌, ℕ, ◌≤◌}
-use Rattle.files.specs.declared.file.FileRead.{FileRead}
-use Rattle.files.specs.declared.file.FileRead.TheVariants.{Bytes, Unread}
+use Rattle.std.specs.Borrow.{Bor}
+use Rattle.std.specs.Prelude.{◌≡◌, ℕ, ◌≤◌, List, length, Option, None, Some}
 
-abbrev pub Within : FileRead → ℕ → Type 0
-Within (Bytes size) space = size ≤ space
-Within Unread space = Unit {0}
+abbrev pub Within : Option (Bor (List ℕ)) → ℕ → Type 0
+Within (Some bytes) space = length bytes.now ≤ space
+Within None space = Unit {0}
 
-pub bytes_within : (read : FileRead) (space size : ℕ) → read ≡ Bytes size → Within read space → size ≤ space
-bytes_within read space size is within = rw is at within
+pub bytes_within : (read : Option (Bor (List ℕ))) (space : ℕ) (bytes : Bor (List ℕ)) → read ≡ Some bytes → Within read space → length bytes.now ≤ space
+bytes_within read space bytes is within = rw is at within

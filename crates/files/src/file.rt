@@ -1,28 +1,25 @@
 // Files, read whole into lent space.
 ghost use Rattle.files.specs.Files.{Within};
-ghost use Rattle.std.specs.Prelude.{◌≤◌, length};
+ghost use Rattle.std.specs.Prelude.{◌≤◌, length, IfOk};
 
 use std::io::Read;
 use std::rt::Files;
 use std::{fs, io};
 
-// What reading a file gives: how many bytes it has, or that it was not read.
-#[derive(Clone, Copy)]
-pub enum FileRead {
-    Bytes(usize),
-    Unread,
-}
-
-// Reads the file's first bytes, as many as there is space for: a file that fills the space may be
-// longer. What keeps it from being read is said on standard error.
-pub fn read_file<R: Files + Eprint>(rt: &R, name: &[u8], space: &mut [u8]) -> FileRead
-    ensures { Within result (length space.new) }
+// Reads the file's first bytes, as many as there is space for, and gives that part of the space: a
+// file that fills it may be longer. None where it was not read: standard error says why.
+pub fn read_file<'a, R: Files + Eprint>(
+    rt: &R,
+    name: &[u8],
+    space: &'a mut [u8],
+) -> Option<&'a [u8]>
+    ensures { Within result (length space.old) }
 {
-    match open_named(rt, name) {
-        Ok(mut file) => read_open(rt, &mut file, name, space),
+    match read_named(rt, name, space) {
+        Ok(size) => Some(&space[..size]),
         Err(error) => {
             say_unread(rt, name, error);
-            FileRead::Unread
+            None
         }
     }
 }
@@ -40,27 +37,21 @@ pub fn say_unread(rt: &impl Eprint, name: &[u8], error: io::Error) {
     let _ = eprintln!(rt; "{}: {error}", name.escape_ascii());
 }
 
-// Reads the file, which is open. A read that fails looks to `read_full` like the file's end: one
-// read more tells them apart.
-fn read_open<R: Eprint, F: Read>(rt: &R, file: &mut F, name: &[u8], space: &mut [u8]) -> FileRead
-    ensures { Within result (length space.new) }
+// Reads the file, and answers how many bytes it put at the start of the space. A read that fails
+// looks to `read_full` like the file's end: one read more tells them apart.
+fn read_named<R: Files>(rt: &R, name: &[u8], space: &mut [u8]) -> io::Result<usize>
+    ensures { IfOk result (λ size. size ≤ length space.new) }
 {
-    let size = read_full(file, space);
-    if size == space.len() {
-        return FileRead::Bytes(size);
+    let mut file = open_named(rt, name)?;
+    let size = read_full(&mut file, space);
+    if size < space.len() {
+        file.read(&mut [0u8; 1])?;
     }
-    let mut more = [0u8; 1];
-    match file.read(&mut more) {
-        Ok(_) => FileRead::Bytes(size),
-        Err(error) => {
-            say_unread(rt, name, error);
-            FileRead::Unread
-        }
-    }
+    Ok(size)
 }
 
 // Reads until the space is full, the file ends or a read fails, and answers how many bytes it put
-// at the start of the space.
+// at the start of the space. A read gives any number of bytes, so no iterator counts the turns.
 pub fn read_full<F: Read>(file: &mut F, space: &mut [u8]) -> usize
     ensures { result ≤ length space.new }
 {

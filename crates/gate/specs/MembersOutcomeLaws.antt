@@ -1,11 +1,10 @@
 -- Laws of `MembersOutcome.antt`: what the code of the call makes is the outcome, and the members handed out are the part of the words that it
 -- names. Assumes nothing.
-use Rattle.std.specs.Prelude.{◌≡◌, ℕ, ◌+◌, List, length, get_or, drop}
+use Rattle.std.specs.Prelude.{◌≡◌, ℕ, ◌+◌, List, length, get_or, drop, Ok, Err}
 use Rattle.std.proofs.Math.Path.{refl}
 use Rattle.std.proofs.Common.{ap, ◌∙◌}
 use Rattle.std.proofs.Math.ListN.{take}
 use Rattle.refusals.specs.declared.refusal.Refusal.{Refusal}
-use Rattle.levels.specs.declared.members.LevelOutcome.TheVariants.{Reached, Refused}
 use Rattle.layouts.specs.Limits.{gate_limits}
 use Rattle.layouts.specs.LayoutWords.{stretch}
 use Rattle.layouts.specs.LayoutWordsLaws.{length-stretch, stretch-part}
@@ -20,7 +19,7 @@ module _ (words path : List ℕ) where
   abbrev pub HandsOut : Outcome → Type 0
   HandsOut outcome = (outcome ≡ members_outcome words path) × (take outcome.words (drop outcome.extra words) ≡ level_part gate_limits words path)
 
-  pub hands_out_members : (members : List ℕ) (number first : ℕ) (outcome : Outcome) → level_outcome gate_limits words path ≡ Reached number
+  pub hands_out_members : (members : List ℕ) (number first : ℕ) (outcome : Outcome) → level_outcome gate_limits words path ≡ Ok number
       → members ≡ stretch words (1 + number) → first ≡ get_or words (1 + number) 0 → outcome ≡ answered_with (length members) first
       → HandsOut outcome
   unfolding members_outcome
@@ -32,6 +31,6 @@ module _ (words path : List ℕ) where
         ∙ rw (level_part-reached gate_limits words path number reached)),
   )
 
-  pub hands_out_none : (refusal : Refusal) (outcome : Outcome) → level_outcome gate_limits words path ≡ Refused refusal → outcome ≡ refused_with refusal → HandsOut outcome
+  pub hands_out_none : (refusal : Refusal) (outcome : Outcome) → level_outcome gate_limits words path ≡ Err refusal → outcome ≡ refused_with refusal → HandsOut outcome
   unfolding members_outcome
   hands_out_none refusal outcome refused same = rw same (rw refused, rw (level_part-refused gate_limits words path refusal refused))

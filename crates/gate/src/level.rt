@@ -5,7 +5,7 @@ ghost use Rattle.levels.specs.Members.{level_part};
 ghost use Rattle.gate.specs.MembersOutcome.{members_outcome};
 
 use layouts::layout_words::{stretch_at, wide};
-use levels::members::{LevelOutcome, level_of};
+use levels::members::level_of;
 use outcomes::outcome::{Outcome, answered, refused};
 
 // `words`: how many members the level has that the path of count tags leads to; `extra`: where they stand in the layout's words.
@@ -14,12 +14,12 @@ pub fn gate_level_members(layout: &[u32], path: &[u32]) -> Outcome
     ensures part { take result.words (drop result.extra layout.now) ≡ level_part gate_limits layout.now path.now }
 {
     match level_of(layout, path) {
-        LevelOutcome::Reached(level) => {
+        Ok(level) => {
             let place = 1 + level;
             let members = stretch_at(layout, place);
             let first = wide(layout[place]);
             answered(members.len(), first)
         }
-        LevelOutcome::Refused(refusal) => refused(refusal),
+        Err(refusal) => refused(refusal),
     }
 }

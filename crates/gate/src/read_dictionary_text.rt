@@ -1,17 +1,17 @@
 // Reading a dictionary text into lent words.
 ghost use Rattle.std.specs.Prelude.{◌≡◌, length};
 ghost use Rattle.read_dictionary.specs.ReadDictionary.{read_of, read_in};
-ghost use Rattle.outcomes.specs.Answers.{dictionary_outcome};
+ghost use Rattle.outcomes.specs.Answers.{words_outcome};
 
-use outcomes::answers::dictionary_outcome;
+use outcomes::answers::words_outcome;
 use outcomes::outcome::Outcome;
 use read_dictionary::read_dictionary::read_dictionary;
 
 // `words`: how many words the dictionary takes.
 pub fn gate_read_dictionary(text: &[u8], dictionary: &mut [u32]) -> Outcome
-    ensures outcome { result ≡ dictionary_outcome (read_of text.now (length dictionary.old)) }
+    ensures outcome { result ≡ words_outcome (read_of text.now (length dictionary.old)) }
     ensures memory { dictionary.new ≡ read_in text.now dictionary.old }
 {
     let read = read_dictionary(text, dictionary);
-    dictionary_outcome(read)
+    words_outcome(read)
 }

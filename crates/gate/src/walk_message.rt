@@ -1,9 +1,9 @@
 // The walk of a message on lent words.
 ghost use Rattle.std.specs.Prelude.{◌≡◌};
 ghost use Rattle.validator.specs.MessageCall.{walked_of, events_in};
-ghost use Rattle.outcomes.specs.Answers.{message_outcome};
+ghost use Rattle.outcomes.specs.Answers.{words_outcome};
 
-use outcomes::answers::message_outcome;
+use outcomes::answers::words_outcome;
 use outcomes::outcome::Outcome;
 use validator::message_call::walk_message;
 
@@ -15,9 +15,9 @@ pub fn gate_walk_message(
     message: &[u8],
     events: &mut [u64],
 ) -> Outcome
-    ensures outcome { result ≡ message_outcome (walked_of dictionary.now layout.now fields.now message.now events.old) }
+    ensures outcome { result ≡ words_outcome (walked_of dictionary.now layout.now fields.now message.now events.old) }
     ensures memory { events.new ≡ events_in dictionary.now layout.now fields.now message.now events.old }
 {
     let walked = walk_message(dictionary, layout, fields, message, events);
-    message_outcome(walked)
+    words_outcome(walked)
 }

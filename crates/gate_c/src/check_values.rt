@@ -1,7 +1,7 @@
 // The verdicts on the values of a message, on lent words.
 ghost use Rattle.std.specs.Prelude.{◌≡◌};
 ghost use Rattle.verdicts.specs.Verdicts.{judged_of, verdicts_in};
-ghost use Rattle.outcomes.specs.Answers.{verdicts_outcome};
+ghost use Rattle.outcomes.specs.Answers.{words_outcome};
 
 use outcomes::outcome::Outcome;
 
@@ -14,7 +14,7 @@ pub extern "C" fn gate_verdicts(
     strict: bool,
     verdicts: &mut [u64],
 ) -> Outcome
-    ensures outcome { result ≡ verdicts_outcome (judged_of dictionary.now fields.now message.now verdicts.old) }
+    ensures outcome { result ≡ words_outcome (judged_of dictionary.now fields.now message.now verdicts.old) }
     ensures memory { verdicts.new ≡ verdicts_in dictionary.now fields.now message.now strict verdicts.old }
 {
     gate::check_values::gate_verdicts(dictionary, fields, message, strict, verdicts)

@@ -1,7 +1,7 @@
 // The walk of a message on lent words.
 ghost use Rattle.std.specs.Prelude.{◌≡◌};
 ghost use Rattle.validator.specs.MessageCall.{walked_of, events_in};
-ghost use Rattle.outcomes.specs.Answers.{message_outcome};
+ghost use Rattle.outcomes.specs.Answers.{words_outcome};
 
 use outcomes::outcome::Outcome;
 
@@ -14,7 +14,7 @@ pub extern "C" fn gate_walk_message(
     message: &[u8],
     events: &mut [u64],
 ) -> Outcome
-    ensures outcome { result ≡ message_outcome (walked_of dictionary.now layout.now fields.now message.now events.old) }
+    ensures outcome { result ≡ words_outcome (walked_of dictionary.now layout.now fields.now message.now events.old) }
     ensures memory { events.new ≡ events_in dictionary.now layout.now fields.now message.now events.old }
 {
     gate::walk_message::gate_walk_message(dictionary, layout, fields, message, events)

@@ -1,7 +1,8 @@
 -- Laws of `ListLines.antt`: bytes written one behind the other, numerals, and how many bytes a line takes at most. Assumes nothing.
-use Rattle.std.specs.Prelude.{◌≡◌, refl, ℕ, zero, suc, ◌+◌, ◌*◌, ◌-◌, ◌/◌, ◌%◌, ◌^◌, ◌≤◌, ◌<◌, Bool, true, false, cond, List, [], ◌∷◌, ◌++◌, ltb, eqb, length, get_or, drop, set, if◌then◌else◌}
-use Rattle.std.proofs.Common.{sym, ap, ◌∙◌, arith, add-one, drop_of_length-le, length-append, length-set, lt-ltb, le-ltb, ltb-true, ltb-false, eq-eqb, ne_eqb}
-use Rattle.std.proofs.lemmas.List.Edits.{sets}
+use Rattle.std.specs.Prelude.{◌≡◌, refl, ℕ, zero, suc, ◌+◌, ◌-◌, ◌/◌, ◌%◌, ◌^◌, ◌≤◌, ◌<◌, Bool, true, false, cond, List, [], ◌∷◌, ◌++◌, ltb, eqb, length, get_or, take, drop, set, if◌then◌else◌}
+use Rattle.std.proofs.Common.{sym, ap, ◌∙◌, append_assoc, arith, drop_of_length-le, length-append, length-set, lt-ltb, le-ltb, ltb-false, ne_eqb}
+use Rattle.std.proofs.lemmas.List.Edits.{sets, sets-eq}
+use borrow.Rule.Slice.PartMut.{put_mid, Post-is}
 use Rattle.std.proofs.Math.Seq.{length-sets}
 use Rattle.ascii.specs.Bytes.{ascii}
 use Rattle.ascii.specs.BytesLaws.{drop-step}
@@ -44,31 +45,13 @@ pub room-left : {out out' : List ℕ} {at past : ℕ} {bytes : List ℕ} → Put
     → at + most + more ≤ length out → past + more ≤ length out'
 room-left put most more few room = omega (arith, put.past_is, put-length put)
 
--- ---- the loop of `put_text`
-
-pub record TextSoFar (out₀ text out : List ℕ) (at index : ℕ) : Type 0 where
-  pub within : index ≤ length text
-  pub same : length out ≡ length out₀
-  pub rest : sets out₀ at text ≡ sets out (at + index) (drop index text)
-
-pub text-begins : (out text : List ℕ) (at : ℕ) → TextSoFar out text out at 0
-text-begins out text at = let here : at + 0 ≡ at = omega arith in record { within = omega arith; same = refl; rest = rw here }
-
-module _ (out₀ text out : List ℕ) (at index : ℕ) (so_far : TextSoFar out₀ text out at index) where
-  pub text-goes_on : index < length text → TextSoFar out₀ text (set out (at + index) (get_or text index 0)) at (index + 1)
-  text-goes_on inside =
-      let next : at + (index + 1) ≡ suc (at + index) = omega arith in
-      record {
-        within = omega arith;
-        same = length-set out (at + index) (get_or text index 0) ∙ so_far.same;
-        rest = so_far.rest ∙ rw (drop-step text index inside, next);
-      }
-
-  pub text-ends : length text ≤ index → Put out₀ out at (at + index) text
-  text-ends over = record {
-    past_is = omega (arith, so_far.within);
-    out_is = sym (so_far.rest ∙ rw (drop_of_length-le text over));
-  }
+-- `out[at..past].copy_from_slice(text)`
+pub put-text_of : (out : List ℕ) (at : ℕ) (part text : List ℕ) → part ≡ text → at + length text ≤ length out
+    → Put out (put_mid at (at + length text - at) out part) at (at + length text) text
+put-text_of out at part text same room = record {
+  past_is = refl;
+  out_is = rw (same, Post-is at (at + length text) out (omega arith)) (sym (sets-eq text out at room ∙ append_assoc (take at out) text (drop (at + length text) out)));
+}
 
 -- ---- numeral_of
 
@@ -144,15 +127,54 @@ verdict_digits-at [] index inside = absurd (omega arith)
 verdict_digits-at (verdict ∷ rest) zero inside = refl
 verdict_digits-at (verdict ∷ rest) (suc index) inside = verdict_digits-at rest index (omega arith)
 
-pub digits-go_on : (out₀ verdicts out : List ℕ) (at index : ℕ) → TextSoFar out₀ (verdict_digits verdicts) out at index → index < length verdicts
-    → TextSoFar out₀ (verdict_digits verdicts) (set out (at + index) (48 + get_or verdicts index 0 % 10)) at (index + 1)
-digits-go_on out₀ verdicts out at index so_far inside =
-    rw (← verdict_digits-at verdicts index inside) (text-goes_on out₀ (verdict_digits verdicts) out at index so_far (omega (arith, verdict_digits-length verdicts)))
+-- the loop of `put_verdicts`: the digits before `index` are written
+pub record DigitsSoFar (out₀ verdicts out : List ℕ) (at index : ℕ) : Type 0 where
+  pub same : length out ≡ length out₀
+  pub rest : sets out₀ at (verdict_digits verdicts) ≡ sets out (at + index) (drop index (verdict_digits verdicts))
+
+pub digits-begin : (out verdicts : List ℕ) (at : ℕ) → DigitsSoFar out verdicts out at 0
+digits-begin out verdicts at = let here : at + 0 ≡ at = omega arith in record { same = refl; rest = rw here }
+
+module _ (out₀ verdicts out : List ℕ) (at index : ℕ) (so_far : DigitsSoFar out₀ verdicts out at index) where
+  pub digits-go_on : index < length verdicts → DigitsSoFar out₀ verdicts (set out (at + index) (48 + get_or verdicts index 0 % 10)) at (index + 1)
+  digits-go_on inside =
+      let next : at + (index + 1) ≡ suc (at + index) = omega arith in
+      let within : index < length (verdict_digits verdicts) = omega (arith, verdict_digits-length verdicts) in
+      record {
+        same = length-set out (at + index) (48 + get_or verdicts index 0 % 10) ∙ so_far.same;
+        rest = so_far.rest ∙ rw (drop-step (verdict_digits verdicts) index within, verdict_digits-at verdicts index inside, next);
+      }
+
+  pub digits-end : length verdicts ≤ index → Put out₀ out at (at + length verdicts) (verdict_digits verdicts)
+  digits-end over =
+      let past : length (verdict_digits verdicts) ≤ index = omega (arith, verdict_digits-length verdicts) in
+      record {
+        past_is = omega (arith, verdict_digits-length verdicts);
+        out_is = sym (so_far.rest ∙ rw (drop_of_length-le (verdict_digits verdicts) past));
+      }
 
 -- ---- kind_name
 
 pub put-kind_of : {out out' : List ℕ} {at past : ℕ} (kind number : ℕ) → kind ≡ number → Put out out' at past (kind_name number) → Put out out' at past (kind_name kind)
 put-kind_of kind number same put = rw same put
+
+-- the kinds are numbered from 1 to 11
+pub kind_name-other : (kind : ℕ) → (1 ≤ kind → 12 ≤ kind) → kind_name kind ≡ []
+unfolding kind_name
+kind_name-other kind other =
+    rw (
+      ne_eqb kind 1 (λ same. omega arith),
+      ne_eqb kind 2 (λ same. omega arith),
+      ne_eqb kind 3 (λ same. omega arith),
+      ne_eqb kind 4 (λ same. omega arith),
+      ne_eqb kind 5 (λ same. omega arith),
+      ne_eqb kind 6 (λ same. omega arith),
+      ne_eqb kind 7 (λ same. omega arith),
+      ne_eqb kind 8 (λ same. omega arith),
+      ne_eqb kind 9 (λ same. omega arith),
+      ne_eqb kind 10 (λ same. omega arith),
+      ne_eqb kind 11 (λ same. omega arith),
+    )
 
 name_by : (here : Bool) (name others : List ℕ) → length name ≤ 8 → length others ≤ 8 → length (if here then name else others) ≤ 8
 name_by true name others few few-others = few

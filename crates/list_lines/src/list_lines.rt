@@ -5,20 +5,17 @@ ghost use Rattle.list_lines.specs.ListLinesLaws.{Put};
 
 use refusals::refusal::{Refusal, number_of, place_of};
 
-// Writes the bytes from `at` on, and gives the place behind them.
+// Writes the bytes from `at` on, and gives the place after them.
 fn put_text(out: &mut [u8], at: usize, text: &[u8]) -> usize
     requires { at + length text.now ≤ length out.old }
     ensures { Put out.old out.new at result text.now }
 {
-    let mut index: usize = 0;
-    while index < text.len() {
-        out[at + index] = text[index];
-        index += 1;
-    }
-    at + index
+    let past = at + text.len();
+    out[at..past].copy_from_slice(text);
+    past
 }
 
-// Writes the number in decimal.
+// Writes the number in decimal. The gate has no heap, so no text is made of it: its digits go into the lent bytes.
 fn put_number(out: &mut [u8], at: usize, number: u64) -> usize
     requires { at + 20 ≤ length out.old }
     ensures { Put out.old out.new at result (numeral_of number) }
@@ -37,8 +34,8 @@ fn put_labelled(out: &mut [u8], at: usize, label: &[u8], number: u64) -> usize
     requires { at + length label.now + 20 ≤ length out.old }
     ensures { Put out.old out.new at result (labelled label.now number) }
 {
-    let behind = put_text(out, at, label);
-    put_number(out, behind, number)
+    let digits = put_text(out, at, label);
+    put_number(out, digits, number)
 }
 
 // Writes the line with the message's type and its number of fields.
@@ -47,50 +44,31 @@ pub fn put_type_line(out: &mut [u8], at: usize, message_type: &[u8], fields: u64
     ensures { Put out.old out.new at result (type_line message_type.now fields) }
 {
     let value = put_text(out, at, b"type=");
-    let behind = put_text(out, value, message_type);
-    let end = put_labelled(out, behind, b" fields=", fields);
+    let label = put_text(out, value, message_type);
+    let end = put_labelled(out, label, b" fields=", fields);
     put_text(out, end, b"\n")
 }
 
-// Writes the name of an event's kind.
+// Writes the name of an event's kind. The kind is a number here since it is read from the words of an event, as C reads them.
 fn put_kind(out: &mut [u8], at: usize, kind: u64) -> usize
     requires { at + 8 ≤ length out.old }
     ensures { Put out.old out.new at result (kind_name kind) }
 {
-    if kind == 1 {
-        return put_text(out, at, b"enter");
-    }
-    if kind == 2 {
-        return put_text(out, at, b"badcount");
-    }
-    if kind == 3 {
-        return put_text(out, at, b"delim");
-    }
-    if kind == 4 {
-        return put_text(out, at, b"repeat");
-    }
-    if kind == 5 {
-        return put_text(out, at, b"close");
-    }
-    if kind == 6 {
-        return put_text(out, at, b"miscount");
-    }
-    if kind == 7 {
-        return put_text(out, at, b"deep");
-    }
-    if kind == 8 {
-        return put_text(out, at, b"leave");
-    }
-    if kind == 9 {
-        return put_text(out, at, b"twice");
-    }
-    if kind == 10 {
-        return put_text(out, at, b"foreign");
-    }
-    if kind == 11 {
-        return put_text(out, at, b"missing");
-    }
-    at
+    let name: &[u8] = match kind {
+        1 => b"enter",
+        2 => b"badcount",
+        3 => b"delim",
+        4 => b"repeat",
+        5 => b"close",
+        6 => b"miscount",
+        7 => b"deep",
+        8 => b"leave",
+        9 => b"twice",
+        10 => b"foreign",
+        11 => b"missing",
+        _ => b"",
+    };
+    put_text(out, at, name)
 }
 
 // Writes the line of an event: at most 115 bytes.
@@ -120,12 +98,10 @@ fn put_verdicts(out: &mut [u8], at: usize, verdicts: &[u64]) -> usize
     requires { at + length verdicts.now ≤ length out.old }
     ensures { Put out.old out.new at result (verdict_digits verdicts.now) }
 {
-    let mut index: usize = 0;
-    while index < verdicts.len() {
-        out[at + index] = b'0' + (verdicts[index] % 10) as u8;
-        index += 1;
+    for (index, verdict) in verdicts.iter().enumerate() {
+        out[at + index] = b'0' + (verdict % 10) as u8;
     }
-    at + index
+    at + verdicts.len()
 }
 
 // Writes the line with one verdict digit a field.

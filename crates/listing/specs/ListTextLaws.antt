@@ -1,8 +1,8 @@
 -- Laws of `ListText.antt`: each line fits the room for lines, and the lines, one after the other, are the list. Assumes nothing.
-use Rattle.std.specs.Prelude.{◌≡◌, refl, Bool, true, false, eqb, leb, get_or, take, drop, if◌then◌else◌}
-use Rattle.std.proofs.Common.{sym, ap, ◌∙◌, length-append, length-take, length-drop}
-use Prim.Native.Nat.{ℕ, zero, suc, ◌+◌, ◌*◌, ◌-◌, ◌≤◌, ◌<◌}
-use mathlib.Core.List.{List, [], ◌∷◌, ◌++◌, append_assoc, append-nil}
+use Rattle.std.specs.Prelude.{◌≡◌, refl, Bool, true, false, eqb, leb, take, drop, if◌then◌else◌, Result, Ok, Err}
+use Rattle.std.proofs.Common.{ap, length-append, length-take, length-drop}
+use Prim.Native.Nat.{ℕ, zero, suc, ◌+◌, ◌-◌, ◌≤◌, ◌<◌}
+use mathlib.Core.List.{List, [], ◌++◌, append_assoc, append-nil}
 use native.Mathlib.Omega.{arith}
 use Rattle.std.proofs.Math.Numerals.{add-two}
 use Rattle.std.proofs.Math.ListN.{length}
@@ -13,15 +13,13 @@ use Rattle.ascii.specs.Bytes.{ascii}
 use Rattle.refusals.specs.declared.refusal.Refusal.{Refusal}
 use Rattle.refusals.specs.Refusal.{refusal_number, refusal_place}
 use Rattle.listing.specs.declared.list_text.Shape.{Shape}
-use Rattle.listing.specs.declared.list_text.Listed.{Listed}
-use Rattle.listing.specs.declared.list_text.Listed.TheVariants.{Full, Refused}
-use Rattle.list_lines.specs.ListLines.{type_line, event_line, verdict_line, refused_line}
+use Rattle.list_lines.specs.ListLines.{type_line, verdict_line, refused_line}
 use Rattle.list_lines.specs.ListLinesLaws.{Put, put-nothing, put-length, labelled-few, verdict_digits-length, event_line-few}
 use Rattle.listing.specs.ListText.{HeldShape, Held, words_line, words_lines, type_of, line_count, full_line, line_at, lines_from, printed}
 
 -- ---- what a list is printed from
 
-pub held-shape : (listed : Listed) (shape : Shape) (message events verdicts : List ℕ) → listed ≡ Full shape → Held listed message events verdicts
+pub held-shape : (listed : Result Shape Refusal) (shape : Shape) (message events verdicts : List ℕ) → listed ≡ Ok shape → Held listed message events verdicts
     → HeldShape shape message events verdicts
 held-shape listed shape message events verdicts full held = rw full at held
 
@@ -42,10 +40,6 @@ module _ (message events verdicts : List ℕ) (shape : Shape) (index : ℕ) wher
       unfolding full_line
       full_line-verdicts next = rw (ne_eqb index 0 later, lt-leb index shape.events behind, eq-eqb index (shape.events + 1) next)
 
-      -- the part that `&verdicts[0..fields]` lends
-      pub full_line-verdicts_part : index ≡ shape.events + 1 → full_line message events verdicts shape index ≡ verdict_line (take (shape.fields - 0) verdicts)
-      full_line-verdicts_part next = let all : shape.fields - 0 ≡ shape.fields = omega arith in full_line-verdicts next ∙ rw all
-
       pub full_line-none : (index ≡ shape.events + 1 → ⊥) → full_line message events verdicts shape index ≡ []
       unfolding full_line
       full_line-none other = rw (ne_eqb index 0 later, lt-leb index shape.events behind, ne_eqb index (shape.events + 1) other)
@@ -55,7 +49,7 @@ module _ (message events verdicts : List ℕ) (shape : Shape) (index : ℕ) wher
 module _ (message events verdicts : List ℕ) where
   -- the lines of the events from `index` on, then the last line
   event-lines : (shape : Shape) (left index : ℕ) → index + left ≡ shape.events
-      → lines_from message events verdicts (Full shape) (suc left) (suc index) ≡ words_lines events left index ++ verdict_line (take shape.fields verdicts)
+      → lines_from message events verdicts (Ok shape) (suc left) (suc index) ≡ words_lines events left index ++ verdict_line (take shape.fields verdicts)
   unfolding lines_from words_lines line_at
   event-lines shape zero index all =
       let last : suc index ≡ shape.events + 1 = omega arith in
@@ -66,12 +60,12 @@ module _ (message events verdicts : List ℕ) where
       rw (full_line-event message events verdicts shape (suc index) (λ none. omega arith) (omega arith), here, append_assoc)
       (ap (λ (others : List ℕ). words_line events index ++ others) deeper)
 
-  pub lines-printed : (listed : Listed) → lines_from message events verdicts listed (line_count listed) 0 ≡ printed message events verdicts listed
+  pub lines-printed : (listed : Result Shape Refusal) → lines_from message events verdicts listed (line_count listed) 0 ≡ printed message events verdicts listed
   unfolding lines_from line_at printed
-  lines-printed (Full shape) =
+  lines-printed (Ok shape) =
       rw (add-two, full_line-type message events verdicts shape 0 refl)
       (ap (λ (others : List ℕ). type_line (type_of shape message) shape.fields ++ others) (event-lines shape shape.events 0 (omega arith)))
-  lines-printed (Refused refusal) = append-nil (refused_line refusal)
+  lines-printed (Err refusal) = append-nil (refused_line refusal)
 
 -- ---- the most bytes that a line takes
 
@@ -109,17 +103,17 @@ module _ (message events verdicts : List ℕ) (index : ℕ) where
       (line-by (leb index shape.events) _ _ (omega (arith, words_line-few events (index - 1)))
       (line-by (eqb index (shape.events + 1)) _ _ (omega (arith, verdict_line-few (take shape.fields verdicts), taken, held.few_fields)) (omega arith)))
 
-  pub line_at_few : (listed : Listed) → Held listed message events verdicts → length (line_at message events verdicts listed index) ≤ 65570
+  pub line_at_few : (listed : Result Shape Refusal) → Held listed message events verdicts → length (line_at message events verdicts listed index) ≤ 65570
   unfolding line_at
-  line_at_few (Full shape) held = full_line-few shape held
-  line_at_few (Refused refusal) held = line-by (eqb index 0) (refused_line refusal) [] (omega (arith, refused_line-few refusal)) (omega arith)
+  line_at_few (Ok shape) held = full_line-few shape held
+  line_at_few (Err refusal) held = line-by (eqb index 0) (refused_line refusal) [] (omega (arith, refused_line-few refusal)) (omega arith)
 
 -- ---- the answer of `list_line`
 
 abbrev pub Handed : List ℕ → List ℕ → List ℕ → ℕ → Type 0
 Handed line out out' size = (size ≡ length line) × ((out' ≡ sets out 0 line) × (size ≤ length out'))
 
-module _ (message events verdicts : List ℕ) (listed : Listed) (index : ℕ) (held : Held listed message events verdicts) where
+module _ (message events verdicts : List ℕ) (listed : Result Shape Refusal) (index : ℕ) (held : Held listed message events verdicts) where
   handed : (out out' : List ℕ) (size : ℕ) (line : List ℕ) → 65570 ≤ length out → line_at message events verdicts listed index ≡ line
       → Put out out' 0 size line → Handed (line_at message events verdicts listed index) out out' size
   handed out out' size line room is-line put = (
@@ -127,12 +121,12 @@ module _ (message events verdicts : List ℕ) (listed : Listed) (index : ℕ) (h
     (rw is-line put.out_is, omega (arith, put.past_is, put-length put, ap length is-line, line_at_few message events verdicts index listed held)),
   )
 
-  pub hand_full : (out out' : List ℕ) (size : ℕ) (shape : Shape) → 65570 ≤ length out → listed ≡ Full shape
+  pub hand_full : (out out' : List ℕ) (size : ℕ) (shape : Shape) → 65570 ≤ length out → listed ≡ Ok shape
       → Put out out' 0 size (full_line message events verdicts shape index) → Handed (line_at message events verdicts listed index) out out' size
   unfolding line_at
   hand_full out out' size shape room full put = handed out out' size (full_line message events verdicts shape index) room (rw full) put
 
-  module _ (refusal : Refusal) (refused : listed ≡ Refused refusal) (out : List ℕ) (room : 65570 ≤ length out) where
+  module _ (refusal : Refusal) (refused : listed ≡ Err refusal) (out : List ℕ) (room : 65570 ≤ length out) where
     pub hand_refusal : (out' : List ℕ) (size : ℕ) → index ≡ 0 → Put out out' 0 size (refused_line refusal) → Handed (line_at message events verdicts listed index) out out' size
     unfolding line_at
     hand_refusal out' size first put = handed out out' size (refused_line refusal) room (rw (refused, eq-eqb index 0 first)) put

@@ -16,21 +16,19 @@ pub struct Shape {
     pub events: usize,
 }
 
-// What the calls of the gate gave: a list, or the first refusal.
-#[derive(Clone, Copy)]
-pub enum Listed {
-    Full(Shape),
-    Refused(Refusal),
-}
-
 // How many lines the list has.
-pub fn line_count(listed: Listed, message: &[u8], events: &[u64], verdicts: &[u64]) -> usize
+pub fn line_count(
+    listed: Result<Shape, Refusal>,
+    message: &[u8],
+    events: &[u64],
+    verdicts: &[u64],
+) -> usize
     requires { Held listed message.now events.now verdicts.now }
     ensures { result ≡ line_count listed }
 {
     match listed {
-        Listed::Full(shape) => shape.events + 2,
-        Listed::Refused(_) => 1,
+        Ok(shape) => shape.events + 2,
+        Err(_) => 1,
     }
 }
 
@@ -65,24 +63,22 @@ fn put_full_line(
     requires in_bounds { 65570 ≤ length out.old }
     ensures { Put out.old out.new 0 result (full_line message.now events.now verdicts.now shape index) }
 {
-    let first = shape.first;
-    let past = shape.past;
-    let fields = shape.fields;
     if index == 0 {
-        return put_type_line(out, 0, &message[first..past], fields as u64);
+        let message_type = &message[shape.first..shape.past];
+        return put_type_line(out, 0, message_type, shape.fields as u64);
     }
     if index <= shape.events {
         return put_words_line(out, events, index - 1);
     }
     if index == shape.events + 1 {
-        return put_verdict_line(out, 0, &verdicts[0..fields]);
+        return put_verdict_line(out, 0, &verdicts[..shape.fields]);
     }
     0
 }
 
-// Writes the line at `index` of the list, with its line feed, and gives the number of its bytes: none behind the last line.
+// Writes the line at `index` of the list, with its line feed, and gives the number of its bytes: none after the last line.
 pub fn list_line(
-    listed: Listed,
+    listed: Result<Shape, Refusal>,
     message: &[u8],
     events: &[u64],
     verdicts: &[u64],
@@ -96,13 +92,8 @@ pub fn list_line(
     ensures within { result ≤ length out.new }
 {
     match listed {
-        Listed::Full(shape) => put_full_line(shape, message, events, verdicts, index, out),
-        Listed::Refused(refusal) => {
-            if index == 0 {
-                put_refused_line(out, 0, refusal)
-            } else {
-                0
-            }
-        }
+        Ok(shape) => put_full_line(shape, message, events, verdicts, index, out),
+        Err(refusal) if index == 0 => put_refused_line(out, 0, refusal),
+        Err(_) => 0,
     }
 }

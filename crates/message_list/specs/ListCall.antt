@@ -9,27 +9,17 @@
 --   list_of_message ..    .. from the message text on, by a dictionary
 --   list_of ..           the whole
 --   events_of.., verdicts_of.., layout_of.., fields_of..   what the spaces hold afterwards
-use Rattle.std.specs.Prelude.{ℕ, ◌*◌, ◌/◌, false, List, length, take}
-use Rattle.read_dictionary.specs.declared.read_dictionary.Read.{Read}
-use Rattle.read_dictionary.specs.declared.read_dictionary.Read.TheVariants as read
+use Rattle.std.specs.Prelude.{ℕ, ◌*◌, ◌/◌, false, List, length, take, Result, Ok, Err}
 use Rattle.read_dictionary.specs.ReadDictionary.{read_of, read_in}
-use Rattle.validator.specs.declared.message_call.WalkedMessage.{WalkedMessage}
-use Rattle.validator.specs.declared.message_call.WalkedMessage.TheVariants as walked
 use Rattle.validator.specs.MessageCall.{walked_of, events_in}
-use Rattle.verdicts.specs.declared.verdicts_call.Judged.{Judged}
-use Rattle.verdicts.specs.declared.verdicts_call.Judged.TheVariants as judged
 use Rattle.verdicts.specs.Verdicts.{judged_of, verdicts_in}
 use Rattle.expand.specs.declared.expand_call.Expanded.{Expanded}
-use Rattle.expand.specs.declared.expand_call.Expanded.TheVariants as expanded
 use Rattle.expand.specs.ExpandCall.{expanded_of, expanded_in}
-use Rattle.message_text.specs.declared.message_text.ReadMessage.{ReadMessage}
-use Rattle.message_text.specs.declared.message_text.ReadMessage.TheVariants as message
 use Rattle.message_text.specs.declared.message_type.Stretch.{Stretch}
 use Rattle.listing.specs.declared.list_text.Shape.{Shape}
-use Rattle.listing.specs.declared.list_text.Listed.{Listed}
-use Rattle.listing.specs.declared.list_text.Listed.TheVariants.{Full, Refused}
 use Rattle.message_text.specs.MessageText.{read_message_of, fields_in}
 use Rattle.message_text.specs.MessageType.{type_place_of, part_of}
+use Rattle.refusals.specs.declared.refusal.Refusal.{Refusal}
 
 -- the type's stretch, the number of fields, and five words an event
 abbrev pub shape_of : Stretch → ℕ → ℕ → Shape
@@ -37,38 +27,38 @@ shape_of type fields words = record { first = type.first; past = type.past; fiel
 
 -- ---- verdicts, not strict
 
-abbrev pub on_judged : Judged → (ℕ → Listed) → Listed
-on_judged (judged.Done count) next = next count
-on_judged (judged.Refused refusal) next = Refused refusal
+abbrev pub on_judged : Result ℕ Refusal → (ℕ → Result Shape Refusal) → Result Shape Refusal
+on_judged (Ok count) next = next count
+on_judged (Err refusal) next = Err refusal
 
 -- ---- message walk
 
-abbrev pub on_walked : WalkedMessage → (ℕ → Listed) → Listed
-on_walked (walked.Done words) next = next words
-on_walked (walked.Refused refusal) next = Refused refusal
+abbrev pub on_walked : Result ℕ Refusal → (ℕ → Result Shape Refusal) → Result Shape Refusal
+on_walked (Ok words) next = next words
+on_walked (Err refusal) next = Err refusal
 
-abbrev pub walked_space : WalkedMessage → List ℕ → List ℕ → List ℕ
-walked_space (walked.Done words) next space = next
-walked_space (walked.Refused refusal) next space = space
+abbrev pub walked_space : Result ℕ Refusal → List ℕ → List ℕ → List ℕ
+walked_space (Ok words) next space = next
+walked_space (Err refusal) next space = space
 
 module _ (dictionary layout fields text : List ℕ) (events verdicts : List ℕ) where
-  unfoldable pub list_of_layout : Stretch → Listed
+  unfoldable pub list_of_layout : Stretch → Result Shape Refusal
   list_of_layout type =
       on_walked (walked_of dictionary layout fields text events)
-      (λ words. on_judged (judged_of dictionary fields text verdicts) (λ count. Full (shape_of type count words)))
+      (λ words. on_judged (judged_of dictionary fields text verdicts) (λ count. Ok (shape_of type count words)))
 
   unfoldable pub verdicts_of_layout : List ℕ
   verdicts_of_layout = walked_space (walked_of dictionary layout fields text events) (verdicts_in dictionary fields text false verdicts) verdicts
 
 -- ---- expansion
 
-abbrev pub on_expanded : Expanded → (ℕ → Listed) → Listed
-on_expanded (expanded.Done nodes words) next = next words
-on_expanded (expanded.Refused refusal) next = Refused refusal
+abbrev pub on_expanded : Result Expanded Refusal → (ℕ → Result Shape Refusal) → Result Shape Refusal
+on_expanded (Ok expanded) next = next expanded.words
+on_expanded (Err refusal) next = Err refusal
 
-abbrev pub expanded_space : Expanded → (ℕ → List ℕ) → List ℕ → List ℕ
-expanded_space (expanded.Done nodes words) next space = next words
-expanded_space (expanded.Refused refusal) next space = space
+abbrev pub expanded_space : Result Expanded Refusal → (ℕ → List ℕ) → List ℕ → List ℕ
+expanded_space (Ok expanded) next space = next expanded.words
+expanded_space (Err refusal) next space = space
 
 -- "type from the first 35, else empty"
 abbrev pub type_of_fields : List ℕ → List ℕ → List ℕ
@@ -82,7 +72,7 @@ module _ (dictionary fields text : List ℕ) (layout events verdicts : List ℕ)
   abbrev layout_of_type : ℕ → List ℕ
   layout_of_type words = layout_written dictionary (type_of_fields fields text) layout words
 
-  unfoldable pub list_of_fields : Listed
+  unfoldable pub list_of_fields : Result Shape Refusal
   list_of_fields =
       on_expanded (expanded_of dictionary (type_of_fields fields text) (length layout))
       (λ words. list_of_layout dictionary (layout_of_type words) fields text events verdicts (type_place_of fields))
@@ -97,20 +87,20 @@ module _ (dictionary fields text : List ℕ) (layout events verdicts : List ℕ)
 
 -- ---- msg.txt
 
-abbrev pub on_fields : ReadMessage → (ℕ → Listed) → Listed
-on_fields (message.Fields count) next = next count
-on_fields (message.Refused refusal) next = Refused refusal
+abbrev pub on_fields : Result ℕ Refusal → (ℕ → Result Shape Refusal) → Result Shape Refusal
+on_fields (Ok count) next = next count
+on_fields (Err refusal) next = Err refusal
 
-abbrev pub fields_space : ReadMessage → (ℕ → List ℕ) → List ℕ → List ℕ
-fields_space (message.Fields count) next space = next count
-fields_space (message.Refused refusal) next space = space
+abbrev pub fields_space : Result ℕ Refusal → (ℕ → List ℕ) → List ℕ → List ℕ
+fields_space (Ok count) next space = next count
+fields_space (Err refusal) next space = space
 
 -- the words that the message's fields were written in
 abbrev pub table_written : List ℕ → List ℕ → ℕ → List ℕ
 table_written text fields count = take (3 * count) (fields_in text fields)
 
 module _ (dictionary text : List ℕ) (layout fields events verdicts : List ℕ) where
-  unfoldable pub list_of_message : Listed
+  unfoldable pub list_of_message : Result Shape Refusal
   list_of_message = on_fields (read_message_of text (length fields)) (λ count. list_of_fields dictionary (table_written text fields count) text layout events verdicts)
 
   unfoldable pub layout_of_message : List ℕ
@@ -124,20 +114,20 @@ module _ (dictionary text : List ℕ) (layout fields events verdicts : List ℕ)
 
 -- ---- dictionary text
 
-abbrev pub on_read : Read → (ℕ → Listed) → Listed
-on_read (read.Written size) next = next size
-on_read (read.Refused refusal) next = Refused refusal
+abbrev pub on_read : Result ℕ Refusal → (ℕ → Result Shape Refusal) → Result Shape Refusal
+on_read (Ok size) next = next size
+on_read (Err refusal) next = Err refusal
 
-abbrev pub read_space : Read → (ℕ → List ℕ) → List ℕ → List ℕ
-read_space (read.Written size) next space = next size
-read_space (read.Refused refusal) next space = space
+abbrev pub read_space : Result ℕ Refusal → (ℕ → List ℕ) → List ℕ → List ℕ
+read_space (Ok size) next space = next size
+read_space (Err refusal) next space = space
 
 -- the words that the dictionary was written in
 abbrev pub dictionary_written : List ℕ → List ℕ → ℕ → List ℕ
 dictionary_written dictionary_text words size = take size (read_in dictionary_text words)
 
 module _ (dictionary_text text : List ℕ) (words layout fields events verdicts : List ℕ) where
-  unfoldable pub list_of : Listed
+  unfoldable pub list_of : Result Shape Refusal
   list_of = on_read (read_of dictionary_text (length words)) (λ size. list_of_message (dictionary_written dictionary_text words size) text layout fields events verdicts)
 
   unfoldable pub layout_of : List ℕ

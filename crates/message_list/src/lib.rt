@@ -1,4 +1,4 @@
-// The list of one message in full: the calls of the gate, one behind the other (document 01, 'One list in full').
+// The list of one message in full: the calls of the gate, one after the other (document 01, 'One list in full').
 #![tactic(auto)]
 
 pub mod list;

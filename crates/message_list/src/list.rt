@@ -1,24 +1,24 @@
-// The list of one message: the calls of the gate, one behind the other (document 01, 'One list in full').
-ghost use Rattle.std.specs.Prelude.{◌≡◌, false, ◌≤◌, length};
+// The list of one message: the calls of the gate, one after the other (document 01, 'One list in full').
+ghost use Rattle.std.specs.Prelude.{◌≡◌, false, ◌≤◌, length, Ok};
 ghost use Rattle.read_dictionary.specs.ReadDictionary.{read_in};
 ghost use Rattle.validator.specs.MessageCall.{events_in};
 ghost use Rattle.verdicts.specs.Verdicts.{judged_of, verdicts_in};
-ghost use Rattle.listing.specs.declared.list_text.Listed.TheVariants.{Full};
 ghost use Rattle.expand.specs.ExpandCall.{expanded_in};
 ghost use Rattle.message_text.specs.MessageText.{fields_in};
 ghost use Rattle.message_text.specs.MessageType.{type_place_of};
 ghost use Rattle.listing.specs.ListText.{Held};
 ghost use Rattle.message_list.specs.ListCall.{shape_of, on_judged, list_of_layout, verdicts_of_layout, type_of_fields, list_of_fields, events_of_fields, verdicts_of_fields, list_of_message, layout_of_message, events_of_message, verdicts_of_message, list_of, layout_of, fields_of, events_of, verdicts_of};
 
-use expand::expand_call::{Expanded, expand};
-use listing::list_text::{Listed, Shape};
-use message_text::message_text::{ReadMessage, read_message};
+use expand::expand_call::expand;
+use listing::list_text::Shape;
+use message_text::message_text::read_message;
 use message_text::message_type::{Stretch, message_type};
-use read_dictionary::read_dictionary::{Read, read_dictionary};
-use validator::message_call::{WalkedMessage, walk_message};
-use verdicts::verdicts_call::{Judged, check_values};
+use read_dictionary::read_dictionary::read_dictionary;
+use refusals::refusal::Refusal;
+use validator::message_call::walk_message;
+use verdicts::verdicts_call::check_values;
 
-// The verdicts, behind a walk that wrote so many words of events.
+// The verdicts, after a walk that wrote so many words of events.
 fn list_verdicts(
     dictionary: &[u32],
     fields: &[u32],
@@ -26,19 +26,17 @@ fn list_verdicts(
     message_type: Stretch,
     event_words: usize,
     verdicts: &mut [u64],
-) -> Listed
-    ensures outcome { result ≡ on_judged (judged_of dictionary.now fields.now message.now verdicts.old) (λ count. Full (shape_of message_type count event_words)) }
+) -> Result<Shape, Refusal>
+    ensures outcome { result ≡ on_judged (judged_of dictionary.now fields.now message.now verdicts.old) (λ count. Ok (shape_of message_type count event_words)) }
     ensures memory { verdicts.new ≡ verdicts_in dictionary.now fields.now message.now false verdicts.old }
 {
-    match check_values(dictionary, fields, message, false, verdicts) {
-        Judged::Done { words } => Listed::Full(Shape {
-            first: message_type.first,
-            past: message_type.past,
-            fields: words,
-            events: event_words / 5,
-        }),
-        Judged::Refused(refusal) => Listed::Refused(refusal),
-    }
+    let words = check_values(dictionary, fields, message, false, verdicts)?;
+    Ok(Shape {
+        first: message_type.first,
+        past: message_type.past,
+        fields: words,
+        events: event_words / 5,
+    })
 }
 
 // The message walk, then the verdicts.
@@ -50,22 +48,13 @@ fn list_events(
     message_type: Stretch,
     events: &mut [u64],
     verdicts: &mut [u64],
-) -> Listed
+) -> Result<Shape, Refusal>
     ensures outcome { result ≡ list_of_layout dictionary.now layout.now fields.now message.now events.old verdicts.old message_type }
     ensures events { events.new ≡ events_in dictionary.now layout.now fields.now message.now events.old }
     ensures verdicts { verdicts.new ≡ verdicts_of_layout dictionary.now layout.now fields.now message.now events.old verdicts.old }
 {
-    match walk_message(dictionary, layout, fields, message, events) {
-        WalkedMessage::Done { words } => list_verdicts(
-            dictionary,
-            fields,
-            message,
-            message_type,
-            words,
-            verdicts,
-        ),
-        WalkedMessage::Refused(refusal) => Listed::Refused(refusal),
-    }
+    let words = walk_message(dictionary, layout, fields, message, events)?;
+    list_verdicts(dictionary, fields, message, message_type, words, verdicts)
 }
 
 // The expansion of the message's type, then the walk and the verdicts. The type stands inside the message.
@@ -76,7 +65,7 @@ fn list_fields(
     layout: &mut [u32],
     events: &mut [u64],
     verdicts: &mut [u64],
-) -> Listed
+) -> Result<Shape, Refusal>
     requires { ((type_place_of fields.now).first ≤ (type_place_of fields.now).past) × ((type_place_of fields.now).past ≤ length message.now) }
     ensures outcome { result ≡ list_of_fields dictionary.now fields.now message.now layout.old events.old verdicts.old }
     ensures layout { layout.new ≡ expanded_in dictionary.now (type_of_fields fields.now message.now) layout.old }
@@ -86,18 +75,17 @@ fn list_fields(
     let part = message_type(fields);
     let first = part.first;
     let past = part.past;
-    match expand(dictionary, &message[first..past], layout) {
-        Expanded::Done { nodes: _, words } => list_events(
-            dictionary,
-            &layout[0..words],
-            fields,
-            message,
-            part,
-            events,
-            verdicts,
-        ),
-        Expanded::Refused(refusal) => Listed::Refused(refusal),
-    }
+    let expanded = expand(dictionary, &message[first..past], layout)?;
+    let words = expanded.words;
+    list_events(
+        dictionary,
+        &layout[0..words],
+        fields,
+        message,
+        part,
+        events,
+        verdicts,
+    )
 }
 
 // The message text, then what its fields are for.
@@ -108,27 +96,23 @@ fn list_message(
     fields: &mut [u32],
     events: &mut [u64],
     verdicts: &mut [u64],
-) -> Listed
+) -> Result<Shape, Refusal>
     ensures outcome { result ≡ list_of_message dictionary.now message.now layout.old fields.old events.old verdicts.old }
     ensures layout { layout.new ≡ layout_of_message dictionary.now message.now layout.old fields.old events.old verdicts.old }
     ensures fields { fields.new ≡ fields_in message.now fields.old }
     ensures events { events.new ≡ events_of_message dictionary.now message.now layout.old fields.old events.old verdicts.old }
     ensures verdicts { verdicts.new ≡ verdicts_of_message dictionary.now message.now layout.old fields.old events.old verdicts.old }
 {
-    match read_message(message, fields) {
-        ReadMessage::Fields(count) => {
-            let size = 3 * count;
-            list_fields(
-                dictionary,
-                &fields[0..size],
-                message,
-                layout,
-                events,
-                verdicts,
-            )
-        }
-        ReadMessage::Refused(refusal) => Listed::Refused(refusal),
-    }
+    let count = read_message(message, fields)?;
+    let size = 3 * count;
+    list_fields(
+        dictionary,
+        &fields[0..size],
+        message,
+        layout,
+        events,
+        verdicts,
+    )
 }
 
 // The list of a message by a dictionary text, each call lent its space: dictionary words, layout words, field table, event words, verdicts.
@@ -140,7 +124,7 @@ pub fn list(
     fields: &mut [u32],
     events: &mut [u64],
     verdicts: &mut [u64],
-) -> Listed
+) -> Result<Shape, Refusal>
     ensures outcome { result ≡ list_of dictionary_text.now message.now words.old layout.old fields.old events.old verdicts.old }
     ensures words { words.new ≡ read_in dictionary_text.now words.old }
     ensures layout { layout.new ≡ layout_of dictionary_text.now message.now words.old layout.old fields.old events.old verdicts.old }
@@ -149,15 +133,6 @@ pub fn list(
     ensures verdicts { verdicts.new ≡ verdicts_of dictionary_text.now message.now words.old layout.old fields.old events.old verdicts.old }
     ensures held { Held result message.now events.new verdicts.new }
 {
-    match read_dictionary(dictionary_text, words) {
-        Read::Written(size) => list_message(
-            &words[0..size],
-            message,
-            layout,
-            fields,
-            events,
-            verdicts,
-        ),
-        Read::Refused(refusal) => Listed::Refused(refusal),
-    }
+    let size = read_dictionary(dictionary_text, words)?;
+    list_message(&words[0..size], message, layout, fields, events, verdicts)
 }

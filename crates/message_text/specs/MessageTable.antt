@@ -6,30 +6,22 @@
 --   table-written                       the words that `read_message` wrote are the table
 --   type-says, type-inside              the stretch of the type holds the value of the first 35, and lies in the text
 use Rattle.std.proofs.Math.Path.{◌≡◌}
-use Rattle.std.specs.Prelude.{refl, Bool, true, false, List, [], ◌∷◌, ◌++◌, eqb, leb, ltb, take, drop, if◌then◌else◌}
-use Rattle.std.proofs.Common.{sym, ap, ◌∙◌, append_assoc, arith, length-append, length-drop, take_at, ltb-false}
+use Rattle.std.specs.Prelude.{refl, Bool, true, false, List, [], ◌∷◌, ◌++◌, eqb, leb, ltb, take, drop, if◌then◌else◌, Option, Some, None, Result, Ok, Err}
+use Rattle.std.proofs.Common.{◌∙◌, append_assoc, arith, length-append, length-drop, take_at, ltb-false}
 use Prim.Native.Nat.{ℕ, zero, suc, ◌+◌, ◌*◌, ◌-◌, ◌≤◌, ◌<◌}
 use Rattle.std.proofs.Math.ListN.{length}
 use Rattle.std.proofs.Math.Seq.{drop-append-add}
 use Rattle.std.proofs.lemmas.List.{drop-append-le}
 use Rattle.ascii.specs.Bytes.{non_empty}
-use Rattle.refusals.specs.declared.refusal.Refusal.TheVariants.{TextTooLong, UnknownForm, SpaceShort}
-use Rattle.lines.specs.declared.line_parts.Number32.TheVariants.{Number}
-use Rattle.lines.specs.Lines.{position_of, before, behind, Pieces, last, piece, lines_of, line_feed}
-use Rattle.lines.specs.LineParts.{number_of}
-use Rattle.field_table.specs.declared.field_table.TableCheck.TheVariants as table
-use Rattle.field_table.specs.FieldTable.{row_count, tag_of, first_of, past_of, table_check_of}
-use Rattle.field_table.specs.FieldTableLaws.{AcceptedTable}
+use Rattle.refusals.specs.declared.refusal.Refusal.TheVariants.{TextTooLong, UnknownForm, BadField, SpaceShort}
+use Rattle.lines.specs.Lines.{position_of, behind, Pieces, last, piece, lines_of, line_feed}
+use Rattle.field_table.specs.FieldTable.{row_count, table_check_of}
 use Rattle.field_table.specs.FieldTableLaws.{table_check_of-accepted, table_check_of-many}
-use Rattle.message_text.specs.declared.message_text.FieldLine.{FieldLine}
-use Rattle.message_text.specs.declared.message_text.FieldLine.TheVariants.{Field, NoField}
-use Rattle.message_text.specs.declared.message_text.ReadMessage.{ReadMessage}
-use Rattle.message_text.specs.declared.message_text.ReadMessage.TheVariants.{Fields, Refused}
-use Rattle.message_text.specs.declared.message_type.Stretch.{Stretch}
 use Rattle.message_text.specs.MessageText.{equals_sign, field_line_of, rows_with, rows_from, table_of, on_field, count_from, message_text_of, space_answer, space_with, read_message_of, fields_in}
 use Rattle.message_text.specs.TableSays.{line_at, RowSays, TypeSays}
 use Rattle.message_text.specs.MessageTextLaws.{Says, field_line_of-says, joined, joined-lines, count_from-last, table_of_length, table_of_few}
-use Rattle.message_text.specs.MessageType.{stretch, type_tag, type_place_of, part_of, type_with, type_in}
+use Rattle.message_text.specs.MessageType.{stretch, type_tag, type_place_of, type_with, type_in}
+use Rattle.refusals.specs.declared.refusal.Refusal.{Refusal}
 
 -- ---- the value of a line, where the text has `prior` before the line and `rest` behind it
 
@@ -76,22 +68,22 @@ later-row table text line tag first past position row =
     }
 
 module _ (line : List ℕ) (others : Pieces) (prior : List ℕ) (count total : ℕ) where
-  row_by : (field : FieldLine) → field_line_of line ≡ field
-      → on_field field (count_from (count + 1) others) (Refused (UnknownForm (count + 1))) ≡ Fields total
-      → ((position : ℕ) → count_from (count + 1) others ≡ Fields total → count + 1 + position < total
+  row_by : (field : Option (ℕ × ℕ)) → field_line_of line ≡ field
+      → on_field field (count_from (count + 1) others) (Err (UnknownForm (count + 1))) ≡ Ok total
+      → ((position : ℕ) → count_from (count + 1) others ≡ Ok total → count + 1 + position < total
       → RowSays (rows_from (length prior + length line + 1) others) (prior ++ (line ++ (line_feed ∷ joined others))) (line_at position others) position)
       → (position : ℕ) → count + position < total
       → RowSays (rows_with (length prior) (length prior + length line) field (rows_from (length prior + length line + 1) others)) (prior ++ (line ++ (line_feed ∷ joined others)))
       (line_at position (piece line others)) position
   unfolding line_at
-  row_by NoField says refused deeper position below = let zero_one : ◌≡◌ {A = ℕ} 0 1 = cc in absurd (omega arith)
-  row_by (Field tag value) says accepted deeper zero below =
+  row_by None says refused deeper position below = let zero_one : ◌≡◌ {A = ℕ} 0 1 = cc in absurd (omega arith)
+  row_by (Some (tag, value)) says accepted deeper zero below =
       first-row prior line (line_feed ∷ joined others) (rows_from (length prior + length line + 1) others) tag value (field_line_of-says line tag value says)
-  row_by (Field tag value) says accepted deeper (suc position) below =
+  row_by (Some (tag, value)) says accepted deeper (suc position) below =
       later-row (rows_from (length prior + length line + 1) others) (prior ++ (line ++ (line_feed ∷ joined others))) (line_at position others)
       tag (length prior + value) (length prior + length line) position (deeper position accepted (omega arith))
 
-rows_say : (lines : Pieces) (prior : List ℕ) (count total : ℕ) → count_from count lines ≡ Fields total
+rows_say : (lines : Pieces) (prior : List ℕ) (count total : ℕ) → count_from count lines ≡ Ok total
     → (position : ℕ) → count + position < total
     → RowSays (rows_from (length prior) lines) (prior ++ joined lines) (line_at position lines) position
 unfolding count_from rows_from joined
@@ -116,18 +108,18 @@ module _ (line : List ℕ) (others : Pieces) (prior : List ℕ) (count total : �
   }
   type-choice false tag value rows says deeper = deeper
 
-  type-by : (field : FieldLine) → field_line_of line ≡ field
-      → on_field field (count_from (count + 1) others) (Refused (UnknownForm (count + 1))) ≡ Fields total
-      → (count_from (count + 1) others ≡ Fields total
+  type-by : (field : Option (ℕ × ℕ)) → field_line_of line ≡ field
+      → on_field field (count_from (count + 1) others) (Err (UnknownForm (count + 1))) ≡ Ok total
+      → (count_from (count + 1) others ≡ Ok total
       → TypeSays (type_place_of (rows_from (length prior + length line + 1) others)) (prior ++ (line ++ (line_feed ∷ joined others))) (type_in others))
       → TypeSays (type_place_of (rows_with (length prior) (length prior + length line) field (rows_from (length prior + length line + 1) others)))
       (prior ++ (line ++ (line_feed ∷ joined others))) (type_with line field (type_in others))
   unfolding type_place_of
-  type-by NoField says refused deeper = let zero_one : ◌≡◌ {A = ℕ} 0 1 = cc in absurd (omega arith)
-  type-by (Field tag value) says accepted deeper =
+  type-by None says refused deeper = let zero_one : ◌≡◌ {A = ℕ} 0 1 = cc in absurd (omega arith)
+  type-by (Some (tag, value)) says accepted deeper =
       type-choice (eqb tag type_tag) tag value (rows_from (length prior + length line + 1) others) (field_line_of-says line tag value says) (deeper accepted)
 
-type-rows : (lines : Pieces) (prior : List ℕ) (count total : ℕ) → count_from count lines ≡ Fields total
+type-rows : (lines : Pieces) (prior : List ℕ) (count total : ℕ) → count_from count lines ≡ Ok total
     → TypeSays (type_place_of (rows_from (length prior) lines)) (prior ++ joined lines) (type_in lines)
 unfolding count_from rows_from joined type_place_of type_in
 type-rows (last bytes) prior count total accepted = record { holds = refl; ordered = omega arith; inside = omega arith }
@@ -138,17 +130,17 @@ type-rows (piece line others) prior count total accepted =
 -- ---- an accepted text
 
 accepted-by : (text : List ℕ) (count : ℕ) (long : Bool) → ltb 65536 (length text) ≡ long
-    → (if long then Refused TextTooLong else count_from 0 (lines_of text)) ≡ Fields count
-    → (count_from 0 (lines_of text) ≡ Fields count) × (length text ≤ 65536)
+    → (if long then Err TextTooLong else count_from 0 (lines_of text)) ≡ Ok count
+    → (count_from 0 (lines_of text) ≡ Ok count) × (length text ≤ 65536)
 accepted-by text count true test refused = let zero_one : ◌≡◌ {A = ℕ} 0 1 = cc in absurd (omega arith)
 accepted-by text count false test accepted = (accepted, ltb-false 65536 (length text) test)
 
-pub accepted-text : (text : List ℕ) (count : ℕ) → message_text_of text ≡ Fields count → (count_from 0 (lines_of text) ≡ Fields count) × (length text ≤ 65536)
+pub accepted-text : (text : List ℕ) (count : ℕ) → message_text_of text ≡ Ok count → (count_from 0 (lines_of text) ≡ Ok count) × (length text ≤ 65536)
 unfolding message_text_of
 accepted-text text count accepted = accepted-by text count (ltb 65536 (length text)) refl accepted
 
-module _ (text : List ℕ) (count : ℕ) (accepted : message_text_of text ≡ Fields count) where
-  counted : count_from 0 (lines_of text) ≡ Fields count
+module _ (text : List ℕ) (count : ℕ) (accepted : message_text_of text ≡ Ok count) where
+  counted : count_from 0 (lines_of text) ≡ Ok count
   counted = (accepted-text text count accepted).0
 
   pub table-length : length (table_of text) ≡ 3 * count
@@ -166,7 +158,7 @@ module _ (text : List ℕ) (count : ℕ) (accepted : message_text_of text ≡ Fi
   table-says position below = rw joined-lines at (rows_say (lines_of text) [] 0 count counted position (omega arith))
 
   -- row 12 finds nothing
-  pub table-accepted : count ≤ 4096 → table_check_of (table_of text) (length text) ≡ table.Accepted
+  pub table-accepted : count ≤ 4096 → table_check_of (table_of text) (length text) ≡ Ok tt
   table-accepted few =
       (table_check_of-accepted (table_of text) (length text)).1 (record {
         threes = omega (arith, table-length);
@@ -176,7 +168,7 @@ module _ (text : List ℕ) (count : ℕ) (accepted : message_text_of text ≡ Fi
       })
 
   -- "over 4,096 fields": 12, place 0
-  pub table-many : 4096 < count → table_check_of (table_of text) (length text) ≡ table.Refused 0
+  pub table-many : 4096 < count → table_check_of (table_of text) (length text) ≡ Err (BadField 0)
   table-many many = table_check_of-many (table_of text) (length text) (omega (arith, table-length)) (omega (arith, table-rows))
 
   -- "type from the first 35, else empty"
@@ -185,17 +177,17 @@ module _ (text : List ℕ) (count : ℕ) (accepted : message_text_of text ≡ Fi
 
 -- ---- the words that were lent
 
-written-by : (read : ReadMessage) (table words : List ℕ) (count : ℕ) → ((total : ℕ) → read ≡ Fields total → length table ≡ 3 * total)
-    → space_answer read (length words) ≡ Fields count → (read ≡ Fields count) × (take (3 * count) (space_with read table words) ≡ table)
-written-by (Refused refusal) table words count size refused = let zero_one : ◌≡◌ {A = ℕ} 0 1 = cc in absurd (omega arith)
-written-by (Fields total) table words count size answered = go (leb (3 * total) (length words)) answered
+written-by : (read : Result ℕ Refusal) (table words : List ℕ) (count : ℕ) → ((total : ℕ) → read ≡ Ok total → length table ≡ 3 * total)
+    → space_answer read (length words) ≡ Ok count → (read ≡ Ok count) × (take (3 * count) (space_with read table words) ≡ table)
+written-by (Err refusal) table words count size refused = let zero_one : ◌≡◌ {A = ℕ} 0 1 = cc in absurd (omega arith)
+written-by (Ok total) table words count size answered = go (leb (3 * total) (length words)) answered
   where
-    go : (fits : Bool) → (if fits then Fields total else Refused (SpaceShort (3 * total))) ≡ Fields count
-        → (Fields total ≡ Fields count) × (take (3 * count) (if fits then table ++ drop (3 * total) words else words) ≡ table)
+    go : (fits : Bool) → (if fits then Ok total else Err (SpaceShort (3 * total))) ≡ Ok count
+        → (◌≡◌ {A = Result ℕ Refusal} (Ok total) (Ok count)) × (take (3 * count) (if fits then table ++ drop (3 * total) words else words) ≡ table)
     go false short = let zero_one : ◌≡◌ {A = ℕ} 0 1 = cc in absurd (omega arith)
     go true same = let is-count : total ≡ count = cc in (same, take_at table (drop (3 * total) words) (3 * count) (omega (arith, size total refl)))
 
-pub table-written : (text words : List ℕ) (count : ℕ) → read_message_of text (length words) ≡ Fields count
-    → (message_text_of text ≡ Fields count) × (take (3 * count) (fields_in text words) ≡ table_of text)
+pub table-written : (text words : List ℕ) (count : ℕ) → read_message_of text (length words) ≡ Ok count
+    → (message_text_of text ≡ Ok count) × (take (3 * count) (fields_in text words) ≡ table_of text)
 unfolding read_message_of fields_in
 table-written text words count answered = written-by (message_text_of text) (table_of text) words count (table-length text) answered

@@ -1,12 +1,11 @@
 -- `MessageText.antt` on small texts: document 01's example, values with `=` and without bytes, and lines of another form. Assumes nothing.
-use Rattle.std.specs.Prelude.{◌≡◌, refl, ℕ, ◌+◌, List, [], ◌∷◌, ◌++◌}
+use Rattle.std.specs.Prelude.{◌≡◌, refl, ℕ, List, [], ◌∷◌, ◌++◌, Ok, Err}
 use Rattle.ascii.specs.Notation.{is_between}
 use Rattle.ascii.specs.Bytes.{ascii, non_empty, every}
 use Rattle.ascii.specs.Digits.{is_digits, decimal_from}
 use Rattle.refusals.specs.declared.refusal.Refusal.TheVariants.{UnknownForm}
 use Rattle.lines.specs.Lines.{position_of, longer, cut}
 use Rattle.lines.specs.LineParts.{no_leading_zero, number_of}
-use Rattle.message_text.specs.declared.message_text.ReadMessage.TheVariants.{Fields, Refused}
 use Rattle.message_text.specs.MessageText.{field_line_of, rows_from, table_of, count_from, message_text_of}
 
 -- a line with its line feed
@@ -17,7 +16,7 @@ ended line = line ++ (10 ∷ [])
 abbrev pub worked : List ℕ
 worked = ended (ascii "35=D") ++ ended (ascii "453=2") ++ ended (ascii "448=A") ++ ended (ascii "447=D") ++ ended (ascii "448=B")
 
-pub worked-fields : message_text_of worked ≡ Fields 5
+pub worked-fields : message_text_of worked ≡ Ok 5
 unfolding position_of longer cut is_between non_empty every is_digits decimal_from no_leading_zero number_of field_line_of count_from message_text_of
 worked-fields = refl
 
@@ -30,30 +29,30 @@ pub values : table_of (ended (ascii "58==a=") ++ ended (ascii "0=")) ≡ 58 ∷ 
 unfolding position_of longer cut is_between non_empty every is_digits decimal_from no_leading_zero number_of field_line_of rows_from
 values = refl
 
-pub no_fields : message_text_of [] ≡ Fields 0
+pub no_fields : message_text_of [] ≡ Ok 0
 unfolding position_of longer cut is_between non_empty every is_digits decimal_from no_leading_zero number_of field_line_of count_from message_text_of
 no_fields = refl
 
-pub no_line_feed : message_text_of (ended (ascii "35=D") ++ ascii "58=a") ≡ Refused (UnknownForm 2)
+pub no_line_feed : message_text_of (ended (ascii "35=D") ++ ascii "58=a") ≡ Err (UnknownForm 2)
 unfolding position_of longer cut is_between non_empty every is_digits decimal_from no_leading_zero number_of field_line_of count_from message_text_of
 no_line_feed = refl
 
-pub leading_zero : message_text_of (ended (ascii "035=D") ++ ended (ascii "58")) ≡ Refused (UnknownForm 1)
+pub leading_zero : message_text_of (ended (ascii "035=D") ++ ended (ascii "58")) ≡ Err (UnknownForm 1)
 unfolding position_of longer cut is_between non_empty every is_digits decimal_from no_leading_zero number_of field_line_of count_from message_text_of
 leading_zero = refl
 
-pub no_equals_sign : message_text_of (ended (ascii "35=D") ++ ended (ascii "58")) ≡ Refused (UnknownForm 2)
+pub no_equals_sign : message_text_of (ended (ascii "35=D") ++ ended (ascii "58")) ≡ Err (UnknownForm 2)
 unfolding position_of longer cut is_between non_empty every is_digits decimal_from no_leading_zero number_of field_line_of count_from message_text_of
 no_equals_sign = refl
 
-pub no_tag : message_text_of (ended (ascii "=D")) ≡ Refused (UnknownForm 1)
+pub no_tag : message_text_of (ended (ascii "=D")) ≡ Err (UnknownForm 1)
 unfolding position_of longer cut is_between non_empty every is_digits decimal_from no_leading_zero number_of field_line_of count_from message_text_of
 no_tag = refl
 
-pub empty_line : message_text_of (ended []) ≡ Refused (UnknownForm 1)
+pub empty_line : message_text_of (ended []) ≡ Err (UnknownForm 1)
 unfolding position_of longer cut is_between non_empty every is_digits decimal_from no_leading_zero number_of field_line_of count_from message_text_of
 empty_line = refl
 
-pub large_tag : message_text_of (ended (ascii "4294967295=") ++ ended (ascii "4294967296=")) ≡ Refused (UnknownForm 2)
+pub large_tag : message_text_of (ended (ascii "4294967295=") ++ ended (ascii "4294967296=")) ≡ Err (UnknownForm 2)
 unfolding position_of longer cut is_between non_empty every is_digits decimal_from no_leading_zero number_of field_line_of count_from message_text_of
 large_tag = refl

@@ -1,6 +1,7 @@
 -- Laws of `MessageText.antt`, in its order: what a line says, the loops over the lines of a text, and how many words the table has. The lines still to be
 -- read are those of `drop first text`; a search for the line feed from `first` on stopped at `past`. Assumes nothing.
-use Rattle.std.specs.Prelude.{◌≡◌, ℕ, zero, suc, ◌+◌, ◌*◌, ◌-◌, ◌≤◌, ◌<◌, Bool, true, false, List, [], ◌∷◌, ◌++◌, eqb, take, drop, if◌then◌else◌}
+use Rattle.std.specs.Prelude.{◌≡◌, ℕ, zero, suc, ◌+◌, ◌*◌, ◌-◌, ◌≤◌, ◌<◌, Bool, true, false, List, [], ◌∷◌, ◌++◌, eqb, take, drop, if◌then◌else◌, Option, Some, None, Result, Ok, Err}
+use Rattle.std.specs.Option.{is_some}
 use Rattle.std.proofs.Math.Path.{refl, sym}
 use Rattle.std.proofs.Common.{ap, ◌∙◌, length-append, length-take-le, eq-eqb, ne_eqb, eqb-true, le-leb, lt-ltb, le-ltb}
 use native.Mathlib.Omega.{arith}
@@ -14,55 +15,50 @@ use Rattle.ascii.specs.BytesLaws.{non_empty-some}
 use Rattle.ascii.specs.Digits.{is_digits}
 use Rattle.refusals.specs.declared.refusal.Refusal.{Refusal}
 use Rattle.refusals.specs.declared.refusal.Refusal.TheVariants.{TextTooLong, UnknownForm, SpaceShort}
-use Rattle.lines.specs.declared.line_parts.Number32.{Number32}
-use Rattle.lines.specs.declared.line_parts.Number32.TheVariants.{Number, NoNumber}
 use Rattle.lines.specs.Lines.{position_of, before, Pieces, last, piece, longer, cut, lines_of, line_feed}
-use Rattle.lines.specs.LinesLaws.{position_of_within, before-found, found_within, cut-at_piece, cut-at_last, cut-nothing}
+use Rattle.lines.specs.LinesLaws.{position_of_within, found_within, cut-at_piece, cut-at_last, cut-nothing}
 use Rattle.lines.specs.LineParts.{no_leading_zero, number_of}
-use Rattle.message_text.specs.declared.message_text.FieldLine.{FieldLine}
-use Rattle.message_text.specs.declared.message_text.FieldLine.TheVariants.{Field, NoField}
-use Rattle.message_text.specs.declared.message_text.ReadMessage.{ReadMessage}
-use Rattle.message_text.specs.declared.message_text.ReadMessage.TheVariants.{Fields, Refused}
 use Rattle.message_text.specs.MessageText.{equals_sign, field_with, field_line_of, rows_with, rows_from, table_of, on_field, count_from, message_text_of, space_answer, space_with, read_message_of, fields_in}
 
 -- ---- field_line_of
 
 module _ (line : List ℕ) (place : ℕ) (found : place ≡ 0 + position_of equals_sign line) where
-  pub field_line_of-no_sign : place ≡ length line → field_line_of line ≡ NoField
+  pub field_line_of-no_sign : place ≡ length line → field_line_of line ≡ None
   unfolding field_line_of
   field_line_of-no_sign at-end = rw (eq-eqb (position_of equals_sign line) (length line) (omega arith))
 
-  pub field_line_of-number : (place ≡ length line → ⊥) → (number : Number32) → number ≡ number_of (take (place - 0) line)
+  pub field_line_of-number : (place ≡ length line → ⊥) → (number : Option ℕ) → number ≡ number_of (take place line)
       → field_line_of line ≡ field_with (place + 1) number
   unfolding field_line_of
   field_line_of-number before-end read_number reads =
       let position : position_of equals_sign line ≡ place = omega arith in
       let other : position_of equals_sign line ≡ length line → ⊥ = λ same. before-end (omega arith) in
-      rw (ne_eqb (position_of equals_sign line) (length line) other, reads, before-found equals_sign line place found, position)
+      rw (ne_eqb (position_of equals_sign line) (length line) other, reads, ← position)
 
 -- what a line says of its field: the tag stands before the first `=`, the value begins behind it
 pub record Says (line : List ℕ) (tag value : ℕ) : Type 0 where
-  pub tag_before : number_of (before equals_sign line) ≡ Number tag
+  pub tag_before : number_of (before equals_sign line) ≡ Some tag
   pub value_behind : value ≡ position_of equals_sign line + 1
   pub some_tag : 2 ≤ value
   pub within : value ≤ length line
 
 -- a tag has a digit
-digit-before : (line : List ℕ) (tag position : ℕ) → number_of (take position line) ≡ Number tag → 1 ≤ position
+digit-before : (line : List ℕ) (tag position : ℕ) → number_of (take position line) ≡ Some tag → 1 ≤ position
 unfolding number_of is_digits non_empty no_leading_zero
 digit-before line tag zero reads = let zero_one : ◌≡◌ {A = ℕ} 0 1 = cc in absurd (omega arith)
 digit-before line tag (suc position) reads = omega arith
 
-says-by : (line : List ℕ) (tag value : ℕ) (none : Bool) (number : Number32)
+says-by : (line : List ℕ) (tag value : ℕ) (none : Bool) (number : Option ℕ)
     → eqb (position_of equals_sign line) (length line) ≡ none
     → number_of (before equals_sign line) ≡ number
-    → (if none then NoField else field_with (position_of equals_sign line + 1) number) ≡ Field tag value
+    → (if none then None else field_with (position_of equals_sign line + 1) number) ≡ Some (tag, value)
     → Says line tag value
 says-by line tag value true read_number at-end reads says = let zero_one : ◌≡◌ {A = ℕ} 0 1 = cc in absurd (omega arith)
-says-by line tag value false NoNumber inside reads says = let zero_one : ◌≡◌ {A = ℕ} 0 1 = cc in absurd (omega arith)
-says-by line tag value false (Number other) inside reads says =
-    let is-tag : other ≡ tag = cc in
-    let is-value : position_of equals_sign line + 1 ≡ value = cc in
+says-by line tag value false None inside reads says = let zero_one : ◌≡◌ {A = ℕ} 0 1 = cc in absurd (omega arith)
+says-by line tag value false (Some other) inside reads says =
+    let same : ◌≡◌ {A = ℕ × ℕ} (other, position_of equals_sign line + 1) (tag, value) = cc in
+    let is-tag : other ≡ tag = ap (λ (pair : ℕ × ℕ). pair.0) same in
+    let is-value : position_of equals_sign line + 1 ≡ value = ap (λ (pair : ℕ × ℕ). pair.1) same in
     record {
       tag_before = rw (← is-tag) reads;
       value_behind = sym is-value;
@@ -70,11 +66,19 @@ says-by line tag value false (Number other) inside reads says =
       within = omega (arith, position_of_within equals_sign line, eqb-false (position_of equals_sign line) (length line) inside);
     }
 
-pub field_line_of-says : (line : List ℕ) (tag value : ℕ) → field_line_of line ≡ Field tag value → Says line tag value
+pub field_line_of-says : (line : List ℕ) (tag value : ℕ) → field_line_of line ≡ Some (tag, value) → Says line tag value
 unfolding field_line_of
 field_line_of-says line tag value says = says-by line tag value (eqb (position_of equals_sign line) (length line)) (number_of (before equals_sign line)) refl refl says
 
 -- ---- count_from: the loop of `count_fields`
+
+on_field-none : (field : Option (ℕ × ℕ)) (goes_on refused : Result ℕ Refusal) → is_some field ≡ false → on_field field goes_on refused ≡ refused
+on_field-none (Some (tag, value)) goes_on refused none = cc
+on_field-none None goes_on refused none = refl
+
+on_field-some : (field : Option (ℕ × ℕ)) (goes_on refused : Result ℕ Refusal) → is_some field ≡ true → on_field field goes_on refused ≡ goes_on
+on_field-some (Some (tag, value)) goes_on refused some = refl
+on_field-some None goes_on refused some = cc
 
 -- the lines before `first` are of the form; they are so many
 pub record CountSoFar (text : List ℕ) (count first : ℕ) : Type 0 where
@@ -86,32 +90,32 @@ pub count-begins : (text : List ℕ) → CountSoFar text 0 0
 count-begins text = record { within = omega arith; few = omega arith; rest = refl }
 
 module _ (text : List ℕ) (count first : ℕ) (so_far : CountSoFar text count first) where
-  pub count-ends : length text ≤ first → count_from 0 (lines_of text) ≡ Fields count
+  pub count-ends : length text ≤ first → count_from 0 (lines_of text) ≡ Ok count
   unfolding count_from non_empty
   count-ends over = so_far.rest ∙ rw (cut-nothing line_feed text first over)
 
   module _ (past : ℕ) (found : past ≡ first + position_of line_feed (drop first text)) where
-    pub count-unended : first < length text → past ≡ length text → count_from 0 (lines_of text) ≡ Refused (UnknownForm (count + 1))
+    pub count-unended : first < length text → past ≡ length text → count_from 0 (lines_of text) ≡ Err (UnknownForm (count + 1))
     unfolding count_from
     count-unended inside at-end =
         so_far.rest
         ∙ rw (cut-at_last line_feed text first past so_far.within found at-end, non_empty-some (drop first text) (λ empty. omega (arith, length-drop first text)))
 
-    module _ (before-end : past ≡ length text → ⊥) (field : FieldLine) (reads : field ≡ field_line_of (take (past - first) (drop first text))) where
-      count-line : count_from 0 (lines_of text) ≡ on_field field (count_from (count + 1) (lines_of (drop (past + 1) text))) (Refused (UnknownForm (count + 1)))
+    module _ (before-end : past ≡ length text → ⊥) (field : Option (ℕ × ℕ)) (reads : field ≡ field_line_of (take (past - first) (drop first text))) where
+      count-line : count_from 0 (lines_of text) ≡ on_field field (count_from (count + 1) (lines_of (drop (past + 1) text))) (Err (UnknownForm (count + 1)))
       unfolding count_from
       count-line = so_far.rest ∙ rw (cut-at_piece line_feed text first past so_far.within found before-end, reads)
 
-      pub count-stops : field ≡ NoField → count_from 0 (lines_of text) ≡ Refused (UnknownForm (count + 1))
-      count-stops none = count-line ∙ rw none
+      pub count-stops : is_some field ≡ false → count_from 0 (lines_of text) ≡ Err (UnknownForm (count + 1))
+      count-stops none = count-line ∙ on_field-none _ _ _ none
 
-      pub count-goes_on : (tag value : ℕ) → field ≡ Field tag value → CountSoFar text (count + 1) (past + 1)
-      count-goes_on tag value some =
+      pub count-goes_on : is_some field ≡ true → CountSoFar text (count + 1) (past + 1)
+      count-goes_on some =
           let bounds = found_within line_feed text first past so_far.within found in
           record {
             within = omega (arith, bounds, before-end);
             few = omega (arith, bounds, so_far.few);
-            rest = count-line ∙ rw some;
+            rest = count-line ∙ on_field-some _ _ _ some;
           }
 
 -- ---- rows_from: the loop of `put_fields`
@@ -136,7 +140,7 @@ module _ (text words₀ words : List ℕ) (at first : ℕ) (so_far : RowsSoFar t
     unfolding rows_from
     rows_unended at-end = sym (so_far.rest ∙ rw (cut-at_last line_feed text first past so_far.within found at-end))
 
-    module _ (before-end : past ≡ length text → ⊥) (field : FieldLine) (reads : field ≡ field_line_of (take (past - first) (drop first text))) where
+    module _ (before-end : past ≡ length text → ⊥) (field : Option (ℕ × ℕ)) (reads : field ≡ field_line_of (take (past - first) (drop first text))) where
       line-length : length (take (past - first) (drop first text)) ≡ past - first
       line-length =
           length-take-le (past - first) (drop first text)
@@ -148,10 +152,10 @@ module _ (text words₀ words : List ℕ) (at first : ℕ) (so_far : RowsSoFar t
           let past-again : first + (past - first) ≡ past = omega (arith, found_within line_feed text first past so_far.within found) in
           rw (cut-at_piece line_feed text first past so_far.within found before-end, ← reads, line-length, past-again)
 
-      pub rows_stop : field ≡ NoField → words ≡ sets words₀ 0 (table_of text)
+      pub rows_stop : field ≡ None → words ≡ sets words₀ 0 (table_of text)
       rows_stop none = sym (so_far.rest ∙ rw (rows_line, none))
 
-      module _ (tag value : ℕ) (some : field ≡ Field tag value) where
+      module _ (tag value : ℕ) (some : field ≡ Some (tag, value)) where
         row_line : rows_from first (lines_of (drop first text)) ≡ tag ∷ (first + value) ∷ past ∷ rows_from (past + 1) (lines_of (drop (past + 1) text))
         row_line = rows_line ∙ rw some
 
@@ -199,32 +203,32 @@ joined-lines (first ∷ rest) =
 
 -- ---- the number of words
 
-count_by : (first past count total : ℕ) (others : Pieces) (field : FieldLine)
-    → (count_from (count + 1) others ≡ Fields total → 3 * (count + 1) + length (rows_from (past + 1) others) ≡ 3 * total)
-    → on_field field (count_from (count + 1) others) (Refused (UnknownForm (count + 1))) ≡ Fields total
+count_by : (first past count total : ℕ) (others : Pieces) (field : Option (ℕ × ℕ))
+    → (count_from (count + 1) others ≡ Ok total → 3 * (count + 1) + length (rows_from (past + 1) others) ≡ 3 * total)
+    → on_field field (count_from (count + 1) others) (Err (UnknownForm (count + 1))) ≡ Ok total
     → 3 * count + length (rows_with first past field (rows_from (past + 1) others)) ≡ 3 * total
-count_by first past count total others (Field tag value) deeper accepted = omega (arith, deeper accepted)
-count_by first past count total others NoField deeper refused = let zero_one : ◌≡◌ {A = ℕ} 0 1 = cc in absurd (omega arith)
+count_by first past count total others (Some (tag, value)) deeper accepted = omega (arith, deeper accepted)
+count_by first past count total others None deeper refused = let zero_one : ◌≡◌ {A = ℕ} 0 1 = cc in absurd (omega arith)
 
-pub count_from-last : (count total : ℕ) (some : Bool) → (if some then Refused (UnknownForm (count + 1)) else Fields count) ≡ Fields total → count ≡ total
+pub count_from-last : (count total : ℕ) (some : Bool) → (if some then Err (UnknownForm (count + 1)) else Ok count) ≡ Ok total → count ≡ total
 count_from-last count total true refused = let zero_one : ◌≡◌ {A = ℕ} 0 1 = cc in absurd (omega arith)
 count_from-last count total false accepted = cc
 
-count_from-words : (lines : Pieces) (first count total : ℕ) → count_from count lines ≡ Fields total → 3 * count + length (rows_from first lines) ≡ 3 * total
+count_from-words : (lines : Pieces) (first count total : ℕ) → count_from count lines ≡ Ok total → 3 * count + length (rows_from first lines) ≡ 3 * total
 unfolding count_from rows_from
 count_from-words (last bytes) first count total accepted = omega (arith, count_from-last count total (non_empty bytes) accepted)
 count_from-words (piece line others) first count total accepted =
     count_by first (first + length line) count total others (field_line_of line) (count_from-words others (first + length line + 1) (count + 1) total) accepted
 
 -- three words a field
-pub table_of_length : (text : List ℕ) (count : ℕ) → count_from 0 (lines_of text) ≡ Fields count → length (table_of text) ≡ 3 * count
+pub table_of_length : (text : List ℕ) (count : ℕ) → count_from 0 (lines_of text) ≡ Ok count → length (table_of text) ≡ 3 * count
 table_of_length text count accepted = omega (arith, count_from-words (lines_of text) 0 0 count accepted)
 
 -- a row has three words, its line at least three bytes
-few-by : (first past : ℕ) (line rows more : List ℕ) (field : FieldLine) → field_line_of line ≡ field → length rows ≤ length more
+few-by : (first past : ℕ) (line rows more : List ℕ) (field : Option (ℕ × ℕ)) → field_line_of line ≡ field → length rows ≤ length more
     → length (rows_with first past field rows) ≤ length line + (1 + length more)
-few-by first past line rows more (Field tag value) says deeper = let said = field_line_of-says line tag value says in omega (arith, said.some_tag, said.within)
-few-by first past line rows more NoField says deeper = omega arith
+few-by first past line rows more (Some (tag, value)) says deeper = let said = field_line_of-says line tag value says in omega (arith, said.some_tag, said.within)
+few-by first past line rows more None says deeper = omega arith
 
 rows_from_few : (lines : Pieces) (first : ℕ) → length (rows_from first lines) ≤ length (joined lines)
 unfolding rows_from joined
@@ -239,25 +243,25 @@ table_of_few text = omega (arith, rows_from_few (lines_of text) 0, ap length (jo
 
 -- ---- the answer
 
-module _ (text words : List ℕ) (count : ℕ) (accepted : count_from 0 (lines_of text) ≡ Fields count) where
-  pub space_short : length words < 3 * count → space_answer (Fields count) (length words) ≡ Refused (SpaceShort (3 * count))
+module _ (text words : List ℕ) (count : ℕ) (accepted : count_from 0 (lines_of text) ≡ Ok count) where
+  pub space_short : length words < 3 * count → space_answer (Ok count) (length words) ≡ Err (SpaceShort (3 * count))
   space_short short = rw (lt-leb (3 * count) (length words) short)
 
-  pub space-kept : length words < 3 * count → space_with (Fields count) (table_of text) words ≡ words
+  pub space-kept : length words < 3 * count → space_with (Ok count) (table_of text) words ≡ words
   space-kept short = rw (lt-leb (3 * count) (length words) short)
 
   module _ (enough : 3 * count ≤ length words) where
-    pub space-enough : space_answer (Fields count) (length words) ≡ Fields count
+    pub space-enough : space_answer (Ok count) (length words) ≡ Ok count
     space-enough = rw (le-leb (3 * count) (length words) enough)
 
-    pub space-written : space_with (Fields count) (table_of text) words ≡ sets words 0 (table_of text)
+    pub space-written : space_with (Ok count) (table_of text) words ≡ sets words 0 (table_of text)
     space-written =
         let size = table_of_length text count accepted in
         let from_zero : 0 + 3 * count ≡ 3 * count = omega arith in
         rw (le-leb (3 * count) (length words) enough, sets-eq (table_of text) words 0 (omega arith), size, from_zero)
 
 module _ (text words : List ℕ) where
-  pub read-too_long : 65536 < length text → read_message_of text (length words) ≡ Refused TextTooLong
+  pub read-too_long : 65536 < length text → read_message_of text (length words) ≡ Err TextTooLong
   unfolding read_message_of message_text_of
   read-too_long long = rw (lt-ltb 65536 (length text) long)
 
@@ -265,7 +269,7 @@ module _ (text words : List ℕ) where
   unfolding fields_in message_text_of
   fields-too_long long = rw (lt-ltb 65536 (length text) long)
 
-  module _ (short : length text ≤ 65536) (read : ReadMessage) (counted : read ≡ count_from 0 (lines_of text)) where
+  module _ (short : length text ≤ 65536) (read : Result ℕ Refusal) (counted : read ≡ count_from 0 (lines_of text)) where
     pub read-counted : read_message_of text (length words) ≡ space_answer read (length words)
     unfolding read_message_of message_text_of
     read-counted = rw (le-ltb 65536 (length text) short, counted)

@@ -4,11 +4,9 @@
 --   type_place_of fields    where the value of the first 35 of a field table stands in the message; an empty stretch where there is none
 --   part_of stretch text   the bytes of the stretch
 --   type_in lines          the value of the first line whose tag is 35, else no bytes
-use Rattle.std.specs.Prelude.{ℕ, ◌-◌, List, [], ◌∷◌, take, drop, if◌then◌else◌}
+use Rattle.std.specs.Prelude.{ℕ, ◌-◌, List, [], ◌∷◌, take, drop, if◌then◌else◌, Option, Some, None}
 use Rattle.ascii.specs.Notation.{◌≡ᵇ◌}
 use Rattle.lines.specs.Lines.{behind, Pieces, last, piece}
-use Rattle.message_text.specs.declared.message_text.FieldLine.{FieldLine}
-use Rattle.message_text.specs.declared.message_text.FieldLine.TheVariants.{Field, NoField}
 use Rattle.message_text.specs.declared.message_type.Stretch.{Stretch}
 use Rattle.message_text.specs.MessageText.{equals_sign, field_line_of}
 
@@ -28,9 +26,9 @@ type_place_of (tag ∷ first ∷ past ∷ others) = if tag ≡ᵇ type_tag then 
 abbrev pub part_of : Stretch → List ℕ → List ℕ
 part_of part text = take (part.past - part.first) (drop part.first text)
 
-abbrev pub type_with : List ℕ → FieldLine → List ℕ → List ℕ
-type_with line (Field tag value) others = if tag ≡ᵇ type_tag then behind equals_sign line else others
-type_with line NoField others = others
+abbrev pub type_with : List ℕ → Option (ℕ × ℕ) → List ℕ → List ℕ
+type_with line (Some (tag, value)) others = if tag ≡ᵇ type_tag then behind equals_sign line else others
+type_with line None others = others
 
 unfoldable pub type_in : Pieces → List ℕ
 type_in (last bytes) = []

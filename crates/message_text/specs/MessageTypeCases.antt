@@ -1,5 +1,5 @@
 -- `MessageType.antt` on small tables and lines. Assumes nothing.
-use Rattle.std.specs.Prelude.{◌≡◌, refl, ℕ, List, [], ◌∷◌, ◌++◌}
+use Rattle.std.specs.Prelude.{◌≡◌, refl, [], ◌∷◌, ◌++◌}
 use Rattle.ascii.specs.Notation.{is_between}
 use Rattle.ascii.specs.Bytes.{ascii, non_empty, every}
 use Rattle.ascii.specs.Digits.{is_digits, decimal_from}

@@ -5,8 +5,7 @@
 --   RowSays table text line position    the table's row at this position says what the line says: "one tag=value line a field", "the value is all behind
 --                                       the first ="
 --   TypeSays part text type             the stretch holds the type, and lies in the text
-use Rattle.std.specs.Prelude.{◌≡◌, ℕ, zero, suc, ◌-◌, ◌≤◌, List, [], length, take, drop}
-use Rattle.lines.specs.declared.line_parts.Number32.TheVariants.{Number}
+use Rattle.std.specs.Prelude.{◌≡◌, ℕ, zero, suc, ◌-◌, ◌≤◌, List, [], length, take, drop, Some}
 use Rattle.lines.specs.Lines.{before, behind, Pieces, last, piece}
 use Rattle.lines.specs.LineParts.{number_of}
 use Rattle.field_table.specs.FieldTable.{tag_of, first_of, past_of}
@@ -20,7 +19,7 @@ line_at zero (piece line others) = line
 line_at (suc position) (piece line others) = line_at position others
 
 pub record RowSays (table text line : List ℕ) (position : ℕ) : Type 0 where
-  pub tag_before : number_of (before equals_sign line) ≡ Number (tag_of table position)
+  pub tag_before : number_of (before equals_sign line) ≡ Some (tag_of table position)
   pub value_behind : take (past_of table position - first_of table position) (drop (first_of table position) text) ≡ behind equals_sign line
   pub ordered : first_of table position ≤ past_of table position
   pub inside : past_of table position ≤ length text

@@ -2,33 +2,28 @@
 ghost use Rattle.std.specs.Prelude.{◌≡◌};
 ghost use Rattle.message_text.specs.MessageType.{type_place_of};
 
-// Where a value stands in a message: the index of its first byte, and the one behind its last.
+// Where a value stands in a message: the index of its first byte, and the one after its last.
 #[derive(Clone, Copy)]
 pub struct Stretch {
     pub first: usize,
     pub past: usize,
 }
 
-fn wide(word: u32) -> usize
-    ensures { result ≡ word }
-{
-    word as usize
-}
+const MSG_TYPE: u32 = 35;
 
 // Where the value of the first field 35 stands; an empty stretch where there is none.
 pub fn message_type(fields: &[u32]) -> Stretch
     ensures outcome { result ≡ type_place_of fields.now }
 {
-    let rows = fields.len() / 3;
-    let mut index: usize = 0;
-    while index < rows {
-        if fields[3 * index] == 35 {
+    let mut rows = fields;
+    while let [tag, first, past, others @ ..] = rows {
+        if *tag == MSG_TYPE {
             return Stretch {
-                first: wide(fields[3 * index + 1]),
-                past: wide(fields[3 * index + 2]),
+                first: *first as usize,
+                past: *past as usize,
             };
         }
-        index += 1;
+        rows = others;
     }
     Stretch { first: 0, past: 0 }
 }

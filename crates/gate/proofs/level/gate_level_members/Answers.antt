@@ -9,28 +9,28 @@ use Rattle.gate.proofs.level.gate_level_members.Goals as goal
 
 -- let place = 1 + level;
 pub overflow_add-place : goal.overflow_add-place
-overflow_add-place c = omega (arith, (reached_inside gate_limits c.args.layout.now c.args.path.now c.in-Reached.level (sym c.level_of.ensures.outcome ∙ c.in-Reached.is)).places, c.shared_slice_known-1.given 0)
+overflow_add-place c = omega (arith, (reached_inside gate_limits c.args.layout.now c.args.path.now c.in-Ok.level (sym c.level_of.ensures.outcome ∙ c.in-Ok.is)).places, c.shared_slice_known-1.given 0)
 
 -- let members = stretch_at(layout, place);
 pub stretch_at-members-requires : goal.stretch_at-members-requires
-stretch_at-members-requires c = reached_inside gate_limits c.args.layout.now c.args.path.now c.in-Reached.level (sym c.level_of.ensures.outcome ∙ c.in-Reached.is)
+stretch_at-members-requires c = reached_inside gate_limits c.args.layout.now c.args.path.now c.in-Ok.level (sym c.level_of.ensures.outcome ∙ c.in-Ok.is)
 
 -- let first = wide(layout[place]);
 pub offset_bounds-layout-place : goal.offset_bounds-layout-place
-offset_bounds-layout-place c = omega (arith, (reached_inside gate_limits c.args.layout.now c.args.path.now c.in-Reached.level (sym c.level_of.ensures.outcome ∙ c.in-Reached.is)).places, c.shared_slice_known-1.given 0)
+offset_bounds-layout-place c = omega (arith, (reached_inside gate_limits c.args.layout.now c.args.path.now c.in-Ok.level (sym c.level_of.ensures.outcome ∙ c.in-Ok.is)).places, c.shared_slice_known-1.given 0)
 
 pub bounds-layout-place : goal.bounds-layout-place
-bounds-layout-place c = omega (arith, (reached_inside gate_limits c.args.layout.now c.args.path.now c.in-Reached.level (sym c.level_of.ensures.outcome ∙ c.in-Reached.is)).places)
+bounds-layout-place c = omega (arith, (reached_inside gate_limits c.args.layout.now c.args.path.now c.in-Ok.level (sym c.level_of.ensures.outcome ∙ c.in-Ok.is)).places)
 
 -- #[no_mangle]
-pub returns-in-Reached : goal.returns-in-Reached
-returns-in-Reached c = record {
-  outcome = (hands_out_members _ _ _ _ _ _ (sym c.level_of.ensures.outcome ∙ c.in-Reached.is) c.stretch_at-members.ensures c.wide-first.ensures c.answered.ensures.outcome).0;
-  part = (hands_out_members _ _ _ _ _ _ (sym c.level_of.ensures.outcome ∙ c.in-Reached.is) c.stretch_at-members.ensures c.wide-first.ensures c.answered.ensures.outcome).1;
+pub returns-in-Ok : goal.returns-in-Ok
+returns-in-Ok c = record {
+  outcome = (hands_out_members _ _ _ _ _ _ (sym c.level_of.ensures.outcome ∙ c.in-Ok.is) c.stretch_at-members.ensures c.wide-first.ensures c.answered.ensures.outcome).0;
+  part = (hands_out_members _ _ _ _ _ _ (sym c.level_of.ensures.outcome ∙ c.in-Ok.is) c.stretch_at-members.ensures c.wide-first.ensures c.answered.ensures.outcome).1;
 }
 
-pub returns-in-Refused : goal.returns-in-Refused
-returns-in-Refused c = record {
-  outcome = (hands_out_none _ _ _ _ (sym c.level_of.ensures.outcome ∙ c.in-Refused.is) c.refused.ensures.outcome).0;
-  part = (hands_out_none _ _ _ _ (sym c.level_of.ensures.outcome ∙ c.in-Refused.is) c.refused.ensures.outcome).1;
+pub returns-in-Err : goal.returns-in-Err
+returns-in-Err c = record {
+  outcome = (hands_out_none _ _ _ _ (sym c.level_of.ensures.outcome ∙ c.in-Err.is) c.refused.ensures.outcome).0;
+  part = (hands_out_none _ _ _ _ (sym c.level_of.ensures.outcome ∙ c.in-Err.is) c.refused.ensures.outcome).1;
 }

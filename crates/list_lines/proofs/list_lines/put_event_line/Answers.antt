@@ -2,12 +2,7 @@
 use native.Mathlib.Omega.{arith}
 use Rattle.ascii.specs.Bytes.{ascii}
 use Rattle.list_lines.specs.ListLinesLaws.{room-left, kind_name-few, labelled-few, put-event_of}
-use borrow.Author.Rules.{rules}
 use Rattle.list_lines.proofs.list_lines.put_event_line.Goals as goal
-
--- let group_at = put_kind(out, name, kind);
-pub put_kind-group_at-requires : goal.put_kind-group_at-requires
-put_kind-group_at-requires c = omega (arith, room-left c.put_text-name.ensures 6 109 (omega arith) (omega (arith, c.requires)))
 
 pub put_labelled-depth_at-requires : goal.put_labelled-depth_at-requires
 put_labelled-depth_at-requires c = omega (arith, room-left c.put_kind-group_at.ensures 8 101 (kind_name-few c.args.kind) (omega (arith, room-left c.put_text-name.ensures 6 109 (omega arith) (omega (arith, c.requires)))))

@@ -1,55 +1,24 @@
 -- `list_lines::list_lines::put_kind` meets its contract, a kind at a time (specs/ListLinesLaws.antt).
-use borrow.Author.Tests.{ne_eqb}
+use Rattle.std.proofs.Common.{arith}
 use Rattle.list_lines.specs.ListLines.{kind_name}
-use Rattle.list_lines.specs.ListLinesLaws.{put-nothing, put-kind_of}
-use borrow.Author.Rules.{rules}
+use Rattle.list_lines.specs.ListLinesLaws.{put-kind_of, kind_name-other}
 use Rattle.list_lines.proofs.list_lines.put_kind.Goals as goal
+use Rattle.list_lines.proofs.list_lines.put_kind.Goals.{in-1, in-2, in-3, in-4, in-5, in-6, in-7, in-8, in-9, in-10, in-11, in_default}
 
-pub returns-then-kind-eq1 : goal.returns-then-kind-eq1
-unfolding kind_name
-returns-then-kind-eq1 c = put-kind_of _ 1 c.if-kind-eq1.true c.put_text.ensures
-
-pub returns-then-kind-eq2 : goal.returns-then-kind-eq2
-unfolding kind_name
-returns-then-kind-eq2 c = put-kind_of _ 2 c.if-kind-eq2.true c.put_text-then-kind-eq2.ensures
-
-pub returns-then-kind-eq3 : goal.returns-then-kind-eq3
-unfolding kind_name
-returns-then-kind-eq3 c = put-kind_of _ 3 c.if-kind-eq3.true c.put_text-then-kind-eq3.ensures
-
-pub returns-then-kind-eq4 : goal.returns-then-kind-eq4
-unfolding kind_name
-returns-then-kind-eq4 c = put-kind_of _ 4 c.if-kind-eq4.true c.put_text-then-kind-eq4.ensures
-
-pub returns-then-kind-eq5 : goal.returns-then-kind-eq5
-unfolding kind_name
-returns-then-kind-eq5 c = put-kind_of _ 5 c.if-kind-eq5.true c.put_text-then-kind-eq5.ensures
-
-pub returns-then-kind-eq6 : goal.returns-then-kind-eq6
-unfolding kind_name
-returns-then-kind-eq6 c = put-kind_of _ 6 c.if-kind-eq6.true c.put_text-then-kind-eq6.ensures
-
-pub returns-then-kind-eq7 : goal.returns-then-kind-eq7
-unfolding kind_name
-returns-then-kind-eq7 c = put-kind_of _ 7 c.if-kind-eq7.true c.put_text-then-kind-eq7.ensures
-
-pub returns-then-kind-eq8 : goal.returns-then-kind-eq8
-unfolding kind_name
-returns-then-kind-eq8 c = put-kind_of _ 8 c.if-kind-eq8.true c.put_text-then-kind-eq8.ensures
-
-pub returns-then-kind-eq9 : goal.returns-then-kind-eq9
-unfolding kind_name
-returns-then-kind-eq9 c = put-kind_of _ 9 c.if-kind-eq9.true c.put_text-then-kind-eq9.ensures
-
-pub returns-then-kind-eq10 : goal.returns-then-kind-eq10
-unfolding kind_name
-returns-then-kind-eq10 c = put-kind_of _ 10 c.if-kind-eq10.true c.put_text-then-kind-eq10.ensures
-
-pub returns-then-kind-eq11 : goal.returns-then-kind-eq11
-unfolding kind_name
-returns-then-kind-eq11 c = put-kind_of _ 11 c.if-kind-eq11.true c.put_text-then-kind-eq11.ensures
-
--- fn put_kind(out: &mut [u8], at: usize, kind: u64) -> usize
 pub returns : goal.returns
 unfolding kind_name
-returns c = rw (ne_eqb c.args.kind 1 c.if-kind-eq1.false, ne_eqb c.args.kind 2 c.if-kind-eq2.false, ne_eqb c.args.kind 3 c.if-kind-eq3.false, ne_eqb c.args.kind 4 c.if-kind-eq4.false, ne_eqb c.args.kind 5 c.if-kind-eq5.false, ne_eqb c.args.kind 6 c.if-kind-eq6.false, ne_eqb c.args.kind 7 c.if-kind-eq7.false, ne_eqb c.args.kind 8 c.if-kind-eq8.false, ne_eqb c.args.kind 9 c.if-kind-eq9.false, ne_eqb c.args.kind 10 c.if-kind-eq10.false, ne_eqb c.args.kind 11 c.if-kind-eq11.false) (put-nothing _ _)
+returns c =
+    elim c.match-kind.branch [
+      | in-1 w ↦ put-kind_of _ 1 w.in-1.is (rw w.name-is at c.put_text.ensures)
+      | in-2 w ↦ put-kind_of _ 2 w.in-2.is (rw w.name-is at c.put_text.ensures)
+      | in-3 w ↦ put-kind_of _ 3 w.in-3.is (rw w.name-is at c.put_text.ensures)
+      | in-4 w ↦ put-kind_of _ 4 w.in-4.is (rw w.name-is at c.put_text.ensures)
+      | in-5 w ↦ put-kind_of _ 5 w.in-5.is (rw w.name-is at c.put_text.ensures)
+      | in-6 w ↦ put-kind_of _ 6 w.in-6.is (rw w.name-is at c.put_text.ensures)
+      | in-7 w ↦ put-kind_of _ 7 w.in-7.is (rw w.name-is at c.put_text.ensures)
+      | in-8 w ↦ put-kind_of _ 8 w.in-8.is (rw w.name-is at c.put_text.ensures)
+      | in-9 w ↦ put-kind_of _ 9 w.in-9.is (rw w.name-is at c.put_text.ensures)
+      | in-10 w ↦ put-kind_of _ 10 w.in-10.is (rw w.name-is at c.put_text.ensures)
+      | in-11 w ↦ put-kind_of _ 11 w.in-11.is (rw w.name-is at c.put_text.ensures)
+      | in_default w ↦ rw (kind_name-other c.args.kind (λ some. omega arith)) (rw w.name-is at c.put_text.ensures)
+    ]

@@ -2,7 +2,6 @@
 use native.Mathlib.Omega.{arith}
 use Rattle.ascii.specs.Bytes.{ascii}
 use Rattle.list_lines.specs.ListLinesLaws.{room-left, labelled-few, put-refused_of}
-use borrow.Author.Rules.{rules}
 use Rattle.list_lines.proofs.list_lines.put_refused_line.Goals as goal
 
 pub put_labelled-end-requires : goal.put_labelled-end-requires

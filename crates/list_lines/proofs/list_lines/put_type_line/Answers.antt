@@ -4,18 +4,10 @@ use Prim.Native.Nat.{◌+◌}
 use lib.ListN.{length}
 use Rattle.ascii.specs.Bytes.{ascii}
 use Rattle.list_lines.specs.ListLinesLaws.{room-left, labelled-few, put-type_of}
-use borrow.Author.Rules.{rules}
 use Rattle.list_lines.proofs.list_lines.put_type_line.Goals as goal
 
--- let behind = put_text(out, value, message_type);
-pub put_text-behind-requires : goal.put_text-behind-requires
-put_text-behind-requires c = omega (arith, room-left c.put_text-value.ensures 5 (length c.args.message_type.now + 29) (omega arith) (omega (arith, c.requires)))
-
-pub put_labelled-end-requires : goal.put_labelled-end-requires
-put_labelled-end-requires c = omega (arith, room-left c.put_text-behind.ensures (length c.args.message_type.now) 29 (omega arith) (omega (arith, room-left c.put_text-value.ensures 5 (length c.args.message_type.now + 29) (omega arith) (omega (arith, c.requires)))))
-
 pub put_text-requires : goal.put_text-requires
-put_text-requires c = room-left c.put_labelled-end.ensures 28 1 (labelled-few (ascii " fields=") c.args.fields) (omega (arith, room-left c.put_text-behind.ensures (length c.args.message_type.now) 29 (omega arith) (omega (arith, room-left c.put_text-value.ensures 5 (length c.args.message_type.now + 29) (omega arith) (omega (arith, c.requires))))))
+put_text-requires c = room-left c.put_labelled-end.ensures 28 1 (labelled-few (ascii " fields=") c.args.fields) (omega (arith, room-left c.put_text-label.ensures (length c.args.message_type.now) 29 (omega arith) (omega (arith, room-left c.put_text-value.ensures 5 (length c.args.message_type.now + 29) (omega arith) (omega (arith, c.requires))))))
 
 pub returns : goal.returns
-returns c = put-type_of _ c.put_text-value.ensures c.put_text-behind.ensures c.put_labelled-end.ensures c.put_text.ensures
+returns c = put-type_of _ c.put_text-value.ensures c.put_text-label.ensures c.put_labelled-end.ensures c.put_text.ensures

@@ -3,12 +3,7 @@ use native.Mathlib.Omega.{arith}
 use Prim.Native.Nat.{◌+◌}
 use lib.ListN.{length}
 use Rattle.list_lines.specs.ListLinesLaws.{room-left, verdict_digits-length, put-verdicts_of}
-use borrow.Author.Rules.{rules}
 use Rattle.list_lines.proofs.list_lines.put_verdict_line.Goals as goal
-
--- let end = put_verdicts(out, digits, verdicts);
-pub put_verdicts-end-requires : goal.put_verdicts-end-requires
-put_verdicts-end-requires c = omega (arith, room-left c.put_text-digits.ensures 9 (length c.args.verdicts.now + 1) (omega arith) (omega (arith, c.requires)))
 
 pub put_text-requires : goal.put_text-requires
 put_text-requires c = room-left c.put_verdicts-end.ensures (length c.args.verdicts.now) 1 (omega (arith, verdict_digits-length c.args.verdicts.now)) (omega (arith, room-left c.put_text-digits.ensures 9 (length c.args.verdicts.now + 1) (omega arith) (omega (arith, c.requires))))

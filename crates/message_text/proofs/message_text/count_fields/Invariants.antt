@@ -1,10 +1,7 @@
 -- `message_text::message_text::count_fields` meets its contract. The loop's invariant is `CountSoFar`; every answer cites a law of specs/MessageTextLaws.antt.
-use mathlib.Core.Path.{sym, ◌∙◌}
 use Prim.Native.Nat.{◌-◌}
-use native.Mathlib.Omega.{arith}
 use lib.ListN.{length}
-use Rattle.message_text.specs.MessageTextLaws.{CountSoFar, count-begins, count-ends, count-unended, count-stops, count-goes_on}
-use borrow.Author.Rules.{rules}
+use Rattle.message_text.specs.MessageTextLaws.{CountSoFar}
 use Rattle.message_text.proofs.message_text.count_fields.Given as goal
 
 abbrev pub invariant-loop-first : goal.invariant-loop-first

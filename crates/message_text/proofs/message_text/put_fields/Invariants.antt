@@ -1,10 +1,7 @@
 -- `message_text::message_text::put_fields` meets its contract. The loop's invariant is `RowsSoFar`; every answer cites a law of specs/MessageTextLaws.antt.
-use mathlib.Core.Path.{sym, ◌∙◌}
 use Prim.Native.Nat.{◌-◌}
-use native.Mathlib.Omega.{arith}
 use lib.ListN.{length}
-use Rattle.message_text.specs.MessageTextLaws.{RowsSoFar, rows_begin, rows_end, rows_unended, rows_stop, room_of_rows, row-value, rows_go_on}
-use borrow.Author.Rules.{rules}
+use Rattle.message_text.specs.MessageTextLaws.{RowsSoFar}
 use Rattle.message_text.proofs.message_text.put_fields.Given as goal
 
 abbrev pub invariant-loop-first : goal.invariant-loop-first

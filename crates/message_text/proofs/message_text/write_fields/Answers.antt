@@ -1,20 +1,12 @@
 -- `message_text::message_text::write_fields` meets its contract, by specs/MessageTextLaws.antt: the table has three words a field.
 use mathlib.Core.Path.{sym, ◌∙◌}
 use native.Mathlib.Omega.{arith}
-use Rattle.message_text.specs.MessageTextLaws.{table_of_length, table_of_few, space_short, space-kept, space-enough, space-written}
-use borrow.Author.Rules.{rules}
+use Rattle.message_text.specs.MessageTextLaws.{table_of_length, table_of_few, space-enough, space-written}
 use Rattle.message_text.proofs.message_text.write_fields.Goals as goal
 
 -- let needed = 3 * count;
 pub overflow_mul-needed : goal.overflow_mul-needed
 overflow_mul-needed c = omega (arith, table_of_length c.args.text.now c.args.count c.requires.text_value, table_of_few c.args.text.now, c.requires.text_len_bound)
-
--- return ReadMessage::Refused(Refusal::SpaceShort(needed as u64));
-pub returns-then-fields-needed : goal.returns-then-fields-needed
-returns-then-fields-needed c = record {
-  outcome = sym (space_short _ c.args.fields.now _ c.requires.text_value c.if-fields-needed.true);
-  memory = sym (space-kept _ c.args.fields.now _ c.requires.text_value c.if-fields-needed.true);
-}
 
 -- put_fields(text, fields);
 pub put_fields-requires : goal.put_fields-requires

@@ -1,23 +1,13 @@
--- `message_text::message_type::message_type` meets its contract. The loop's invariant is `TypeSoFar`; every answer cites a law of specs/MessageTypeLaws.antt.
-use mathlib.Core.Path.{sym}
-use Prim.Native.Nat.{◌-◌, ◌/◌}
-use native.Mathlib.Omega.{arith}
-use lib.ListN.{length}
-use Rattle.message_text.specs.MessageTypeLaws.{TypeSoFar, type-begins, type-ends, type-here, type-goes_on}
-use borrow.Author.Rules.{rules}
+-- `message_text::message_type::message_type` meets its contract: a row is the type's, or the type is of the rows after it (specs/MessageTypeLaws.antt).
+use Rattle.std.proofs.Common.{◌∙◌, sym}
+use Rattle.message_text.specs.MessageTypeLaws.{type_place_of-short, type_place_of-here, type_place_of-later}
 use Rattle.message_text.proofs.message_type.message_type.Goals as goal
 
--- while index < rows {
-pub loop-index-init : goal.loop-index-init
-loop-index-init c = type-begins _
+pub returns-then-tag-eq-MSG_TYPE : goal.returns-then-tag-eq-MSG_TYPE
+returns-then-tag-eq-MSG_TYPE c = record { outcome = sym (c.loop-rows.invariant ∙ type_place_of-here _ c.in-len3-up.len_at_least c.if-tag-eq-MSG_TYPE.true) }
 
--- return Stretch {
-pub returns-then-fields-index-eq35 : goal.returns-then-fields-index-eq35
-returns-then-fields-index-eq35 c = record { outcome = sym (type-here _ _ c.loop-index.invariant c.loop-index-test.true c.if-fields-index-eq35.true _ _ c.wide.ensures c.wide-then-fields-index-eq35.ensures) }
+pub loop-rows-preserved : goal.loop-rows-preserved
+loop-rows-preserved c = c.loop-rows.invariant ∙ type_place_of-later _ c.in-len3-up.len_at_least c.if-tag-eq-MSG_TYPE.false
 
-pub loop-index-preserved : goal.loop-index-preserved
-loop-index-preserved c = type-goes_on _ _ c.loop-index.invariant c.loop-index-test.true c.if-fields-index-eq35.false
-
--- pub fn message_type(fields: &[u32]) -> Stretch
 pub returns : goal.returns
-returns c = record { outcome = sym (type-ends _ _ c.loop-index.invariant c.loop-index-test.false) }
+returns c = record { outcome = sym (c.loop-rows.invariant ∙ type_place_of-short _ c.in_default.len_below) }

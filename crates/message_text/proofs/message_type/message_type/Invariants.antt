@@ -1,14 +1,10 @@
--- `message_text::message_type::message_type` meets its contract. The loop's invariant is `TypeSoFar`; every answer cites a law of specs/MessageTypeLaws.antt.
-use mathlib.Core.Path.{sym}
-use Prim.Native.Nat.{◌-◌, ◌/◌}
-use native.Mathlib.Omega.{arith}
-use lib.ListN.{length}
-use Rattle.message_text.specs.MessageTypeLaws.{TypeSoFar, type-begins, type-ends, type-here, type-goes_on}
-use borrow.Author.Rules.{rules}
+-- The first 35 of the table is the first 35 of the rows that are left.
+use Rattle.std.proofs.Common.{◌≡◌, length}
+use Rattle.message_text.specs.MessageType.{type_place_of}
 use Rattle.message_text.proofs.message_type.message_type.Given as goal
 
-abbrev pub invariant-loop-index : goal.invariant-loop-index
-invariant-loop-index l = TypeSoFar l.fields l.index
+abbrev pub invariant-loop-rows : goal.invariant-loop-rows
+invariant-loop-rows l = type_place_of l.fields ≡ type_place_of l.rows
 
-abbrev pub decreases-loop-index : goal.decreases-loop-index
-decreases-loop-index l = length l.fields / 3 - l.index
+abbrev pub decreases-loop-rows : goal.decreases-loop-rows
+decreases-loop-rows l = length l.rows
