@@ -1,75 +1,65 @@
-// How a case went, and how the cases of a list went.
-use std::io;
+// How a case went, and why a line could not be replayed.
+ghost use Rattle.std.specs.Prelude.{◌≡◌, ◌↔◌, IsTrue};
+ghost use Rattle.replay_lines.specs.declared.cases.Replayed.TheVariants.{Same};
 
-// How one case went; a line that only gives what cases run on is none.
-#[derive(Clone, Copy)]
+use hex::FromHexError;
+use std::alloc::{AllocError, AllocFailed};
+use std::num::ParseIntError;
+
+// How a case went: its answers are those recorded, or not.
+#[derive(Clone, Copy, Debug, PartialEq, Eq)]
 pub enum Replayed {
-    NoCase,
     Same,
     Differs,
-    Unread,
-}
-
-// How many cases ran, how many of them differ, and how many lines are of no known form.
-#[derive(Clone, Copy)]
-pub struct Tally {
-    pub cases: u64,
-    pub differ: u64,
-    pub unread: u64,
-}
-
-impl Tally {
-    pub fn new() -> Self {
-        Self {
-            cases: 0,
-            differ: 0,
-            unread: 0,
-        }
-    }
-
-    pub fn add(self, replayed: Replayed) -> Self {
-        let cases = self.cases.wrapping_add(1);
-        match replayed {
-            Replayed::NoCase => self,
-            Replayed::Same => Self {
-                cases: cases,
-                differ: self.differ,
-                unread: self.unread,
-            },
-            Replayed::Differs => Self {
-                cases: cases,
-                differ: self.differ.wrapping_add(1),
-                unread: self.unread,
-            },
-            Replayed::Unread => Self {
-                cases: cases,
-                differ: self.differ,
-                unread: self.unread.wrapping_add(1),
-            },
-        }
-    }
 }
 
 // How a case went whose answers are those recorded, or not.
-pub fn same_if(same: bool) -> Replayed {
+pub fn same_if(same: bool) -> Replayed
+    ensures { IsTrue same ↔ (result ≡ Same) }
+{
     if same {
-        return Replayed::Same;
-    }
-    Replayed::Differs
-}
-
-// Prints a line that differs or is of no known form.
-pub fn print_unless_same<R: Print>(rt: &R, line: &[u8], replayed: Replayed) -> io::Result<()> {
-    match replayed {
-        Replayed::NoCase => Ok(()),
-        Replayed::Same => Ok(()),
-        Replayed::Differs => print_line(rt, b"differs: ", line),
-        Replayed::Unread => print_line(rt, b"of no known form: ", line),
+        Replayed::Same
+    } else {
+        Replayed::Differs
     }
 }
 
-fn print_line<R: Print>(rt: &R, what: &[u8], line: &[u8]) -> io::Result<()> {
-    rt.write_all(what)?;
-    rt.write_all(line)?;
-    rt.write_all(b"\n")
+// Why a line could not be replayed.
+#[derive(Clone, Copy, Debug, PartialEq, Eq)]
+pub enum NotReplayed {
+    NoForm,
+    OutOfMemory,
+}
+
+impl From<AllocError> for NotReplayed {
+    fn from(_error: AllocError) -> Self {
+        NotReplayed::OutOfMemory
+    }
+}
+
+impl<T: Drop> From<AllocFailed<T>> for NotReplayed {
+    fn from(_error: AllocFailed<T>) -> Self {
+        NotReplayed::OutOfMemory
+    }
+}
+
+impl From<FromHexError> for NotReplayed {
+    fn from(error: FromHexError) -> Self {
+        match error {
+            FromHexError::OutOfMemory => NotReplayed::OutOfMemory,
+            _ => NotReplayed::NoForm,
+        }
+    }
+}
+
+impl From<ParseIntError> for NotReplayed {
+    fn from(_error: ParseIntError) -> Self {
+        NotReplayed::NoForm
+    }
+}
+
+// The cases of a recorded list, replayed line by line.
+pub trait Cases: Drop {
+    // How the line's case went; None where the line only gives what cases run on.
+    fn replay(&mut self, line: &str) -> Result<Option<Replayed>, NotReplayed>;
 }

@@ -1,51 +1,91 @@
-// What a call that writes words gave, beside what was recorded of it.
-use crate::recorded_numbers::same_number;
-use ascii::split::find;
+// What a call gave, beside what was recorded of it.
+ghost use Rattle.std.specs.Prelude.{◌≡◌, ◌↔◌, ◌⊎◌, IsTrue, IsSome, IfOk, MatchResult, false, codes, nat_eq};
+ghost use Rattle.std.specs.List.{starts_with};
+ghost use Rattle.refusals.specs.Refusal.{refusal_number, refusal_place};
+ghost use Rattle.refusals.specs.declared.refusal.Refusal.TheVariants.{SpaceShort};
+
+use crate::cases::NotReplayed;
+use crate::recorded_values::first_word;
 use refusals::refusal::{Refusal, number_of, place_of};
 
-// What a call gave.
-#[derive(Clone, Copy)]
-pub enum Given {
-    // A number and how many words were written. The number is the nodes of an expansion, the
-    // position after a group; 0 of any other call.
-    Written(usize, usize),
-    Refused(Refusal),
+// What a call wrote: how many words, and the number that it tells beside them: the nodes of an
+// expansion, the position after a group; 0 of any other call.
+#[derive(Clone, Copy, PartialEq, Eq)]
+pub struct Written {
+    pub number: usize,
+    pub words: usize,
 }
 
-pub fn is_written(given: Given, number: usize, words: usize) -> bool {
-    let Given::Written(told, written) = given else {
-        return false;
-    };
-    told == number && written == words
+impl From<usize> for Written {
+    ghost from_gives = { λ words written. (written.number ≡ 0) × (written.words ≡ words) };
+
+    fn from(words: usize) -> Self {
+        Self { number: 0, words }
+    }
+}
+
+pub type Given = Result<Written, Refusal>;
+
+pub fn is_written(given: Given, written: Written) -> bool
+    ensures { IsTrue result ↔ (given ≡ Ok written) }
+{
+    given.is_ok_and(|told| told == written)
 }
 
 // Refused with 13 and the words needed.
-pub fn is_short(given: Given, needed: usize) -> bool {
-    let Given::Refused(refusal) = given else {
-        return false;
-    };
-    let Refusal::SpaceShort(words) = refusal else {
-        return false;
-    };
-    words == needed as u64
+pub fn is_short(given: Given, needed: usize) -> bool
+    ensures { IsTrue result ↔ (given ≡ Err (SpaceShort needed)) }
+{
+    matches!(given, Err(Refusal::SpaceShort(words)) if words == needed as u64)
 }
 
-pub fn is_refused_as(given: Given, recorded: &[u8]) -> bool {
-    let Given::Refused(refusal) = given else {
-        return false;
-    };
-    same_refusal(refusal, recorded)
+pub fn is_refused_as(given: Given, recorded: Refused) -> bool
+    ensures { MatchResult given (λ _. result ≡ false) (λ refusal. IsTrue result ↔ (
+        (refusal_number refusal ≡ recorded.number) × (refusal_place refusal ≡ recorded.place)
+        )) }
+{
+    given.is_err_and(|refusal| Refused::from(refusal) == recorded)
 }
 
-// Whether the refusal is the one recorded: its number, a space and its place.
-pub fn same_refusal(refusal: Refusal, recorded: &[u8]) -> bool {
-    let space = find(recorded, 0, b' ');
-    if recorded.len() <= space {
-        return false;
+// A refusal as the lists record it: its number and its place.
+#[derive(Clone, Copy, Debug, PartialEq, Eq)]
+pub struct Refused {
+    number: u64,
+    place: u64,
+}
+
+impl From<Refusal> for Refused {
+    ghost from_gives = { λ refusal refused.
+        (refused.number ≡ refusal_number refusal) × (refused.place ≡ refusal_place refusal) };
+
+    fn from(refusal: Refusal) -> Self {
+        Self {
+            number: number_of(refusal),
+            place: place_of(refusal),
+        }
     }
-    let place = space + 1;
-    if !same_number(number_of(refusal), &recorded[0..space]) {
-        return false;
+}
+
+impl Refused {
+    // Refused with 10 or 11: the lines of a layout text are in order, but make no layout.
+    pub fn is_of_layout(self) -> bool
+        ensures { IsTrue result ↔ ((self.number ≡ 10) ⊎ (self.number ≡ 11)) }
+    {
+        self.number == 10 || self.number == 11
     }
-    same_number(place_of(refusal), &recorded[place..])
+
+    // The refusal that an answer `refused NUMBER PLACE` records; None where it is no refusal.
+    pub fn recorded(answer: &str) -> Result<Option<Self>, NotReplayed>
+        ensures { IfOk result (λ recorded.
+            IsSome recorded ↔ IsTrue (starts_with nat_eq answer.now (codes "refused "))) }
+    {
+        let Some(refused) = answer.strip_prefix("refused ") else {
+            return Ok(None);
+        };
+        let (number, place) = first_word(refused)?;
+        Ok(Some(Self {
+            number: number.parse()?,
+            place: place.parse()?,
+        }))
+    }
 }

@@ -1,10 +1,11 @@
-// What the recorded lists share: their lines, the values and numbers on them, the words that cases
-// run on, and how the cases went.
+// What the recorded lists share: a list, replayed line by line, the values and numbers on its
+// lines, what cases run on, and how they went.
 #![tactic(auto)]
 
 pub mod block;
 pub mod cases;
 pub mod given;
-pub mod hex;
-pub mod lines;
-pub mod recorded_numbers;
+pub mod recorded_files;
+pub mod recorded_values;
+#[cfg(test)]
+mod tests;

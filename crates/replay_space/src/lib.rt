@@ -1,6 +1,7 @@
-// The space that a replayed call is lent: what it holds where nothing was written, and whether it
-// holds the recorded words.
+// The space that a replayed call is lent, and the call beside its recorded answer.
 #![tactic(auto)]
 
-pub mod event_space;
-pub mod word_space;
+pub mod in_space;
+pub mod space;
+#[cfg(test)]
+mod tests;

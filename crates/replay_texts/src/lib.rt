@@ -3,5 +3,7 @@
 
 pub mod count_cases;
 pub mod recorded_text;
+#[cfg(test)]
+mod tests;
 pub mod text_cases;
 pub mod value_cases;

@@ -2,6 +2,7 @@
 #![tactic(auto)]
 
 pub mod calls;
-pub mod in_space;
 pub mod message_cases;
+#[cfg(test)]
+mod tests;
 pub mod walk_cases;

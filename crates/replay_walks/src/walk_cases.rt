@@ -1,73 +1,68 @@
 // Cases of `walk_group`. A block begins with `layout`, `message` and `fields`; then each line
 // `walk POSITION COUNT NEXT WORD WORD ..` gives the position and the words of the events that the
 // Rust's walk has. Each walk runs also with more space than it can need.
-use crate::calls::Call;
-use crate::in_space::replay_written;
+use crate::calls::group_given;
 use replay_lines::block::Block;
-use replay_lines::cases::Replayed;
-use replay_lines::recorded_numbers::read_numbers;
+use replay_lines::cases::{Cases, NotReplayed, Replayed};
+use replay_lines::recorded_values::{read_numbers, split_kind};
+use replay_space::in_space::replay_written;
+use replay_space::space::make_space;
+use std::alloc::{AllocError, Global};
 
-pub fn replay(
-    kind: u8,
-    answer: &[u8],
+#[derive(Drop)]
+pub struct WalkCases {
+    alloc: Global,
     block: Block,
-    words: &[u32],
-    message: &[u8],
-    recorded: &mut [u64],
-    space: &mut [u64],
-) -> Replayed {
-    if kind != b'w' {
-        return Replayed::NoCase;
-    }
-    let size = read_numbers(answer, recorded);
-    if recorded.len() < size {
-        return Replayed::Unread;
-    }
-    replay_walk(block, words, message, &recorded[0..size], space)
+    space: Vec<u64>,
 }
 
-// Position and count tag of the walk, then the Rust's position and words.
-fn replay_walk(
-    block: Block,
-    words: &[u32],
-    message: &[u8],
-    recorded: &[u64],
-    space: &mut [u64],
-) -> Replayed {
-    if recorded.len() < 3 {
-        return Replayed::Unread;
+impl Cases for WalkCases {
+    fn replay(&mut self, line: &str) -> Result<Option<Replayed>, NotReplayed> {
+        match split_kind(line) {
+            ("walk", walk) => Ok(Some(self.replay_walk(walk)?)),
+            (kind, text) => {
+                self.block.read_part(kind, text)?;
+                Ok(None)
+            }
+        }
     }
-    let position = recorded[0] as usize;
-    let number = recorded[1];
-    let next = recorded[2] as usize;
-    if 0xffff_ffff < number {
-        return Replayed::Unread;
+}
+
+impl WalkCases {
+    pub fn new(alloc: Global) -> Result<Self, AllocError> {
+        Ok(Self {
+            alloc,
+            block: Block::new(alloc),
+            space: make_space(alloc)?,
+        })
     }
-    let call = Call::WalkGroup {
-        position,
-        tag: number as u32,
-    };
-    let ample = ample_space(block.fields / 3, position);
-    replay_written(
-        call,
-        block,
-        words,
-        message,
-        next,
-        &recorded[3..],
-        ample,
-        space,
-    )
+
+    // Position and count tag of the walk, then the Rust's position and words.
+    fn replay_walk(&mut self, walk: &str) -> Result<Replayed, NotReplayed> {
+        let numbers = read_numbers::<u64>(self.alloc, walk)?;
+        let [position, tag, next, words @ ..] = numbers.as_slice() else {
+            return Err(NotReplayed::NoForm);
+        };
+        let position = *position as usize;
+        let tag = u32::try_from(*tag).or(Err(NotReplayed::NoForm))?;
+        let block = &self.block;
+        let ample = ample_space(block.fields.len() / 3, position);
+        let Some((space, _)) = self.space.split_at_mut_checked(ample) else {
+            return Ok(Replayed::Differs);
+        };
+        Ok(replay_written(
+            |lent| group_given(block, position, tag, lent),
+            *next as usize,
+            words,
+            space,
+        ))
+    }
 }
 
 // Five words for each of the 5 N - 2 events that a walk over N fields may have, and ten more.
 fn ample_space(rows: usize, position: usize) -> usize {
-    if rows <= position {
-        return 10;
+    match rows.saturating_sub(position) {
+        left @ 1..=4096 => 25 * left,
+        _ => 10,
     }
-    let left = rows - position;
-    if 4096 < left {
-        return 10;
-    }
-    25 * left
 }

@@ -1,36 +1,25 @@
-// A dictionary that a line gives as a text in hexadecimal.
-use crate::calls::dictionary_given;
-use replay_lines::block::Block;
-use replay_lines::given::Given;
-use replay_lines::hex::decode;
-use replay_lines::lines::after_word;
-use replay_lines::recorded_numbers::NO_FORM;
+// The words of a dictionary, and a dictionary that a line gives as a text in hexadecimal.
+use read_dictionary::read_dictionary::read_dictionary;
+use replay_lines::cases::NotReplayed;
+use replay_lines::given::{Given, Written};
+use replay_lines::recorded_values::read_bytes;
+use std::alloc::Global;
 
-// Reads the dictionary text into the words of the block. No message is left: its bytes were the
-// text's.
-pub fn read_dictionary_line(
-    line: &[u8],
-    block: Block,
-    bytes: &mut [u8],
-    words: &mut [u32],
-) -> Block {
-    let rest = after_word(line);
-    let size = decode(&line[rest..], bytes);
-    let mut read = block;
-    read.answer = rest;
-    read.bytes = 0;
-    read.dictionary = NO_FORM;
-    if bytes.len() < size {
-        return read;
-    }
-    read.dictionary = words_of(&bytes[0..size], words);
-    read
+pub fn dictionary_given(text: &[u8], space: &mut [u32]) -> Given {
+    read_dictionary(text, space).map(Written::from)
 }
 
-// How many words are written; none where the text is refused.
-fn words_of(text: &[u8], words: &mut [u32]) -> usize {
-    match dictionary_given(text, words) {
-        Given::Written(_, count) => count,
-        Given::Refused(_) => 0,
-    }
+// The words of the dictionary that the text gives; none where it is refused.
+pub fn read_dictionary_line(alloc: Global, line: &str) -> Result<Vec<u32>, NotReplayed> {
+    let text = read_bytes(alloc, line)?;
+    let mut words = vec![in alloc; 0u32; DICTIONARY_WORDS]?;
+    let written = match dictionary_given(text.as_slice(), words.as_mut_slice()) {
+        Ok(written) => written.words,
+        Err(_) => 0,
+    };
+    words.truncate(written);
+    Ok(words)
 }
+
+// More words than the dictionary of any such line has.
+const DICTIONARY_WORDS: usize = 65536;

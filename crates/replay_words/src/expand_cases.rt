@@ -1,74 +1,72 @@
 // Cases of `expand`. A line `dictionary HEX` gives a dictionary text; each line
 // `expand HEX NODES WORD WORD ..` after it gives a message type, the nodes that the Rust's expansion
 // spends and the words of its layout, or `expand HEX refused N P`.
-use crate::calls::Call;
-use crate::in_space::{replay_refused, replay_written};
-use replay_lines::cases::Replayed;
-use replay_lines::hex::decode;
-use replay_lines::lines::{after_word, kind_of};
-use replay_lines::recorded_numbers::read_numbers;
+use crate::dictionary_line::read_dictionary_line;
+use expand::expand_call::expand;
+use replay_lines::cases::{Cases, NotReplayed, Replayed};
+use replay_lines::given::{Given, Refused, Written};
+use replay_lines::recorded_values::{first_word, read_bytes, read_numbers};
+use replay_space::in_space::{replay_refused, replay_written};
+use replay_space::space::make_space;
+use std::alloc::{AllocError, Global};
 
-// The message type, then the answer that was recorded.
-pub fn replay(
-    kind: u8,
-    case: &[u8],
-    dictionary: &[u32],
-    recorded: &mut [u64],
-    space: &mut [u32],
-) -> Replayed {
-    if kind == b'd' {
-        return Replayed::NoCase;
-    }
-    let answer = after_word(case);
-    if answer == 0 {
-        return Replayed::Unread;
-    }
-    let past = answer - 1;
-    let mut message_type = [0u8; 64];
-    let letters = decode(&case[0..past], &mut message_type);
-    if 64 < letters {
-        return Replayed::Unread;
-    }
-    replay_type(
-        &message_type[0..letters],
-        &case[answer..],
-        dictionary,
-        recorded,
-        space,
-    )
+#[derive(Drop)]
+pub struct ExpandCases {
+    alloc: Global,
+    dictionary: Vec<u32>,
+    space: Vec<u32>,
 }
 
-fn replay_type(
-    message_type: &[u8],
-    answer: &[u8],
-    dictionary: &[u32],
-    recorded: &mut [u64],
-    space: &mut [u32],
-) -> Replayed {
-    if kind_of(answer) == b'r' {
-        let first = after_word(answer);
-        return replay_refused(
-            Call::Expand,
-            message_type,
-            dictionary,
-            &answer[first..],
+impl Cases for ExpandCases {
+    fn replay(&mut self, line: &str) -> Result<Option<Replayed>, NotReplayed> {
+        match first_word(line)? {
+            ("dictionary", text) => {
+                self.dictionary = read_dictionary_line(self.alloc, text)?;
+                Ok(None)
+            }
+            ("expand", case) => Ok(Some(self.replay_type(case)?)),
+            _ => Err(NotReplayed::NoForm),
+        }
+    }
+}
+
+impl ExpandCases {
+    pub fn new(alloc: Global) -> Result<Self, AllocError> {
+        Ok(Self {
+            alloc,
+            dictionary: Vec::new(alloc),
+            space: make_space(alloc)?,
+        })
+    }
+
+    // The message type, then the answer that was recorded.
+    fn replay_type(&mut self, case: &str) -> Result<Replayed, NotReplayed> {
+        let (letters, answer) = first_word(case)?;
+        let message_type = read_bytes(self.alloc, letters)?;
+        let message_type = message_type.as_slice();
+        let dictionary = self.dictionary.as_slice();
+        let space = self.space.as_mut_slice();
+        if let Some(refused) = Refused::recorded(answer)? {
+            return Ok(replay_refused(
+                |lent| expansion_given(dictionary, message_type, lent),
+                refused,
+                space,
+            ));
+        }
+        let (nodes, words) = first_word(answer)?;
+        let words = read_numbers::<u32>(self.alloc, words)?;
+        Ok(replay_written(
+            |lent| expansion_given(dictionary, message_type, lent),
+            nodes.parse()?,
+            words.as_slice(),
             space,
-        );
+        ))
     }
-    let size = read_numbers(answer, recorded);
-    if size == 0 {
-        return Replayed::Unread;
-    }
-    if recorded.len() < size {
-        return Replayed::Unread;
-    }
-    let nodes = recorded[0] as usize;
-    replay_written(
-        Call::Expand,
-        message_type,
-        dictionary,
-        nodes,
-        &recorded[1..size],
-        space,
-    )
+}
+
+fn expansion_given(dictionary: &[u32], message_type: &[u8], space: &mut [u32]) -> Given {
+    expand(dictionary, message_type, space).map(|expanded| Written {
+        number: expanded.nodes,
+        words: expanded.words,
+    })
 }

@@ -1,9 +1,10 @@
-// Recorded dictionaries, layouts and expansions: the cases of the calls that write words of 32 bits.
+// Recorded dictionaries, layouts and expansions: the cases of the calls that write words of 32
+// bits.
 #![tactic(auto)]
 
-pub mod calls;
 pub mod dictionary_cases;
 pub mod dictionary_line;
 pub mod expand_cases;
-pub mod in_space;
 pub mod layout_cases;
+#[cfg(test)]
+mod tests;

@@ -1,0 +1,56 @@
+// Calls that are lent space, beside their recorded answers.
+use crate::in_space::{replay_refused, replay_written};
+use crate::space::{Word, is_unwritten, make_space};
+use refusals::refusal::Refusal;
+use replay_lines::cases::Replayed;
+use replay_lines::given::{Given, Refused, Written};
+use std::test::Fail;
+
+// A call that writes one word.
+fn write_one<W: Word>(space: &mut [W], word: W) -> Given {
+    match space.first_mut() {
+        Some(first) => {
+            *first = word;
+            Ok(Written {
+                number: 3,
+                words: 1,
+            })
+        }
+        None => Err(Refusal::SpaceShort(1)),
+    }
+}
+
+#[test]
+fn replays_words_of_either_size(rt: HostRuntime) -> Result<(), Fail> {
+    let mut space = make_space::<u32>(rt.alloc())?;
+    let replayed = replay_written(|lent| write_one(lent, 5), 3, &[5], space.as_mut_slice());
+    assert_eq!(rt; replayed, Replayed::Same);
+    assert!(rt; is_unwritten(space.as_slice()));
+    let mut space = make_space::<u64>(rt.alloc())?;
+    let replayed = replay_written(|lent| write_one(lent, 5), 3, &[5], space.as_mut_slice());
+    assert_eq!(rt; replayed, Replayed::Same);
+    let replayed = replay_written(|lent| write_one(lent, 5), 3, &[6], space.as_mut_slice());
+    assert_eq!(rt; replayed, Replayed::Differs);
+    let replayed = replay_written(|lent| write_one(lent, 5), 4, &[5], space.as_mut_slice());
+    assert_eq!(rt; replayed, Replayed::Differs);
+    Ok(())
+}
+
+#[test]
+fn replays_a_refusal(rt: HostRuntime) -> Result<(), Fail> {
+    let mut space = make_space::<u32>(rt.alloc())?;
+    let refused = Refused::from(Refusal::MembersOver);
+    let replayed = replay_refused(
+        |_lent: &mut [u32]| Err(Refusal::MembersOver),
+        refused,
+        space.as_mut_slice(),
+    );
+    assert_eq!(rt; replayed, Replayed::Same);
+    let replayed = replay_refused(
+        |_lent: &mut [u32]| Err(Refusal::TypeNotDefined),
+        refused,
+        space.as_mut_slice(),
+    );
+    assert_eq!(rt; replayed, Replayed::Differs);
+    Ok(())
+}

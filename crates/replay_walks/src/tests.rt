@@ -1,0 +1,46 @@
+// Lines of the recorded lists, replayed with memory.
+use crate::message_cases::{DictionaryForm, MessageCases};
+use crate::walk_cases::WalkCases;
+use replay_lines::cases::{Cases, NotReplayed, Replayed};
+use std::test::Fail;
+
+#[test]
+fn replays_walks(rt: HostRuntime) -> Result<(), Fail> {
+    let mut cases = WalkCases::new(rt.alloc())?;
+    for line in [
+        "layout 1 13 14 15 15 15 15 10 11 11 9 1 0 9 1",
+        "message 393d3001313d7601",
+        "fields 9 2 3 1 6 7",
+    ] {
+        assert_eq!(rt; cases.replay(line), Ok(None));
+    }
+    let same = Ok(Some(Replayed::Same));
+    assert_eq!(rt;
+        cases.replay("walk 0 9 2 1 9 0 0 0 5 9 0 0 1 6 9 0 0 1 8 9 0 0 1"),
+        same
+    );
+    assert_eq!(rt;
+        cases.replay("walk 1 9 2 1 9 0 0 0 2 9 0 1 0 8 9 0 0 0"),
+        same
+    );
+    assert_eq!(rt; cases.replay("walk 2 9 3"), Ok(Some(Replayed::Differs)));
+    assert_eq!(rt; cases.replay("walk 2 9"), Err(NotReplayed::NoForm));
+    Ok(())
+}
+
+#[test]
+fn replays_verdicts(rt: HostRuntime) -> Result<(), Fail> {
+    let mut cases = MessageCases::new(rt.alloc(), DictionaryForm::Words)?;
+    for line in [
+        "dictionary 5 1 0 0 1 35 14 0 0 0 0 0 0 0 3 0 0 0 0 0 0 0 0 0 10 0 0 0 0 0 0 0 0 0 \
+         4 0 0 0 0 0 0 0 0 0 11 0 0 0 0 0 0 0 0 0 35 0",
+        "message -",
+        "fields",
+    ] {
+        assert_eq!(rt; cases.replay(line), Ok(None));
+    }
+    assert_eq!(rt; cases.replay("plain"), Ok(Some(Replayed::Same)));
+    assert_eq!(rt; cases.replay("strict"), Ok(Some(Replayed::Same)));
+    assert_eq!(rt; cases.replay("plain 0"), Ok(Some(Replayed::Differs)));
+    Ok(())
+}
