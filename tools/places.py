@@ -59,6 +59,13 @@ def functions(text):
         yield found.group(1), parameters, clauses, block(rest, start)
 
 
+def bodies(sources):
+    """File, name and body of each function."""
+    for name, text in sources:
+        for function, _, _, body in functions(code(text)):
+            yield name, function, body
+
+
 def enums(text):
     for found in re.finditer(r"\benum (\w+)[^{]*", text):
         inside = block(text, found.end() - 1)[1:-1]
@@ -109,21 +116,20 @@ def shapes(sources):
 def twins(sources):
     """2: functions whose bodies are the same but for types, numbers, constants and names of types."""
     same = defaultdict(list)
-    for name, text in sources:
-        for function, _, _, body in functions(code(text)):
-            words = re.findall(r"b?'[^']*'|b?\"[^\"]*\"|\w+|[^\w\s]", body)
-            plain = []
-            for word in words:
-                if re.fullmatch(r"\d\w*", word) or word[0] in "'\"" or word[:2] in ("b'", 'b"'):
-                    plain.append("0")
-                elif re.fullmatch(PRIMITIVE, word):
-                    plain.append("T")
-                elif re.fullmatch(r"[A-Z]\w*", word):
-                    plain.append("C")
-                else:
-                    plain.append(word)
-            if len(plain) > 4:
-                same[" ".join(plain)].append((name, function))
+    for name, function, body in bodies(sources):
+        words = re.findall(r"b?'[^']*'|b?\"[^\"]*\"|\w+|[^\w\s]", body)
+        plain = []
+        for word in words:
+            if re.fullmatch(r"\d\w*", word) or word[0] in "'\"" or word[:2] in ("b'", 'b"'):
+                plain.append("0")
+            elif re.fullmatch(PRIMITIVE, word):
+                plain.append("T")
+            elif re.fullmatch(r"[A-Z]\w*", word):
+                plain.append("C")
+            else:
+                plain.append(word)
+        if len(plain) > 4:
+            same[" ".join(plain)].append((name, function))
     for group in same.values():
         if len(group) > 1:
             for name, function in group:
@@ -132,12 +138,11 @@ def twins(sources):
 
 def loops(sources):
     """3: loops that count by hand."""
-    for name, text in sources:
-        for function, _, _, body in functions(code(text)):
-            for found in re.finditer(r"\bwhile ([^{\n]*)", body):
-                yield name, f"fn {function}, while {found.group(1).strip()}"
-            for found in re.finditer(r"\bloop \{", body):
-                yield name, f"fn {function}, loop"
+    for name, function, body in bodies(sources):
+        for found in re.finditer(r"\bwhile ([^{\n]*)", body):
+            yield name, f"fn {function}, while {found.group(1).strip()}"
+        for _ in re.finditer(r"\bloop \{", body):
+            yield name, f"fn {function}, loop"
 
 
 def by_hand(sources):
@@ -189,22 +194,20 @@ def repeated(sources):
 
 def buffers(sources):
     """6: arrays of fixed size, searches of sorted words."""
-    for name, text in sources:
-        for function, _, _, body in functions(code(text)):
-            for found in re.finditer(r"\[\w+; ?\w+\]", body):
-                yield name, f"fn {function}, {found.group(0)}"
-            for _ in re.finditer(r"\bbinary_search\(", body):
-                yield name, f"fn {function}, a search of sorted words"
+    for name, function, body in bodies(sources):
+        for found in re.finditer(r"\[\w+; ?\w+\]", body):
+            yield name, f"fn {function}, {found.group(0)}"
+        for _ in re.finditer(r"\bbinary_search\(", body):
+            yield name, f"fn {function}, a search of sorted words"
 
 
 def switches(sources):
     """7: enums without values, or taken by a function, that say which step to run: one function call in each arm."""
-    for name, text in sources:
-        for function, _, _, body in functions(code(text)):
-            for found in re.finditer(r"match (call|list|kind) \{", body):
-                arms = block(body, found.end() - 1)
-                if len(re.findall(r"=>\s*\{?\s*[\w:]+\(", arms)) > 1:
-                    yield name, f"fn {function}, match {found.group(1)}"
+    for name, function, body in bodies(sources):
+        for found in re.finditer(r"match (call|list|kind) \{", body):
+            arms = block(body, found.end() - 1)
+            if len(re.findall(r"=>\s*\{?\s*[\w:]+\(", arms)) > 1:
+                yield name, f"fn {function}, match {found.group(1)}"
 
 
 POINTS = {"1": shapes, "2": twins, "3": loops, "4": by_hand, "5": repeated, "6": buffers, "7": switches}
