@@ -1,5 +1,7 @@
 -- Definitions and laws of the crate `records`: a line of a dictionary text as ten words. A definition's laws stand in the file of its name with `Laws`, its
 -- examples in the one with `Cases`.
+pub mod RecordKind
+pub mod RecordKindLaws
 pub mod Records
 pub mod RecordsLaws
 pub mod LettersLaws

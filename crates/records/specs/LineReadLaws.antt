@@ -3,7 +3,7 @@
 --
 --   Usable line      a record can hold the line, if a dictionary text knows its form
 --   Fits len line    .., and the line has at most so many bytes
-use Rattle.std.specs.Prelude.{◌≡◌, refl, ℕ, zero, suc, ◌+◌, ◌-◌, ◌^◌, ◌≤◌, ◌<◌, Bool, ◌&&◌, cond, List, [], ◌∷◌, leb, ltb, get_or, drop, Option, Some, None}
+use Rattle.std.specs.Prelude.{◌≡◌, refl, ℕ, zero, suc, ◌+◌, ◌^◌, ◌≤◌, ◌<◌, Bool, ◌&&◌, cond, List, [], ◌∷◌, leb, ltb, get_or, drop, Option, Some, None}
 use Rattle.std.proofs.Common.{sym, ◌∙◌, arith, length-drop, leb-true, leb-false}
 use Rattle.std.proofs.Math.Path.{ap}
 use Rattle.std.proofs.Math.Bool.{true, false}

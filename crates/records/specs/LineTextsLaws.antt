@@ -1,6 +1,6 @@
 -- Laws of `LineTexts.antt`: a line that a record can hold is read from its text (`line_of_text_of`), and the length of that text is `length_of`
 -- (`text_of_length`). First the parts of a line, each read from its own text. Assumes nothing.
-use Rattle.std.specs.Prelude.{◌≡◌, ℕ, suc, ◌+◌, ◌-◌, ◌^◌, ◌≤◌, ◌<◌, Bool, ◌&&◌, cond, List, [], ◌∷◌, ◌++◌, ltb, eqb, length, Option, Some, None}
+use Rattle.std.specs.Prelude.{◌≡◌, ℕ, suc, ◌+◌, ◌^◌, ◌≤◌, ◌<◌, Bool, ◌&&◌, cond, List, [], ◌∷◌, ◌++◌, ltb, eqb, length, Option, Some, None}
 use Rattle.std.proofs.Math.Path.{refl}
 use Rattle.std.proofs.Common.{sym, ap, ◌∙◌, arith, length-append, le-ltb, eqb-true}
 use Rattle.std.proofs.Math.Bool.{true, false}

@@ -27,7 +27,7 @@
 --   line_from record              the line of ten words
 --   lines_from count words        the lines of so many records
 --   Words32 words                every word has 32 bits, as the words that are lent have
-use Rattle.std.specs.Prelude.{◌≡◌, ℕ, zero, suc, ◌-◌, ◌/◌, ◌%◌, ◌^◌, ◌<◌, Bool, true, false, ◌&&◌, List, [], ◌∷◌, get_or, take, drop, replicate, if◌then◌else◌, Option, Some, None}
+use Rattle.std.specs.Prelude.{ℕ, zero, suc, ◌-◌, ◌/◌, ◌%◌, ◌^◌, ◌<◌, Bool, true, false, ◌&&◌, List, [], ◌∷◌, get_or, take, drop, replicate, if◌then◌else◌, Option, Some, None}
 use Rattle.ascii.specs.Notation.{◌≤ᵇ◌, ◌<ᵇ◌, ◌≡ᵇ◌}
 use Rattle.ascii.specs.Bytes.{every}
 use Rattle.line_forms.specs.declared.line.Line.{Line}

@@ -2,7 +2,7 @@
 -- read as a line are its record (`record_of-line_from`), so that a line has one record and every word of it counts. Assumes nothing.
 --
 --   Held line         a record can hold the line: its numbers have 32 bits, its parts are what document 01 admits
-use Rattle.std.specs.Prelude.{◌≡◌, ℕ, zero, suc, ◌+◌, ◌-◌, ◌^◌, ◌≤◌, ◌<◌, Bool, true, false, ◌&&◌, cond, leb, ltb, eqb, get_or, take, drop, replicate, if◌then◌else◌, Option, Some, None}
+use Rattle.std.specs.Prelude.{◌≡◌, ℕ, suc, ◌+◌, ◌-◌, ◌^◌, ◌≤◌, ◌<◌, Bool, true, false, ◌&&◌, cond, leb, ltb, eqb, get_or, take, drop, replicate, if◌then◌else◌, Option, Some, None}
 use Rattle.std.proofs.Math.Path.{refl}
 use Rattle.std.proofs.Common.{sym, ap, ◌∙◌}
 use mathlib.Core.List.{List, [], ◌∷◌}
@@ -19,6 +19,7 @@ use Rattle.line_forms.specs.declared.line.Line.{Line}
 use Rattle.line_forms.specs.declared.line.Line.TheVariants.{Def, Value, BeginHeader, BeginTrailer, EndHeader, EndTrailer, Component, Message, Field, Group, Use, End, Member, RequiredTag, Unknown}
 use Rattle.lines.specs.LineParts.{number_of, is_visible}
 use Rattle.records.specs.Records.{Words32, holds_byte, holds_part, letters_text, holds_letters, holds_value, is_zero, value_words, is_unused, flag_word, record4, record_of, if_unused, def_from, value_from, message_from, field_from, group_from, use_from, end_of_letters, end_of_number, outer_from, body_from, line_from}
+use Rattle.records.specs.RecordKindLaws.{NoneTo}
 use Rattle.records.specs.WordPairs.{pair_of, pair_at}
 
 -- ---- holds_byte
@@ -404,11 +405,6 @@ line_of_kind kind words =
 pub line_from-kind : (words : List ℕ) (kind : ℕ) → get_or words 0 0 ≡ kind → line_of_kind kind words ≡ line_from words
 unfolding line_from outer_from body_from
 line_from-kind words kind same = ap (λ known. line_of_kind known words) (sym same)
-
--- the kind is none of 1 to the count
-abbrev pub NoneTo : ℕ → ℕ → Type 0
-NoneTo zero kind = Unit
-NoneTo (suc count) kind = NoneTo count kind × (kind ≡ suc count → ⊥)
 
 pub line_from-other : (words : List ℕ) → NoneTo 13 (get_or words 0 0) → Unknown ≡ line_from words
 line_from-other words none =

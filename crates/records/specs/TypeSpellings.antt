@@ -7,8 +7,8 @@
 --   types-numbered   the types are numbered from 0, in their order
 --   type-spelled     a type's spelling is read as its number, and the number stands for the type
 --   name-read        a name that is read as a number is the spelling of the type it stands for
-use Rattle.std.specs.Prelude.{◌≡◌, refl, ℕ, zero, suc, ◌+◌, ◌-◌, ◌≤◌, ◌<◌, Bool, true, false, cond, ◌&&◌, List, [], ◌∷◌, ◌++◌, map, eqb, ltb, length, get_or, Option, Some, None}
-use Rattle.std.proofs.Common.{sym, ap, ◌∙◌, arith, eqb-true, lt-ltb}
+use Rattle.std.specs.Prelude.{◌≡◌, refl, ℕ, zero, suc, ◌+◌, ◌-◌, ◌≤◌, ◌<◌, Bool, true, false, cond, ◌&&◌, List, [], ◌∷◌, ◌++◌, map, eqb, length, get_or, Option, Some, None}
+use Rattle.std.proofs.Common.{◌∙◌, arith, eqb-true, lt-ltb}
 use Rattle.std.proofs.lemmas.Bool.{false≢true}
 use Rattle.ascii.specs.NotationLaws.{and_left, and_right}
 use Rattle.field_types.specs.declared.field_type.FieldType.{FieldType}

@@ -12,7 +12,6 @@ use Rattle.ascii.specs.NotationLaws.{and_left, and_right, and-true, and-false}
 use Rattle.ascii.specs.Bytes.{every}
 use Rattle.ascii.specs.BytesLaws.{drop-step}
 use Rattle.lines.specs.declared.line_parts.Admitted.{Admitted}
-use Rattle.lines.specs.Lines.{behind}
 use Rattle.lines.specs.LineParts.{flag_of, word_at, is_alphanumeric, message_type_of, is_visible, admitted_bytes, value_of}
 use Rattle.lines.specs.LinePartsLaws.{message_type_of-letters, value_of_bytes}
 use Rattle.records.specs.Records.{byte0, byte1, byte2, byte3, bytes_of, is_zero, holds_byte, holds_part, letters_length, letters_text, holds_letters, holds_value, value_words, is_unused}

@@ -2,4 +2,5 @@
 #![tactic(auto)]
 
 pub mod line_texts;
+pub mod record_kind;
 pub mod records;

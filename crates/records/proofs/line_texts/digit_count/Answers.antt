@@ -1,7 +1,6 @@
 -- `records::line_texts::digit_count` meets its contract: the sums are those of specs/NumeralLaws.antt.
 use native.Mathlib.Omega.{arith}
 use Rattle.records.specs.NumeralLaws.{digit_count-small, digit_count-large}
-use borrow.Author.Rules.{rules}
 use Rattle.records.proofs.line_texts.digit_count.Goals as goal
 
 -- return digits;

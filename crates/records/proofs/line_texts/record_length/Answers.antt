@@ -1,10 +1,8 @@
 -- `records::line_texts::record_length` meets its contract, a kind at a time (specs/LineLengthLaws.antt).
-use mathlib.Core.Path.{◌≡◌}
 use native.Mathlib.Omega.{arith}
 use Rattle.records.specs.LineLengths.{length_of}
 use Rattle.records.specs.RecordsLaws.{line_from-other}
 use Rattle.records.specs.LineLengthLaws.{known-def, known-value, known-begin_header, known-begin_trailer, known-component, known-message, known-field, known-group, known-use, known-end_header, known-end_trailer, known-end_letters, known-end_number, other_unknown}
-use borrow.Author.Rules.{rules}
 use Rattle.records.proofs.line_texts.record_length.Goals as goal
 
 pub overflow_cast-result : goal.overflow_cast-result

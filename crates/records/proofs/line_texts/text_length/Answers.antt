@@ -1,10 +1,8 @@
 -- `records::line_texts::text_length` meets its contract. The loop's invariant is `LengthSoFar`; the laws are those of specs/LineLengthLaws.antt.
-use mathlib.Core.Path.{refl, ◌∙◌}
-use Prim.Native.Nat.{◌-◌}
+use mathlib.Core.Path.{refl}
 use lib.ListN.{length-take, length-drop}
 use native.Mathlib.Omega.{arith}
-use Rattle.records.specs.LineLengthLaws.{LengthSoFar, length-begins, record_known, part-known, part_length, length-few, length-goes_on, length-ends}
-use borrow.Author.Rules.{rules}
+use Rattle.records.specs.LineLengthLaws.{length-begins, record_known, part-known, part_length, length-few, length-goes_on, length-ends}
 use Rattle.records.proofs.line_texts.text_length.Goals as goal
 
 -- while done < lines {

@@ -1,6 +1,5 @@
 -- `records::records::def_from` meets its contract: its tests are those of `def_from`.
 use borrow.Author.Tests.{lt-ltb, le-ltb}
-use borrow.Author.Rules.{rules}
 use Rattle.records.proofs.records.def_from.Goals as goal
 
 pub returns-then-words-lt34 : goal.returns-then-words-lt34

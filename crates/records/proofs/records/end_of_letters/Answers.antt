@@ -1,7 +1,6 @@
 -- `records::records::end_of_letters` meets its contract: its tests are those of `end_of_letters`.
 use mathlib.Core.Path.{sym, ◌∙◌}
 use borrow.Author.Tests.{not-true, not-false}
-use borrow.Author.Rules.{rules}
 use Rattle.records.proofs.records.end_of_letters.Goals as goal
 
 -- return Line::Unknown;

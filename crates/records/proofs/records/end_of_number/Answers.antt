@@ -1,6 +1,5 @@
 -- `records::records::end_of_number` meets its contract: its tests are those of `end_of_number`.
 use borrow.Author.Tests.{le-leb, lt-leb}
-use borrow.Author.Rules.{rules}
 use Rattle.records.proofs.records.end_of_number.Goals as goal
 
 -- return Line::Unknown;

@@ -1,6 +1,5 @@
 -- `records::records::group_from` meets its contract: its tests are those of `group_from`.
 use borrow.Author.Tests.{le-leb, lt-leb}
-use borrow.Author.Rules.{rules}
 use Rattle.records.proofs.records.group_from.Goals as goal
 
 pub returns-then-words-le1 : goal.returns-then-words-le1

@@ -2,7 +2,6 @@
 use mathlib.Core.Path.{sym, ◌∙◌}
 use borrow.Author.Tests.{not-true, not-false, eq-eqb, ne_eqb}
 use Rattle.records.specs.LettersLaws.{holds_letters-parts}
-use borrow.Author.Rules.{rules}
 use Rattle.records.proofs.records.holds_letters.Goals as goal
 
 -- return false;

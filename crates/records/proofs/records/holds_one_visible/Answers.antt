@@ -2,7 +2,6 @@
 use mathlib.Core.Path.{sym, ◌∙◌}
 use Rattle.lines.specs.LineParts.{is_visible}
 use Rattle.records.specs.WordTextLaws.{part-one, part-one_more}
-use borrow.Author.Rules.{rules}
 use Rattle.records.proofs.records.holds_one_visible.Goals as goal
 
 -- return false;

@@ -1,10 +1,7 @@
 -- `records::records::holds_value` meets its contract. The loop's invariant is `ValueSoFar`; the laws are those of specs/RecordsLaws.antt.
 use mathlib.Core.Path.{sym, ◌∙◌}
-use Prim.Native.Nat.{◌-◌}
 use borrow.Author.Tests.{not-true, not-false}
-use lib.ListN.{length}
-use Rattle.records.specs.RecordsLaws.{ValueSoFar, value-begins, value-stops, value-goes_on, value-ends}
-use borrow.Author.Rules.{rules}
+use Rattle.records.specs.RecordsLaws.{value-begins, value-stops, value-goes_on, value-ends}
 use Rattle.records.proofs.records.holds_value.Goals as goal
 
 -- while index < words.len() {

@@ -5,7 +5,6 @@ use native.Mathlib.Omega.{arith}
 use borrow.Author.Tests.{not-true, not-false}
 use Rattle.lines.specs.LineParts.{is_visible}
 use Rattle.records.specs.WordTextLaws.{part-empty, part-other_first, part-other_second, part-of_two, part-other_third, part-of_three, part-of_four}
-use borrow.Author.Rules.{rules}
 use Rattle.records.proofs.records.holds_visible_part.Goals as goal
 
 -- return word == 0;

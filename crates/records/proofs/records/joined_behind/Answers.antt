@@ -2,7 +2,6 @@
 use mathlib.Core.Path.{◌≡◌}
 use native.Mathlib.Omega.{arith}
 use Rattle.records.specs.RecordsLaws.{behind-one, behind-two, behind-three, behind-four}
-use borrow.Author.Rules.{rules}
 use Rattle.records.proofs.records.joined_behind.Goals as goal
 
 -- fn joined_behind(used: usize, words: &[u32]) -> u64

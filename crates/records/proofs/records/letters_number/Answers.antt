@@ -7,7 +7,6 @@ use borrow.Author.Tests.{not-true, not-false}
 use Rattle.ascii.specs.Digits.{is_digit}
 use Rattle.records.specs.Records.{byte0, byte1, byte2, byte3}
 use Rattle.records.specs.LettersLaws.{third_of, fourth_of, NumberSoFar, number_no_digit, number_leading_zero, number_of_one, number_begins, number_stops, number_ends, number_goes_on, number_of_all}
-use borrow.Author.Rules.{rules}
 use Rattle.records.proofs.records.letters_number.Goals as goal
 
 -- return None;

@@ -1,7 +1,6 @@
 -- `records::records::line_at` meets its contract: the part lent has ten words.
 use mathlib.Core.Path.{refl, ◌∙◌}
 use Rattle.records.specs.RecordsLaws.{line_from-part}
-use borrow.Author.Rules.{rules}
 use Rattle.records.proofs.records.line_at.Goals as goal
 
 -- pub fn line_at(words: &[u32], at: usize) -> Line

@@ -2,7 +2,6 @@
 use mathlib.Core.Path.{◌∙◌}
 use native.Mathlib.Omega.{arith}
 use Rattle.records.specs.RecordsLaws.{line_from-kind, line_from-other}
-use borrow.Author.Rules.{rules}
 use Rattle.records.proofs.records.line_from.Goals as goal
 
 -- pub fn line_from(words: &[u32]) -> Line

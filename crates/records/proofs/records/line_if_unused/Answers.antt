@@ -1,6 +1,5 @@
 -- `records::records::line_if_unused` meets its contract: its test is that of `if_unused`.
 use mathlib.Core.Path.{sym, ◌∙◌}
-use borrow.Author.Rules.{rules}
 use Rattle.records.proofs.records.line_if_unused.Goals as goal
 
 -- return line;

@@ -1,7 +1,6 @@
 -- `records::records::message_from` meets its contract: its tests are those of `message_from`.
 use mathlib.Core.Path.{sym, ◌∙◌}
 use borrow.Author.Tests.{le-leb, lt-leb, not-true, not-false}
-use borrow.Author.Rules.{rules}
 use Rattle.records.proofs.records.message_from.Goals as goal
 
 -- return Line::Unknown;

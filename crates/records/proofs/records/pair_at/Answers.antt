@@ -1,6 +1,5 @@
 -- `records::records::pair_at` meets its contract: each half has 32 bits.
 use native.Mathlib.Omega.{arith}
-use borrow.Author.Rules.{rules}
 use Rattle.records.proofs.records.pair_at.Goals as goal
 
 -- pub fn pair_at(words: &[u32], at: usize) -> u64

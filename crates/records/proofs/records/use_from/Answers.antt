@@ -1,6 +1,5 @@
 -- `records::records::use_from` meets its contract: its tests are those of `use_from`.
 use borrow.Author.Tests.{le-leb, lt-leb}
-use borrow.Author.Rules.{rules}
 use Rattle.records.proofs.records.use_from.Goals as goal
 
 pub returns-then-words-le1 : goal.returns-then-words-le1

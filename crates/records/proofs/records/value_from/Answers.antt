@@ -1,12 +1,10 @@
 -- `records::records::value_from` meets its contract: its tests are those of `value_from`.
 use mathlib.Core.Path.{◌≡◌, sym, ap, ◌∙◌}
-use mathlib.Core.Bool.{true, false}
 use lib.ListN.{get_or, drop}
 use borrow.Author.Tests.{le-leb, lt-leb}
 use Rattle.ascii.specs.BytesLaws.{part_to_end}
 use Rattle.line_forms.specs.declared.line.Line.TheVariants.{Value}
 use Rattle.records.specs.Records.{holds_value}
-use borrow.Author.Rules.{rules}
 use Rattle.records.proofs.records.value_from.Goals as goal
 
 -- return Line::Unknown;

@@ -2,7 +2,6 @@
 use mathlib.Core.Path.{refl}
 use native.Mathlib.Omega.{arith}
 use Rattle.ascii.specs.NotationLaws.{is_between-range}
-use borrow.Author.Rules.{rules}
 use Rattle.records.proofs.records.with_digit.Goals as goal
 
 pub overflow_sub-result : goal.overflow_sub-result
