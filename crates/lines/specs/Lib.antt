@@ -2,6 +2,8 @@
 -- of its name with `Laws`, its examples in the one with `Cases`.
 pub mod Lines
 pub mod LinesLaws
+pub mod TextLines
+pub mod TextLinesLaws
 pub mod LineParts
 pub mod LinePartsLaws
 pub mod LinePartsCases

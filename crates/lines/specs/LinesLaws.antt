@@ -1,7 +1,8 @@
 -- Laws of `Lines.antt`, in its order. Where a search from `first` finds a byte at `past`, the part between is a piece. Assumes nothing.
-use Rattle.std.specs.Prelude.{◌≡◌, ℕ, suc, ◌+◌, ◌-◌, ◌≤◌, ◌<◌, Bool, cond, eqb, length, get_or, take, drop}
+use Rattle.std.specs.Prelude.{◌≡◌, ℕ, zero, suc, ◌+◌, ◌-◌, ◌≤◌, ◌<◌, Bool, not, cond, eqb, length, get_or, take, drop, ◌++◌, ltb, Some, None}
+use Rattle.std.specs.List.{position, position_or_len}
 use Rattle.std.proofs.Math.Path.{refl, ap}
-use Rattle.std.proofs.Common.{sym, ◌∙◌, arith, length-drop, drop-drop}
+use Rattle.std.proofs.Common.{sym, ◌∙◌, arith, length-drop, drop-drop, eqb-true, ltb-true, ltb-false}
 use Rattle.std.proofs.Math.Bool.{true, false}
 use Rattle.std.proofs.lemmas.Bool.{false≢true}
 use mathlib.Core.List.{List, [], ◌∷◌}
@@ -36,6 +37,52 @@ pub position_of_within : (byte : ℕ) (bytes : List ℕ) → position_of byte by
 unfolding position_of
 position_of_within byte [] = omega arith
 position_of_within byte (first ∷ rest) = position-within (eqb first byte) _ _ (position_of_within byte rest)
+
+-- what the library's `position` finds, it finds there
+is_by : (here : Bool) (own library : ℕ) → own ≡ library → cond here 0 (suc own) ≡ cond (not here) (1 + library) 0
+is_by true own library same = refl
+is_by false own library same = omega arith
+
+pub position_of_is : (byte : ℕ) (bytes : List ℕ) → position_of byte bytes ≡ position_or_len (λ each. eqb each byte) bytes
+unfolding position_of
+position_of_is byte [] = refl
+position_of_is byte (first ∷ rest) = is_by (eqb first byte) _ _ (position_of_is byte rest)
+
+module _ (byte : ℕ) (bytes : List ℕ) where
+  pub position_of-found : (place : ℕ) → position (λ each. eqb each byte) bytes ≡ Some place → (place ≡ position_of byte bytes) × (place < length bytes)
+  position_of-found place found = rw position_of_is (found_by (ltb (position_or_len (λ each. eqb each byte) bytes) (length bytes)) refl found)
+    where
+      found_by : (inside : Bool) → ltb (position_or_len (λ each. eqb each byte) bytes) (length bytes) ≡ inside
+          → cond inside (Some (position_or_len (λ each. eqb each byte) bytes)) None ≡ Some place
+          → (place ≡ position_or_len (λ each. eqb each byte) bytes) × (place < length bytes)
+      found_by true test same = let here : position_or_len (λ each. eqb each byte) bytes ≡ place = cc in (sym here, omega (arith, here, ltb-true _ _ test))
+      found_by false test same = cc
+
+  pub position_of-missing : position (λ each. eqb each byte) bytes ≡ None → position_of byte bytes ≡ length bytes
+  position_of-missing missing = missing_by (ltb (position_or_len (λ each. eqb each byte) bytes) (length bytes)) refl missing
+    where
+      missing_by : (inside : Bool) → ltb (position_or_len (λ each. eqb each byte) bytes) (length bytes) ≡ inside
+          → cond inside (Some (position_or_len (λ each. eqb each byte) bytes)) None ≡ None
+          → position_of byte bytes ≡ length bytes
+      missing_by true test other = cc
+      missing_by false test same = omega (arith, position_of_is byte bytes, position_of_within byte bytes, ltb-false _ _ test)
+
+-- the byte stands between what is before it and what is behind it
+split_by : (byte first : ℕ) (rest : List ℕ) (here : Bool) → eqb first byte ≡ here → (place : ℕ) → place ≡ cond here 0 (suc (position_of byte rest)) → place < suc (length rest)
+    → ((deeper : ℕ) → deeper ≡ position_of byte rest → deeper < length rest → rest ≡ take deeper rest ++ (byte ∷ drop (deeper + 1) rest))
+    → first ∷ rest ≡ take place (first ∷ rest) ++ (byte ∷ drop (place + 1) (first ∷ rest))
+split_by byte first rest true same zero is inside others = ap (λ (each : ℕ). each ∷ rest) (eqb-true first byte same)
+split_by byte first rest true same (suc place) is inside others = absurd (omega arith)
+split_by byte first rest false other zero is inside others = absurd (omega arith)
+split_by byte first rest false other (suc place) is inside others =
+    let next : suc place + 1 ≡ suc (place + 1) = omega arith in
+    rw next (ap (λ (bytes : List ℕ). first ∷ bytes) (others place (omega arith) (omega arith)))
+
+pub position_of-split : (byte : ℕ) (bytes : List ℕ) (place : ℕ) → place ≡ position_of byte bytes → place < length bytes
+    → bytes ≡ take place bytes ++ (byte ∷ drop (place + 1) bytes)
+unfolding position_of
+position_of-split byte [] place is inside = absurd (omega arith)
+position_of-split byte (first ∷ rest) place is inside = split_by byte first rest (eqb first byte) refl place is inside (position_of-split byte rest)
 
 -- ---- before, behind
 

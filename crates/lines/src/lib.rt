@@ -3,3 +3,4 @@
 
 pub mod line_parts;
 pub mod lines;
+pub mod text_lines;

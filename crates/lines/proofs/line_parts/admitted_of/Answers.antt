@@ -1,5 +1,4 @@
 -- `lines::line_parts::admitted_of` meets its contract, a word at a time.
-use borrow.Author.Rules.{rules}
 use Rattle.lines.proofs.line_parts.admitted_of.Goals as goal
 
 -- fn admitted_of(bytes: &[u8]) -> Admitted

@@ -1,11 +1,8 @@
 -- `lines::line_parts::all_alphanumeric` meets its contract. The loop's invariant is `EverySoFar`; the laws are those of ascii's BytesLaws.antt.
-use mathlib.Core.Path.{sym, ◌∙◌}
 use Prim.Native.Nat.{◌-◌}
-use borrow.Author.Tests.{not-true, not-false}
 use lib.ListN.{length}
-use Rattle.ascii.specs.BytesLaws.{EverySoFar, every-begins, every-goes_on, every-fails, every_holds}
+use Rattle.ascii.specs.BytesLaws.{EverySoFar}
 use Rattle.lines.specs.LineParts.{is_alphanumeric}
-use borrow.Author.Rules.{rules}
 use Rattle.lines.proofs.line_parts.all_alphanumeric.Given as goal
 
 abbrev pub invariant-loop-index : goal.invariant-loop-index

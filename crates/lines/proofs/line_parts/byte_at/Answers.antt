@@ -1,8 +1,7 @@
 -- `lines::line_parts::byte_at` meets its contract: a byte of the slice is below 256, and behind the last one `get_or` gives 0.
-use mathlib.Core.Path.{◌≡◌, refl, sym}
+use mathlib.Core.Path.{refl, sym}
 use native.Mathlib.Omega.{arith}
 use lib.ListN.{get_or-eq_default}
-use borrow.Author.Rules.{rules}
 use Rattle.lines.proofs.line_parts.byte_at.Goals as goal
 
 pub overflow_cast-result : goal.overflow_cast-result

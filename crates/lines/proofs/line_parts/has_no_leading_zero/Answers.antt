@@ -1,7 +1,6 @@
 -- `lines::line_parts::has_no_leading_zero` meets its contract, by specs/LinePartsLaws.antt.
 use mathlib.Core.Path.{sym}
 use Rattle.lines.specs.LinePartsLaws.{no_leading_zero-short, no_leading_zero-long}
-use borrow.Author.Rules.{rules}
 use Rattle.lines.proofs.line_parts.has_no_leading_zero.Goals as goal
 
 -- return true;

@@ -1,7 +1,6 @@
 -- `lines::line_parts::is_ascii_alphanumeric` meets its contract, by specs/LinePartsLaws.antt.
 use mathlib.Core.Path.{sym, ◌∙◌}
 use Rattle.lines.specs.LinePartsLaws.{is_alphanumeric-digit, is_alphanumeric-capital, is_alphanumeric-small}
-use borrow.Author.Rules.{rules}
 use Rattle.lines.proofs.line_parts.is_ascii_alphanumeric.Goals as goal
 
 -- return true;

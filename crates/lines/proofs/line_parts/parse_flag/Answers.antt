@@ -2,7 +2,6 @@
 use mathlib.Core.Path.{sym, ◌∙◌}
 use borrow.Author.Tests.{eq-eqb, ne_eqb}
 use Rattle.lines.specs.LinePartsLaws.{flag_of-other_length, flag_of-one_byte}
-use borrow.Author.Rules.{rules}
 use Rattle.lines.proofs.line_parts.parse_flag.Goals as goal
 
 -- return None;

@@ -3,7 +3,6 @@ use Rattle.std.specs.Prelude.{Some}
 use mathlib.Core.Path.{sym, ap, ◌∙◌}
 use borrow.Author.Tests.{not-true, not-false}
 use Rattle.lines.specs.LinePartsLaws.{message_type_of-empty, message_type_of-long, message_type_of-other, message_type_of-letters}
-use borrow.Author.Rules.{rules}
 use Rattle.lines.proofs.line_parts.parse_message_type.Goals as goal
 
 -- return None;

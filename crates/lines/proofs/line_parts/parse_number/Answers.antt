@@ -2,7 +2,6 @@
 use mathlib.Core.Path.{sym, ap, ◌∙◌}
 use borrow.Author.Tests.{not-true, not-false, lt-ltb, le-ltb}
 use Rattle.lines.specs.LinePartsLaws.{number_of_leading_zero, number_from, number_of_count}
-use borrow.Author.Rules.{rules}
 use Rattle.lines.proofs.line_parts.parse_number.Goals as goal
 
 -- return None;

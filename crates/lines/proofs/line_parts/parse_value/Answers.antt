@@ -3,7 +3,6 @@ use Rattle.std.specs.Prelude.{Some}
 use mathlib.Core.Path.{sym, ap, ◌∙◌}
 use borrow.Author.Tests.{not-true, not-false}
 use Rattle.lines.specs.LinePartsLaws.{value_of_empty, value_of_long, value_of_other, value_of_bytes}
-use borrow.Author.Rules.{rules}
 use Rattle.lines.proofs.line_parts.parse_value.Goals as goal
 
 -- return None;

@@ -1,12 +1,7 @@
 -- `lines::line_parts::type_in` meets its contract: the names from `first` on, whose number is `number`, are what is left to look through (specs/LinePartsLaws.antt).
-use mathlib.Core.Path.{◌≡◌, refl, sym, ◌∙◌}
-use Prim.Native.Nat.{◌≤◌, ◌-◌}
+use mathlib.Core.Path.{refl, sym, ◌∙◌}
 use native.Mathlib.Omega.{arith}
-use lib.ListN.{length, drop}
-use Rattle.lines.specs.Lines.{cut, comma}
-use Rattle.lines.specs.LineParts.{type_in}
 use Rattle.lines.specs.LinePartsLaws.{type-here, type-nowhere, type-further}
-use borrow.Author.Rules.{rules}
 use Rattle.lines.proofs.line_parts.type_in.Goals as goal
 
 -- loop {

@@ -1,7 +1,6 @@
 -- `lines::line_parts::word_at` meets its contract: four bytes, each below 256.
 use native.Mathlib.Omega.{arith}
 use Rattle.lines.specs.LineParts.{word_at}
-use borrow.Author.Rules.{rules}
 use Rattle.lines.proofs.line_parts.word_at.Goals as goal
 
 -- pub fn word_at(bytes: &[u8], first: usize) -> u32

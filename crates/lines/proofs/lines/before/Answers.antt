@@ -1,6 +1,5 @@
 -- `lines::lines::before` meets its contract, by specs/LinesLaws.antt.
 use Rattle.lines.specs.LinesLaws.{before-found}
-use borrow.Author.Rules.{rules}
 use Rattle.lines.proofs.lines.before.Goals as goal
 
 -- pub fn before(bytes: &[u8], byte: u8) -> &[u8]

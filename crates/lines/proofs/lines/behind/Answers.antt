@@ -3,7 +3,6 @@ use mathlib.Core.Path.{◌∙◌}
 use Prim.Native.Nat.{◌+◌}
 use Rattle.ascii.specs.BytesLaws.{part_to_end}
 use Rattle.lines.specs.LinesLaws.{behind-found, behind-nothing}
-use borrow.Author.Rules.{rules}
 use Rattle.lines.proofs.lines.behind.Goals as goal
 
 pub returns-then-place-bytes : goal.returns-then-place-bytes

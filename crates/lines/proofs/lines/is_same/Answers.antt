@@ -1,7 +1,6 @@
 -- `lines::lines::is_same` meets its contract, by specs/LinesLaws.antt.
 use mathlib.Core.Path.{sym, ◌∙◌}
 use Rattle.lines.specs.LinesLaws.{is_same-other_length, is_same-length}
-use borrow.Author.Rules.{rules}
 use Rattle.lines.proofs.lines.is_same.Goals as goal
 
 -- return false;

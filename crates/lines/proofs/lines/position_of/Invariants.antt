@@ -1,11 +1,8 @@
 -- `lines::lines::position_of` meets its contract: from the index on, the first such byte stands where it stood from `first` on (specs/LinesLaws.antt).
 use mathlib.Core.Path.{◌≡◌}
 use Prim.Native.Nat.{◌+◌, ◌-◌, ◌≤◌}
-use native.Mathlib.Omega.{arith}
 use lib.ListN.{length, drop}
 use Rattle.lines.specs.Lines.{position_of}
-use Rattle.lines.specs.LinesLaws.{position_of_here, position_of_further, position_of_nowhere}
-use borrow.Author.Rules.{rules}
 use Rattle.lines.proofs.lines.position_of.Given as goal
 
 abbrev pub invariant-loop-index : goal.invariant-loop-index

@@ -1,11 +1,8 @@
 -- `lines::lines::starts_with` meets its contract: the key and the bytes agree up to the index (specs/LinesLaws.antt).
-use mathlib.Core.Path.{◌≡◌, refl, sym, ◌∙◌}
-use Prim.Native.Nat.{◌+◌, ◌-◌, ◌≤◌}
-use native.Mathlib.Omega.{arith}
+use mathlib.Core.Path.{◌≡◌}
+use Prim.Native.Nat.{◌-◌, ◌≤◌}
 use lib.ListN.{length, drop}
 use Rattle.lines.specs.Lines.{starts_with}
-use Rattle.lines.specs.LinesLaws.{starts_with_end, starts_with_short, starts_with_other, starts_with_step}
-use borrow.Author.Rules.{rules}
 use Rattle.lines.proofs.lines.starts_with.Given as goal
 
 abbrev pub invariant-loop-index : goal.invariant-loop-index
