@@ -1,308 +1,234 @@
 // The order of the lines of a dictionary text: which lines may stand where.
-ghost use Rattle.std.specs.Prelude.{◌≡◌, ◌≤◌, ◌<◌};
-ghost use Rattle.dictionary_order.specs.DictionaryOrder.{taken, refused, not_allowed, opened_block, closed_block, used_in, is_number, is_letters, def_step, value_step, open_block, close_block, field_step, open_group, group_step, use_step, close_group, end_step, step_of};
+ghost use Rattle.std.specs.Prelude.{◌≡◌, ◌≤◌};
+ghost use Rattle.dictionary_order.specs.DictionaryOrder.{opened_block, closed_block, def_step, value_step, open_block, close_block, field_step, group_step, use_step, end_step, step_of};
 
 use line_forms::line::Line;
 use refusals::refusal::Refusal;
 
-// Which part of the text is being read: no block is open, and what stands before is ..
-// .. nothing
-pub const BEGINNING: u8 = 0;
-// .. a definition
-pub const DEFINITIONS: u8 = 1;
-// .. the header
-pub const BEHIND_HEADER: u8 = 2;
-// .. the trailer, or a component
-pub const BEHIND_TRAILER: u8 = 3;
-// .. a message
-pub const BEHIND_MESSAGE: u8 = 4;
-// The block that is open
-pub const HEADER: u8 = 5;
+// Which part of the text is being read: what was read last where no block is open, or the open block.
+#[derive(Clone, Copy)]
+pub enum Stage {
+    Beginning,
+    Definitions,
+    AfterHeader,
+    // components may still come
+    AfterTrailer,
+    // only messages may still come
+    AfterMessage,
+    InHeader,
+    InTrailer,
+    InComponent,
+    InMessage,
+}
 
-pub const TRAILER: u8 = 6;
-
-pub const COMPONENT: u8 = 7;
-
-pub const MESSAGE: u8 = 8;
-
-// Which lines of the innermost open body were read last
-pub const FIELDS: u8 = 0;
-
-pub const GROUPS: u8 = 1;
-
-pub const USES: u8 = 2;
-// no body is open
-pub const NO_BODY: u8 = 3;
+// Which lines of the innermost open body were read last.
+#[derive(Clone, Copy)]
+pub enum Part {
+    Fields,
+    // a group block has closed
+    Groups,
+    Uses,
+    // no body is open
+    NoBody,
+}
 
 #[derive(Clone, Copy)]
 pub struct State {
-    pub stage: u8,
-    pub part: u8,
+    pub stage: Stage,
+    pub part: Part,
     // N of the open component, T of the open message, else 0
     pub name: u32,
     // how many group blocks are open
     pub depth: usize,
-    // their count tags, the outermost first
+    // their count tags, the outermost first; the gate has no heap, so there is room for 40
     pub counts: [u32; 40],
 }
 
-// What a line does: its fault, or the state behind it.
-#[derive(Clone, Copy)]
-pub struct Step {
-    pub fault: Option<Refusal>,
-    pub next: State,
-}
-
-fn take(next: State) -> Step
-    ensures { result ≡ taken next }
-{
-    Step { fault: None, next }
-}
-
-fn refuse(state: State, refusal: Refusal) -> Step
-    ensures { result ≡ refused state refusal }
-{
-    Step {
-        fault: Some(refusal),
-        next: state,
-    }
-}
-
-fn not_allowed(state: State, number: u64) -> Step
-    ensures { result ≡ not_allowed state number }
-{
-    refuse(state, Refusal::NotAllowed(number))
-}
-
 // A block opens: its body is to come.
-fn opened(state: State, stage: u8, name: u32) -> State
+fn opened(state: State, stage: Stage, name: u32) -> State
     ensures { result ≡ opened_block stage name state }
 {
-    let counts = state.counts;
     State {
         stage,
-        part: FIELDS,
+        part: Part::Fields,
         name,
         depth: 0,
-        counts,
+        ..state
     }
 }
 
 // A block is closed, or none was opened yet.
-fn closed(state: State, stage: u8) -> State
+fn closed(state: State, stage: Stage) -> State
     ensures { result ≡ closed_block stage state }
 {
-    let counts = state.counts;
     State {
         stage,
-        part: NO_BODY,
+        part: Part::NoBody,
         name: 0,
         depth: 0,
-        counts,
+        ..state
     }
 }
 
-// A `use` line was read in the innermost body.
-fn used(state: State) -> State
-    ensures { result ≡ used_in state }
-{
-    let counts = state.counts;
-    State {
-        stage: state.stage,
-        part: USES,
-        name: state.name,
-        depth: state.depth,
-        counts,
-    }
-}
-
-pub fn is_number(name: u32, number: Option<u32>) -> bool
-    ensures { result ≡ is_number name number }
-{
-    match number {
-        Some(value) => value == name,
-        None => false,
-    }
-}
-
-fn is_letters(name: u32, letters: Option<u32>) -> bool
-    ensures { result ≡ is_letters name letters }
-{
-    match letters {
-        Some(value) => value == name,
-        None => false,
-    }
-}
-
-fn def_step(state: State, number: u64) -> Step
+#[tactic(auto, unfolding(ascii::specs::Notation::is_between))]
+fn def_step(state: State, number: u64) -> Result<State, Refusal>
     ensures { result ≡ def_step state number }
 {
-    if state.stage <= DEFINITIONS {
-        return take(closed(state, DEFINITIONS));
+    match state.stage {
+        Stage::Beginning | Stage::Definitions => Ok(closed(state, Stage::Definitions)),
+        _ => Err(Refusal::NotAllowed(number)),
     }
-    not_allowed(state, number)
 }
 
-fn value_step(state: State, number: u64) -> Step
+fn value_step(state: State, number: u64) -> Result<State, Refusal>
     ensures { result ≡ value_step state number }
 {
-    if state.stage == DEFINITIONS {
-        return take(state);
+    match state.stage {
+        Stage::Definitions => Ok(state),
+        _ => Err(Refusal::NotAllowed(number)),
     }
-    not_allowed(state, number)
 }
 
-// A block opens where the stage is one of `low` to `high`.
-fn open_block(state: State, number: u64, low: u8, high: u8, stage: u8, name: u32) -> Step
-    ensures { result ≡ open_block low high stage name state number }
+// A block opens where the text may have one.
+fn open_block(
+    state: State,
+    number: u64,
+    is_allowed: bool,
+    stage: Stage,
+    name: u32,
+) -> Result<State, Refusal>
+    ensures { result ≡ open_block is_allowed stage name state number }
 {
-    if state.stage < low {
-        return not_allowed(state, number);
+    if is_allowed {
+        return Ok(opened(state, stage, name));
     }
-    if high < state.stage {
-        return not_allowed(state, number);
-    }
-    take(opened(state, stage, name))
+    Err(Refusal::NotAllowed(number))
 }
 
-// The block of this stage closes where it is the innermost one open.
-fn close_block(state: State, number: u64, block: u8, stage: u8) -> Step
-    ensures { result ≡ close_block block stage state number }
+// The block that is open closes where it is this one, and no group block is open in it.
+fn close_block(state: State, number: u64, is_open: bool, stage: Stage) -> Result<State, Refusal>
+    ensures { result ≡ close_block is_open stage state number }
 {
-    if state.stage != block {
-        return not_allowed(state, number);
+    if is_open && state.depth == 0 {
+        return Ok(closed(state, stage));
     }
-    if state.depth != 0 {
-        return not_allowed(state, number);
-    }
-    take(closed(state, stage))
+    Err(Refusal::NotAllowed(number))
 }
 
-fn field_step(state: State, number: u64) -> Step
+fn field_step(state: State, number: u64) -> Result<State, Refusal>
     ensures { result ≡ field_step state number }
 {
-    if state.part == FIELDS {
-        return take(state);
+    match state.part {
+        Part::Fields => Ok(state),
+        _ => Err(Refusal::NotAllowed(number)),
     }
-    not_allowed(state, number)
 }
 
-fn open_group(state: State, number: u64, count: u32) -> Step
-    ensures { result ≡ open_group count state number }
+fn group_step(state: State, number: u64, count: u32) -> Result<State, Refusal>
+    ensures { result ≡ group_step count state number }
 {
+    if matches!(state.part, Part::Uses | Part::NoBody) {
+        return Err(Refusal::NotAllowed(number));
+    }
     let depth = state.depth;
     if depth < 40 {
         let mut counts = state.counts;
         counts[depth] = count;
-        return take(State {
-            stage: state.stage,
-            part: FIELDS,
-            name: state.name,
+        return Ok(State {
+            part: Part::Fields,
             depth: depth + 1,
             counts,
+            ..state
         });
     }
-    refuse(state, Refusal::TooManyOpen(number))
+    Err(Refusal::TooManyOpen(number))
 }
 
-fn group_step(state: State, number: u64, count: u32) -> Step
-    ensures { result ≡ group_step count state number }
-{
-    if state.part <= GROUPS {
-        return open_group(state, number, count);
-    }
-    not_allowed(state, number)
-}
-
-fn use_step(state: State, number: u64) -> Step
+// Only a component, a message and a group block have `use` lines.
+#[tactic(auto, unfolding(ascii::specs::Notation::is_between))]
+fn use_step(state: State, number: u64) -> Result<State, Refusal>
     ensures { result ≡ use_step state number }
 {
-    if USES < state.part {
-        return not_allowed(state, number);
+    let is_allowed = match state.stage {
+        Stage::InComponent | Stage::InMessage => true,
+        _ => 0 < state.depth,
+    };
+    match state.part {
+        Part::Fields | Part::Groups | Part::Uses if is_allowed => Ok(State {
+            part: Part::Uses,
+            ..state
+        }),
+        _ => Err(Refusal::NotAllowed(number)),
     }
-    if 0 < state.depth {
-        return take(used(state));
-    }
-    if COMPONENT <= state.stage {
-        return take(used(state));
-    }
-    not_allowed(state, number)
 }
 
-fn close_group(state: State, number: u64, name: Option<u32>) -> Step
-    requires { (0 < state.depth) × (state.depth ≤ 40) }
-    ensures { result ≡ close_group name state number }
-{
-    let depth = state.depth - 1;
-    let counts = state.counts;
-    if is_number(counts[depth], name) {
-        return take(State {
-            stage: state.stage,
-            part: GROUPS,
-            name: state.name,
-            depth,
-            counts,
-        });
-    }
-    not_allowed(state, number)
-}
-
-fn end_step(state: State, number: u64, name: Option<u32>, letters: Option<u32>) -> Step
+// Closes the innermost open block: a group block, or else a component or a message.
+fn end_step(
+    state: State,
+    number: u64,
+    name: Option<u32>,
+    letters: Option<u32>,
+) -> Result<State, Refusal>
     requires { state.depth ≤ 40 }
     ensures { result ≡ end_step name letters state number }
 {
     if 0 < state.depth {
-        return close_group(state, number, name);
-    }
-    if state.stage == COMPONENT {
-        if is_number(state.name, name) {
-            return take(closed(state, BEHIND_TRAILER));
+        let depth = state.depth - 1;
+        if name == Some(state.counts[depth]) {
+            return Ok(State {
+                part: Part::Groups,
+                depth,
+                ..state
+            });
         }
-        return not_allowed(state, number);
+        return Err(Refusal::NotAllowed(number));
     }
-    if state.stage == MESSAGE {
-        if is_letters(state.name, letters) {
-            return take(closed(state, BEHIND_MESSAGE));
-        }
-        return not_allowed(state, number);
+    match state.stage {
+        Stage::InComponent if name == Some(state.name) => Ok(closed(state, Stage::AfterTrailer)),
+        Stage::InMessage if letters == Some(state.name) => Ok(closed(state, Stage::AfterMessage)),
+        _ => Err(Refusal::NotAllowed(number)),
     }
-    not_allowed(state, number)
 }
 
 // What the line of this number does in this state.
-pub fn take_line(state: State, number: u64, line: Line) -> Step
+#[tactic(auto, unfolding(crate::specs::DictionaryOrder::step_of, ascii::specs::Notation::is_between))]
+pub fn take_line(state: State, number: u64, line: Line) -> Result<State, Refusal>
     requires { state.depth ≤ 40 }
     ensures { result ≡ step_of state number line }
 {
     match line {
         Line::Def(_, _) => def_step(state, number),
         Line::Value(_) => value_step(state, number),
-        Line::BeginHeader => open_block(state, number, BEGINNING, DEFINITIONS, HEADER, 0),
-        Line::BeginTrailer => open_block(state, number, BEHIND_HEADER, BEHIND_HEADER, TRAILER, 0),
-        Line::EndHeader => close_block(state, number, HEADER, BEHIND_HEADER),
-        Line::EndTrailer => close_block(state, number, TRAILER, BEHIND_TRAILER),
-        Line::Component(name) => open_block(
-            state,
-            number,
-            BEHIND_TRAILER,
-            BEHIND_TRAILER,
-            COMPONENT,
-            name,
-        ),
-        Line::Message(letters, _) => open_block(
-            state,
-            number,
-            BEHIND_TRAILER,
-            BEHIND_MESSAGE,
-            MESSAGE,
-            letters,
-        ),
+        Line::BeginHeader => {
+            let is_allowed = matches!(state.stage, Stage::Beginning | Stage::Definitions);
+            open_block(state, number, is_allowed, Stage::InHeader, 0)
+        }
+        Line::BeginTrailer => {
+            let is_allowed = matches!(state.stage, Stage::AfterHeader);
+            open_block(state, number, is_allowed, Stage::InTrailer, 0)
+        }
+        Line::EndHeader => {
+            let is_open = matches!(state.stage, Stage::InHeader);
+            close_block(state, number, is_open, Stage::AfterHeader)
+        }
+        Line::EndTrailer => {
+            let is_open = matches!(state.stage, Stage::InTrailer);
+            close_block(state, number, is_open, Stage::AfterTrailer)
+        }
+        Line::Component(name) => {
+            let is_allowed = matches!(state.stage, Stage::AfterTrailer);
+            open_block(state, number, is_allowed, Stage::InComponent, name)
+        }
+        Line::Message(letters, _) => {
+            let is_allowed = matches!(state.stage, Stage::AfterTrailer | Stage::AfterMessage);
+            open_block(state, number, is_allowed, Stage::InMessage, letters)
+        }
         Line::Field(_, _) => field_step(state, number),
         Line::Group(count, _, _) => group_step(state, number, count),
         Line::Use(_, _) => use_step(state, number),
         Line::End(name, letters) => end_step(state, number, name, letters),
-        Line::Member(_) => refuse(state, Refusal::UnknownForm(number)),
-        Line::RequiredTag(_) => refuse(state, Refusal::UnknownForm(number)),
-        Line::Unknown => refuse(state, Refusal::UnknownForm(number)),
+        Line::Member(_) | Line::RequiredTag(_) | Line::Unknown => {
+            Err(Refusal::UnknownForm(number))
+        }
     }
 }
