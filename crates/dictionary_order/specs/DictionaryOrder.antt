@@ -163,3 +163,9 @@ step_of state number (End name letters) = end_step name letters state number
 step_of state number (Member tag) = Err (UnknownForm number)
 step_of state number (RequiredTag tag) = Err (UnknownForm number)
 step_of state number Unknown = Err (UnknownForm number)
+
+-- ---- the end of a text
+
+-- row 3: "or the text stops with a block open, or a dictionary text before `end=trailer`"
+abbrev pub may_end : State → Bool
+may_end state = is_from AfterTrailer AfterMessage state.stage

@@ -1,13 +1,11 @@
 // The dictionary text: what it defines, what is defined again, and its first faulty line.
 ghost use Rattle.std.specs.Prelude.{◌≡◌, ◌≤◌, length};
-ghost use Rattle.texts.specs.DictionaryText.{defined_by, counted, at_end, order_of, key_of, is_in, again_of, refused_earlier, first_of, dictionary_text_of};
+ghost use Rattle.texts.specs.DictionaryText.{defined_by, counted, at_end, order_of, key_of, again_of, refused_earlier, first_of, dictionary_text_of};
 ghost use Rattle.texts.specs.DictionaryTextLaws.{CountsWithin};
 
-use dictionary_order::dictionary_order::{
-    BEGINNING, BEHIND_MESSAGE, BEHIND_TRAILER, NO_BODY, State, take_line,
-};
+use dictionary_order::dictionary_order::{Part, Stage, State, take_line};
 use line_forms::line::{Line, line_of};
-use lines::lines::position_of;
+use lines::text_lines::TextLines;
 use refusals::refusal::{Refusal, place_of};
 
 // What a line defines.
@@ -16,33 +14,21 @@ pub enum Defined {
     Tag(u32),
     ComponentName(u32),
     MessageName(u32),
-    Nothing,
 }
 
-pub fn defined_by(line: Line) -> Defined
+pub fn defined_by(line: Line) -> Option<Defined>
     ensures { result ≡ defined_by line }
 {
     match line {
-        Line::Def(tag, _) => Defined::Tag(tag),
-        Line::Value(_) => Defined::Nothing,
-        Line::BeginHeader => Defined::Nothing,
-        Line::BeginTrailer => Defined::Nothing,
-        Line::EndHeader => Defined::Nothing,
-        Line::EndTrailer => Defined::Nothing,
-        Line::Component(name) => Defined::ComponentName(name),
-        Line::Message(letters, _) => Defined::MessageName(letters),
-        Line::Field(_, _) => Defined::Nothing,
-        Line::Group(_, _, _) => Defined::Nothing,
-        Line::Use(_, _) => Defined::Nothing,
-        Line::End(_, _) => Defined::Nothing,
-        Line::Member(_) => Defined::Nothing,
-        Line::RequiredTag(_) => Defined::Nothing,
-        Line::Unknown => Defined::Nothing,
+        Line::Def(tag, _) => Some(Defined::Tag(tag)),
+        Line::Component(name) => Some(Defined::ComponentName(name)),
+        Line::Message(letters, _) => Some(Defined::MessageName(letters)),
+        _ => None,
     }
 }
 
 // How many lines a text has, and how many of them define a tag, a component, a message type.
-#[derive(Clone, Copy)]
+#[derive(Clone, Copy, Default)]
 pub struct Counts {
     pub lines: u64,
     pub tags: u64,
@@ -50,7 +36,7 @@ pub struct Counts {
     pub messages: u64,
 }
 
-fn count(counts: Counts, defined: Defined) -> Counts
+fn count(counts: Counts, defined: Option<Defined>) -> Counts
     requires { CountsWithin counts 65536 }
     ensures { result ≡ counted counts defined }
 {
@@ -59,19 +45,19 @@ fn count(counts: Counts, defined: Defined) -> Counts
         ..counts
     };
     match defined {
-        Defined::Tag(_) => Counts {
+        Some(Defined::Tag(_)) => Counts {
             tags: counts.tags + 1,
             ..counts
         },
-        Defined::ComponentName(_) => Counts {
+        Some(Defined::ComponentName(_)) => Counts {
             components: counts.components + 1,
             ..counts
         },
-        Defined::MessageName(_) => Counts {
+        Some(Defined::MessageName(_)) => Counts {
             messages: counts.messages + 1,
             ..counts
         },
-        Defined::Nothing => counts,
+        None => counts,
     }
 }
 
@@ -81,10 +67,10 @@ pub fn at_end(state: State, counts: Counts) -> Result<Counts, Refusal>
     requires { counts.lines ≤ 65536 }
     ensures { result ≡ at_end state counts }
 {
-    if state.stage < BEHIND_TRAILER || BEHIND_MESSAGE < state.stage {
-        return Err(Refusal::NotAllowed(counts.lines + 1));
+    match state.stage {
+        Stage::AfterTrailer | Stage::AfterMessage => Ok(counts),
+        _ => Err(Refusal::NotAllowed(counts.lines + 1)),
     }
-    Ok(counts)
 }
 
 // Reads the text from the top: refusals 2 to 4.
@@ -93,59 +79,30 @@ fn read_in_order(text: &[u8]) -> Result<Counts, Refusal>
     ensures { result ≡ order_of text.now }
 {
     let mut state = State {
-        stage: BEGINNING,
-        part: NO_BODY,
+        stage: Stage::Beginning,
+        part: Part::NoBody,
         name: 0,
         depth: 0,
-        counts: [0u32; 40],
+        counts: [0; 40],
     };
-    let mut counts = Counts {
-        lines: 0,
-        tags: 0,
-        components: 0,
-        messages: 0,
-    };
-    let mut first = 0;
-    while first < text.len() {
-        let past = position_of(text, first, 10);
+    let mut counts = Counts::default();
+    for line in TextLines::new(text) {
         let number = counts.lines + 1;
-        if past == text.len() {
-            return Err(Refusal::UnknownForm(number));
-        }
-        let line = line_of(&text[first..past]);
-        let step = take_line(state, number, line);
-        if let Some(refusal) = step.fault {
-            return Err(refusal);
-        }
-        state = step.next;
+        let line = line_of(line.ok_or(Refusal::UnknownForm(number))?);
+        state = take_line(state, number, line)?;
         counts = count(counts, defined_by(line));
-        first = past + 1;
     }
     at_end(state, counts)
 }
 
-fn key_of(defined: Defined) -> Option<u64>
+fn key_of(defined: Option<Defined>) -> Option<u64>
     ensures { result ≡ key_of defined }
 {
-    match defined {
+    match defined? {
         Defined::Tag(tag) => Some(tag as u64),
         Defined::ComponentName(name) => Some(0x1_0000_0000 + name as u64),
         Defined::MessageName(letters) => Some(0x2_0000_0000 + letters as u64),
-        Defined::Nothing => None,
     }
-}
-
-fn is_in(keys: &[u64], key: u64) -> bool
-    ensures { result ≡ is_in key keys.now }
-{
-    let mut index = 0;
-    while index < keys.len() {
-        if keys[index] == key {
-            return true;
-        }
-        index += 1;
-    }
-    false
 }
 
 // Finds what is defined again: refusal 5. A line that defines something has at least five bytes, its line feed with it.
@@ -153,32 +110,20 @@ fn first_again(text: &[u8]) -> Option<u64>
     requires { length text.now ≤ 65536 }
     ensures { result ≡ again_of text.now }
 {
+    // the gate has no heap: room for as many keys as 65,536 bytes define
     let mut seen = [0u64; 13108];
     let mut known = 0;
-    let mut number: u64 = 1;
-    let mut first = 0;
-    while first < text.len() {
-        let past = position_of(text, first, 10);
-        if past == text.len() {
-            return None;
-        }
-        let line = line_of(&text[first..past]);
-        let key = key_of(defined_by(line));
-        match key {
-            Some(value) => {
-                if is_in(&seen[..known], value) {
-                    return Some(number);
-                }
-                seen[known] = value;
-                known += 1;
-                number += 1;
-                first = past + 1;
+    let mut number = 1;
+    for line in TextLines::new(text) {
+        let line = line_of(line?);
+        if let Some(key) = key_of(defined_by(line)) {
+            if seen[..known].contains(&key) {
+                return Some(number);
             }
-            None => {
-                number += 1;
-                first = past + 1;
-            }
+            seen[known] = key;
+            known += 1;
         }
+        number += 1;
     }
     None
 }

@@ -1,32 +1,40 @@
--- `texts::dictionary_text::read_in_order` meets its contract. The loop's invariant is `OrderSoFar`; every answer cites a law of
--- specs/DictionaryTextLaws.antt.
-use mathlib.Core.Path.{sym, ap, ◌∙◌}
-use Rattle.texts.specs.DictionaryText.{counted}
-use Rattle.texts.specs.DictionaryTextLaws.{few-up_to, order-begins, order-stops, order-breaks, order-faulty, order-turns}
+-- `texts::dictionary_text::read_in_order` meets its contract. The loop's invariant is `OrderSoFar`; every answer cites a law of specs/DictionaryTextLaws.antt.
+use Rattle.std.proofs.Common.{◌≡◌, ◌∙◌, ◌+◌, subst, sym, arith, Some, None}
+use Rattle.std.proofs.lemmas.Result.{err_from_is_err_and}
+use Rattle.refusals.specs.declared.refusal.Refusal.TheVariants.{UnknownForm}
+use Rattle.dictionary_order.specs.DictionaryOrder.{start}
+use Rattle.texts.specs.declared.dictionary_text.Counts.{Counts}
+use Rattle.texts.specs.DictionaryText.{counts}
+use Rattle.texts.specs.DictionaryTextLaws.{OrderSoFar, order-begins, order-counts, order-stops, order-breaks, order-faulty, order-turns}
 use Rattle.texts.proofs.dictionary_text.read_in_order.Goals as goal
 
--- while first < text.len() {
-pub loop-first-init : goal.loop-first-init
-loop-first-init c = order-begins _
+-- for line in TextLines::new(text) {
+pub loop-line-init : goal.loop-line-init
+loop-line-init c =
+    let none : c.default-counts.result ≡ counts 0 0 0 0 = grind arith in
+    rw (c.into_iter-line-iterator.ensures.into_iter_gives, c.new-line-items.ensures)
+    (subst (λ (read : Counts). OrderSoFar c.args.text.now c.args.text.now start read) (sym none) (order-begins _))
 
--- return Err(Refusal::UnknownForm(number));
-pub returns-then-past-text : goal.returns-then-past-text
-returns-then-past-text c = sym (order-breaks _ _ _ _ c.loop-first.invariant _ c.position_of-past.ensures.place c.loop-first-test.true c.if-past-text.true)
+pub returns-in_err-ok_or : goal.returns-in_err-ok_or
+returns-in_err-ok_or c =
+    let none : c.in-Some.line ≡ None = grind arith in
+    let refused : c.in_err-ok_or.field-0.0 ≡ UnknownForm (c.loop-line.counts.lines + 1) = grind arith in
+    let same = err_from_is_err_and c.from_residual.result c.from_residual.ensures.1 in
+    rw (same.1, same.2, refused) (sym (order-breaks _ _ _ _ c.loop-line.invariant (rw none at c.in-Some.ensures.steps).0))
 
--- return Err(refusal);
-pub returns-in-Some : goal.returns-in-Some
-returns-in-Some c = sym (order-faulty _ _ _ _ c.loop-first.invariant _ c.position_of-past.ensures.place c.if-past-text.false _ c.line_of-line.ensures _ c.take_line-step.ensures _ c.in-Some.is)
+pub returns-in_err-state : goal.returns-in_err-state
+returns-in_err-state c =
+    let some : c.in-Some.line ≡ Some c.in_ok-ok_or.field-0 = grind arith in
+    let same = err_from_is_err_and c.from_residual-in_err-state.result c.from_residual-in_err-state.ensures.1 in
+    rw (same.1, same.2)
+    (sym (order-faulty _ _ _ _ c.loop-line.invariant _ _ (rw some at c.in-Some.ensures.steps) _ c.line_of-line.ensures _ (sym c.take_line.ensures ∙ c.in_err-state.was)))
 
-pub count-counts-requires : goal.count-counts-requires
-count-counts-requires c = few-up_to _ _ _ c.loop-first.invariant.within c.requires c.loop-first.invariant.few
-
-pub loop-first-preserved : goal.loop-first-preserved
-loop-first-preserved c = order-turns _ _ _ _ c.loop-first.invariant _ c.position_of-past.ensures.place c.if-past-text.false _ c.line_of-line.ensures _ c.take_line-step.ensures c.in_default.is _ (c.count-counts.ensures ∙ ap (counted _) c.defined_by.ensures)
-
--- at_end(state, counts)
-pub at_end-requires : goal.at_end-requires
-at_end-requires c = (few-up_to _ _ _ c.loop-first.invariant.within c.requires c.loop-first.invariant.few).few_lines
+pub loop-line-preserved : goal.loop-line-preserved
+loop-line-preserved c =
+    let some : c.in-Some.line ≡ Some c.in_ok-ok_or.field-0 = grind arith in
+    order-turns _ _ _ _ c.loop-line.invariant _ _ (rw some at c.in-Some.ensures.steps) _ c.line_of-line.ensures _ (sym c.take_line.ensures ∙ c.in_ok-state.was) _
+    (c.count-counts.ensures ∙ rw c.defined_by.ensures)
 
 -- fn read_in_order(text: &[u8]) -> Result<Counts, Refusal>
 pub returns : goal.returns
-returns c = c.at_end.ensures ∙ sym (order-stops _ _ _ _ c.loop-first.invariant c.loop-first-test.false)
+returns c = c.at_end.ensures ∙ sym (order-stops _ _ _ _ c.loop-line.invariant c.in-None.ensures.steps.0)
