@@ -1,22 +1,24 @@
 -- Laws of `MessageText.antt`, in its order: what a line says, the loops over the lines of a text, and how many words the table has. The lines still to be
 -- read are those of `drop first text`; a search for the line feed from `first` on stopped at `past`. Assumes nothing.
-use Rattle.std.specs.Prelude.{◌≡◌, ℕ, zero, suc, ◌+◌, ◌*◌, ◌-◌, ◌≤◌, ◌<◌, Bool, true, false, List, [], ◌∷◌, ◌++◌, eqb, take, drop, if◌then◌else◌, Option, Some, None, Result, Ok, Err}
-use Rattle.std.specs.Option.{is_some}
+use Rattle.std.specs.Prelude.{◌≡◌, ℕ, zero, suc, ◌+◌, ◌*◌, ◌≤◌, ◌<◌, Bool, true, false, List, [], ◌∷◌, ◌++◌, eqb, take, if◌then◌else◌, Option, Some, None, Result, Ok, Err}
+use Rattle.std.specs.List.{position}
+use Rattle.std.specs.Option.{ok_or}
+use denote.Ref.{Bor}
 use Rattle.std.proofs.Math.Path.{refl, sym}
-use Rattle.std.proofs.Common.{ap, ◌∙◌, length-append, length-take-le, eq-eqb, ne_eqb, eqb-true, le-leb, lt-ltb, le-ltb}
+use Rattle.std.proofs.Common.{ap, ◌∙◌, length-append, eq-eqb, ne_eqb, eqb-true, le-leb, lt-ltb, le-ltb}
 use native.Mathlib.Omega.{arith}
 use Rattle.std.proofs.Math.Numerals.{add-three}
-use Rattle.std.proofs.Math.ListN.{length, length-drop}
+use Rattle.std.proofs.Math.ListN.{length}
 use Rattle.std.proofs.lemmas.List.Edits.{sets, sets-eq}
 use Rattle.std.proofs.Math.Seq.{length-sets}
 use Rattle.std.proofs.lemmas.Bool.{eqb-false, lt-leb}
 use Rattle.ascii.specs.Bytes.{non_empty}
-use Rattle.ascii.specs.BytesLaws.{non_empty-some}
 use Rattle.ascii.specs.Digits.{is_digits}
 use Rattle.refusals.specs.declared.refusal.Refusal.{Refusal}
 use Rattle.refusals.specs.declared.refusal.Refusal.TheVariants.{TextTooLong, UnknownForm, SpaceShort}
 use Rattle.lines.specs.Lines.{position_of, before, Pieces, last, piece, longer, cut, lines_of, line_feed}
-use Rattle.lines.specs.LinesLaws.{position_of_within, found_within, cut-at_piece, cut-at_last, cut-nothing}
+use Rattle.lines.specs.LinesLaws.{position_of_within, position_of-found, position_of-missing}
+use Rattle.lines.specs.TextLines.{GivesLine, IsFirstLine, IsUnended}
 use Rattle.lines.specs.LineParts.{no_leading_zero, number_of}
 use Rattle.message_text.specs.MessageText.{equals_sign, field_with, field_line_of, rows_with, rows_from, table_of, on_field, count_from, message_text_of, space_answer, space_with, read_message_of, fields_in}
 
@@ -34,6 +36,16 @@ module _ (line : List ℕ) (place : ℕ) (found : place ≡ 0 + position_of equa
       let position : position_of equals_sign line ≡ place = omega arith in
       let other : position_of equals_sign line ≡ length line → ⊥ = λ same. before-end (omega arith) in
       rw (ne_eqb (position_of equals_sign line) (length line) other, reads, ← position)
+
+-- the same, where the library's `position` looks for the sign
+pub field_line_of-missing : (line : List ℕ) → position (λ each. eqb each equals_sign) line ≡ None → field_line_of line ≡ None
+field_line_of-missing line missing = field_line_of-no_sign line (length line) (omega (arith, position_of-missing equals_sign line missing)) refl
+
+pub field_line_of-found : (line : List ℕ) (place : ℕ) → position (λ each. eqb each equals_sign) line ≡ Some place
+    → field_line_of line ≡ field_with (place + 1) (number_of (take place line))
+field_line_of-found line place found =
+    let here = position_of-found equals_sign line place found in
+    field_line_of-number line place (omega (arith, here)) (λ same. absurd (omega (arith, here))) (number_of (take place line)) refl
 
 -- what a line says of its field: the tag stands before the first `=`, the value begins behind it
 pub record Says (line : List ℕ) (tag value : ℕ) : Type 0 where
@@ -72,112 +84,112 @@ field_line_of-says line tag value says = says-by line tag value (eqb (position_o
 
 -- ---- count_from: the loop of `count_fields`
 
-on_field-none : (field : Option (ℕ × ℕ)) (goes_on refused : Result ℕ Refusal) → is_some field ≡ false → on_field field goes_on refused ≡ refused
-on_field-none (Some (tag, value)) goes_on refused none = cc
-on_field-none None goes_on refused none = refl
+-- the field of a line that the iterator gives
+abbrev pub field_in : Option (Bor (List ℕ)) → Option (ℕ × ℕ)
+field_in (Some line) = field_line_of line.now
+field_in None = None
 
-on_field-some : (field : Option (ℕ × ℕ)) (goes_on refused : Result ℕ Refusal) → is_some field ≡ true → on_field field goes_on refused ≡ goes_on
-on_field-some (Some (tag, value)) goes_on refused some = refl
-on_field-some None goes_on refused some = cc
+-- the lines before those that are left are of the form; they are so many
+pub record CountSoFar (text : List ℕ) (count : ℕ) (left : List ℕ) : Type 0 where
+  pub few : count + length left ≤ length text
+  pub rest : count_from 0 (lines_of text) ≡ count_from count (lines_of left)
 
--- the lines before `first` are of the form; they are so many
-pub record CountSoFar (text : List ℕ) (count first : ℕ) : Type 0 where
-  pub within : first ≤ length text
-  pub few : count ≤ first
-  pub rest : count_from 0 (lines_of text) ≡ count_from count (lines_of (drop first text))
+pub count-begins : (text : List ℕ) → CountSoFar text 0 text
+count-begins text = record { few = omega arith; rest = refl }
 
-pub count-begins : (text : List ℕ) → CountSoFar text 0 0
-count-begins text = record { within = omega arith; few = omega arith; rest = refl }
+module _ (text : List ℕ) (count : ℕ) (left : List ℕ) (so_far : CountSoFar text count left) where
+  pub count-ends : left ≡ [] → count_from 0 (lines_of text) ≡ Ok count
+  unfolding count_from non_empty cut
+  count-ends none = so_far.rest ∙ rw none refl
 
-module _ (text : List ℕ) (count first : ℕ) (so_far : CountSoFar text count first) where
-  pub count-ends : length text ≤ first → count_from 0 (lines_of text) ≡ Ok count
-  unfolding count_from non_empty
-  count-ends over = so_far.rest ∙ rw (cut-nothing line_feed text first over)
-
-  module _ (past : ℕ) (found : past ≡ first + position_of line_feed (drop first text)) where
-    pub count-unended : first < length text → past ≡ length text → count_from 0 (lines_of text) ≡ Err (UnknownForm (count + 1))
+  -- the field of the next line, or of the bytes after the last line feed
+  module _ (given : Option (Bor (List ℕ))) (left' : List ℕ) (gives : GivesLine left (Some given) left') (field : Option (ℕ × ℕ)) (reads : field ≡ field_in given) where
+    pub count-stops : (refusal : Refusal) → ok_or field (UnknownForm (count + 1)) ≡ Err refusal → count_from 0 (lines_of text) ≡ Err refusal
     unfolding count_from
-    count-unended inside at-end =
-        so_far.rest
-        ∙ rw (cut-at_last line_feed text first past so_far.within found at-end, non_empty-some (drop first text) (λ empty. omega (arith, length-drop first text)))
+    count-stops refusal refused = so_far.rest ∙ stops given gives (rw reads at refused)
+      where
+        stops : (each : Option (Bor (List ℕ))) → GivesLine left (Some each) left' → ok_or (field_in each) (UnknownForm (count + 1)) ≡ Err refusal
+            → count_from count (lines_of left) ≡ Err refusal
+        stops None unended same = let is : UnknownForm (count + 1) ≡ refusal = cc in rw (unended.0.uncut, unended.0.some_byte, is)
+        stops (Some line) first same = rw first.cut_off (line_stops (field_line_of line.now) same)
+          where
+            line_stops : (read : Option (ℕ × ℕ)) → ok_or read (UnknownForm (count + 1)) ≡ Err refusal
+                → on_field read (count_from (count + 1) (lines_of left')) (Err (UnknownForm (count + 1))) ≡ Err refusal
+            line_stops (Some pair) other = cc
+            line_stops None same = let is : UnknownForm (count + 1) ≡ refusal = cc in rw is
 
-    module _ (before-end : past ≡ length text → ⊥) (field : Option (ℕ × ℕ)) (reads : field ≡ field_line_of (take (past - first) (drop first text))) where
-      count-line : count_from 0 (lines_of text) ≡ on_field field (count_from (count + 1) (lines_of (drop (past + 1) text))) (Err (UnknownForm (count + 1)))
-      unfolding count_from
-      count-line = so_far.rest ∙ rw (cut-at_piece line_feed text first past so_far.within found before-end, reads)
-
-      pub count-stops : is_some field ≡ false → count_from 0 (lines_of text) ≡ Err (UnknownForm (count + 1))
-      count-stops none = count-line ∙ on_field-none _ _ _ none
-
-      pub count-goes_on : is_some field ≡ true → CountSoFar text (count + 1) (past + 1)
-      count-goes_on some =
-          let bounds = found_within line_feed text first past so_far.within found in
-          record {
-            within = omega (arith, bounds, before-end);
-            few = omega (arith, bounds, so_far.few);
-            rest = count-line ∙ on_field-some _ _ _ some;
-          }
+    pub count-goes_on : (pair : ℕ × ℕ) → ok_or field (UnknownForm (count + 1)) ≡ Ok pair → CountSoFar text (count + 1) left'
+    unfolding count_from
+    count-goes_on pair taken = goes_on given gives (rw reads at taken)
+      where
+        goes_on : (each : Option (Bor (List ℕ))) → GivesLine left (Some each) left' → ok_or (field_in each) (UnknownForm (count + 1)) ≡ Ok pair
+            → CountSoFar text (count + 1) left'
+        goes_on None unended other = cc
+        goes_on (Some line) first same = record {
+          few = omega (arith, so_far.few, ap length first.bytes, length-append line.now (line_feed ∷ left'));
+          rest = so_far.rest ∙ rw first.cut_off (line_goes_on (field_line_of line.now) same);
+        }
+          where
+            line_goes_on : (read : Option (ℕ × ℕ)) → ok_or read (UnknownForm (count + 1)) ≡ Ok pair
+                → on_field read (count_from (count + 1) (lines_of left')) (Err (UnknownForm (count + 1))) ≡ count_from (count + 1) (lines_of left')
+            line_goes_on (Some read_pair) is = refl
+            line_goes_on None other = cc
 
 -- ---- rows_from: the loop of `put_fields`
 
--- the rows of the lines before `first` are written, up to `at`
-pub record RowsSoFar (text words₀ words : List ℕ) (at first : ℕ) : Type 0 where
-  pub within : first ≤ length text
+-- the rows of the lines before those that are left, which begin at `first`, are written, up to `at`
+pub record RowsSoFar (text words₀ words : List ℕ) (at first : ℕ) (left : List ℕ) : Type 0 where
+  pub place : first + length left ≡ length text
   pub same : length words ≡ length words₀
-  pub room : at + length (rows_from first (lines_of (drop first text))) ≤ length words
-  pub rest : sets words₀ 0 (table_of text) ≡ sets words at (rows_from first (lines_of (drop first text)))
+  pub room : at + length (rows_from first (lines_of left)) ≤ length words
+  pub rest : sets words₀ 0 (table_of text) ≡ sets words at (rows_from first (lines_of left))
 
-pub rows_begin : (text words : List ℕ) → length (table_of text) ≤ length words → RowsSoFar text words words 0 0
-rows_begin text words room = record { within = omega arith; same = refl; room = omega arith; rest = refl }
+pub rows_begin : (text words : List ℕ) → length (table_of text) ≤ length words → RowsSoFar text words words 0 0 text
+rows_begin text words room = record { place = omega arith; same = refl; room = omega arith; rest = refl }
 
-module _ (text words₀ words : List ℕ) (at first : ℕ) (so_far : RowsSoFar text words₀ words at first) where
-  pub rows_end : length text ≤ first → words ≡ sets words₀ 0 (table_of text)
+module _ (text words₀ words : List ℕ) (at first : ℕ) (left : List ℕ) (so_far : RowsSoFar text words₀ words at first left) where
+  pub rows_end : left ≡ [] → words ≡ sets words₀ 0 (table_of text)
+  unfolding rows_from cut
+  rows_end none = sym (so_far.rest ∙ rw none refl)
+
+  pub rows_unended : IsUnended left → words ≡ sets words₀ 0 (table_of text)
   unfolding rows_from
-  rows_end over = sym (so_far.rest ∙ rw (cut-nothing line_feed text first over))
+  rows_unended unended = sym (so_far.rest ∙ rw unended.uncut refl)
 
-  module _ (past : ℕ) (found : past ≡ first + position_of line_feed (drop first text)) where
-    pub rows_unended : past ≡ length text → words ≡ sets words₀ 0 (table_of text)
+  module _ (line left' : List ℕ) (is : IsFirstLine left line left') (field : Option (ℕ × ℕ)) (reads : field ≡ field_line_of line) where
+    line-length : length left ≡ length line + 1 + length left'
+    line-length = omega (arith, ap length is.bytes, length-append line (line_feed ∷ left'))
+
+    rows_line : rows_from first (lines_of left) ≡ rows_with first (first + length line) field (rows_from (first + length line + 1) (lines_of left'))
     unfolding rows_from
-    rows_unended at-end = sym (so_far.rest ∙ rw (cut-at_last line_feed text first past so_far.within found at-end))
+    rows_line = rw (is.cut_off, ← reads)
 
-    module _ (before-end : past ≡ length text → ⊥) (field : Option (ℕ × ℕ)) (reads : field ≡ field_line_of (take (past - first) (drop first text))) where
-      line-length : length (take (past - first) (drop first text)) ≡ past - first
-      line-length =
-          length-take-le (past - first) (drop first text)
-          (omega (arith, length-drop first text, found_within line_feed text first past so_far.within found))
+    pub rows_stop : field ≡ None → words ≡ sets words₀ 0 (table_of text)
+    rows_stop none = sym (so_far.rest ∙ rw (rows_line, none))
 
-      rows_line : rows_from first (lines_of (drop first text)) ≡ rows_with first past field (rows_from (past + 1) (lines_of (drop (past + 1) text)))
-      unfolding rows_from
-      rows_line =
-          let past-again : first + (past - first) ≡ past = omega (arith, found_within line_feed text first past so_far.within found) in
-          rw (cut-at_piece line_feed text first past so_far.within found before-end, ← reads, line-length, past-again)
+    module _ (tag value : ℕ) (some : field ≡ Some (tag, value)) where
+      row_line : rows_from first (lines_of left) ≡ tag ∷ (first + value) ∷ (first + length line) ∷ rows_from (first + length line + 1) (lines_of left')
+      row_line = rows_line ∙ rw some
 
-      pub rows_stop : field ≡ None → words ≡ sets words₀ 0 (table_of text)
-      rows_stop none = sym (so_far.rest ∙ rw (rows_line, none))
+      pub room_of_rows : at + 3 ≤ length words
+      room_of_rows = omega (arith, so_far.room, ap length row_line)
 
-      module _ (tag value : ℕ) (some : field ≡ Some (tag, value)) where
-        row_line : rows_from first (lines_of (drop first text)) ≡ tag ∷ (first + value) ∷ past ∷ rows_from (past + 1) (lines_of (drop (past + 1) text))
-        row_line = rows_line ∙ rw some
+      -- the line lies in the text, the value in the line
+      pub row-value : (first + length line < length text) × (first + value ≤ first + length line)
+      row-value =
+          let says = field_line_of-says line tag value (sym reads ∙ some) in
+          (omega (arith, so_far.place, line-length), omega (arith, says.within))
 
-        pub room_of_rows : at + 3 ≤ length words
-        room_of_rows = omega (arith, so_far.room, ap length row_line)
-
-        -- the value lies in the line
-        pub row-value : first + value ≤ past
-        row-value =
-            let says = field_line_of-says (take (past - first) (drop first text)) tag value (sym reads ∙ some) in
-            omega (arith, says.within, line-length, found_within line_feed text first past so_far.within found)
-
-        pub rows_go_on : (words' : List ℕ) → words' ≡ sets words at (tag ∷ (first + value) ∷ past ∷ []) → RowsSoFar text words₀ words' (at + 3) (past + 1)
-        rows_go_on words' put =
-            let bounds = found_within line_feed text first past so_far.within found in
-            let keeps : length words' ≡ length words = rw put (length-sets words at (tag ∷ (first + value) ∷ past ∷ [])) in
-            record {
-              within = omega (arith, bounds, before-end);
-              same = keeps ∙ so_far.same;
-              room = omega (arith, so_far.room, ap length row_line, keeps);
-              rest = so_far.rest ∙ rw (row_line, put, add-three);
-            }
+      pub rows_go_on : (words' : List ℕ) → words' ≡ sets words at (tag ∷ (first + value) ∷ (first + length line) ∷ [])
+          → RowsSoFar text words₀ words' (at + 3) (first + length line + 1) left'
+      rows_go_on words' put =
+          let keeps : length words' ≡ length words = rw put (length-sets words at (tag ∷ (first + value) ∷ (first + length line) ∷ [])) in
+          record {
+            place = omega (arith, so_far.place, line-length);
+            same = keeps ∙ so_far.same;
+            room = omega (arith, so_far.room, ap length row_line, keeps);
+            rest = so_far.rest ∙ rw (row_line, put, add-three);
+          }
 
 -- ---- the text of its lines
 

@@ -5,17 +5,15 @@ ghost use Rattle.lines.specs.Lines.{lines_of};
 ghost use Rattle.message_text.specs.MessageText.{field_line_of, count_from, table_of, space_answer, space_with, read_message_of, fields_in};
 
 use lines::line_parts::parse_number;
-use lines::lines::position_of;
+use lines::lines::position;
+use lines::text_lines::TextLines;
 use refusals::refusal::Refusal;
 
 // The tag of a line and where its value begins: a line is the tag, the first `=`, and all after it.
 fn field_line(line: &[u8]) -> Option<(u32, usize)>
     ensures { result ≡ field_line_of line.now }
 {
-    let place = position_of(line, 0, b'=');
-    if place == line.len() {
-        return None;
-    }
+    let place = position(line, b'=')?;
     let tag = parse_number(&line[..place])?;
     Some((tag, place + 1))
 }
@@ -26,18 +24,11 @@ fn count_fields(text: &[u8]) -> Result<usize, Refusal>
     ensures { result ≡ count_from 0 (lines_of text.now) }
 {
     let mut count: usize = 0;
-    let mut first: usize = 0;
-    while first < text.len() {
-        let past = position_of(text, first, b'\n');
+    for line in TextLines::new(text) {
         let number = count as u64 + 1;
-        if past == text.len() {
-            return Err(Refusal::UnknownForm(number));
-        }
-        if field_line(&text[first..past]).is_none() {
-            return Err(Refusal::UnknownForm(number));
-        }
+        line.and_then(field_line)
+            .ok_or(Refusal::UnknownForm(number))?;
         count += 1;
-        first = past + 1;
     }
     Ok(count)
 }
@@ -59,14 +50,14 @@ fn put_fields(text: &[u8], fields: &mut [u32])
 {
     let mut at: usize = 0;
     let mut first: usize = 0;
-    while first < text.len() {
-        let past = position_of(text, first, b'\n');
-        if past == text.len() {
-            return;
-        }
-        let Some((tag, value)) = field_line(&text[first..past]) else {
+    for line in TextLines::new(text) {
+        let Some(line) = line else {
             return;
         };
+        let Some((tag, value)) = field_line(line) else {
+            return;
+        };
+        let past = first + line.len();
         put_row(fields, at, tag, first + value, past);
         at += 3;
         first = past + 1;

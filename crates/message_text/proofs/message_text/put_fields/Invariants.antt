@@ -1,11 +1,6 @@
 -- `message_text::message_text::put_fields` meets its contract. The loop's invariant is `RowsSoFar`; every answer cites a law of specs/MessageTextLaws.antt.
-use Prim.Native.Nat.{◌-◌}
-use lib.ListN.{length}
 use Rattle.message_text.specs.MessageTextLaws.{RowsSoFar}
 use Rattle.message_text.proofs.message_text.put_fields.Given as goal
 
-abbrev pub invariant-loop-first : goal.invariant-loop-first
-invariant-loop-first l = RowsSoFar l.text l.initial.fields l.fields l.at l.first
-
-abbrev pub decreases-loop-first : goal.decreases-loop-first
-decreases-loop-first l = length l.text - l.first
+abbrev pub invariant-loop-line : goal.invariant-loop-line
+invariant-loop-line l = RowsSoFar l.text l.initial.fields l.fields l.at l.first l.line-iterator.rest.now
