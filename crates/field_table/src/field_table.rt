@@ -1,8 +1,7 @@
 // The field table: three words a field, tag, first byte, byte after the last, in the message (document 01, 'The events of a walk'). The Rust's
 // slice of FieldRef.
-ghost use Rattle.std.specs.Prelude.{◌≡◌, ◌<◌, length};
+ghost use Rattle.std.specs.Prelude.{◌≡◌, ◌<◌, length, Ok, Err, MatchResult};
 ghost use Rattle.field_table.specs.FieldTable.{row_count, tag_of, first_of, past_of, table_check_of, fields_of};
-ghost use Rattle.field_table.specs.FieldTableLaws.{AcceptedTable};
 ghost use Rattle.field_table.specs.WalkInput.{count_at};
 
 use counts::count::parse_count;
@@ -14,16 +13,8 @@ fn wide(word: u32) -> usize
     word as usize
 }
 
-// The tag of the field at `index`.
-pub fn tag_at(fields: &[u32], index: usize) -> u32
-    requires { index < row_count fields.now }
-    ensures { result ≡ tag_of fields.now index }
-{
-    fields[3 * index]
-}
-
 // Where its value begins in the message.
-pub fn first_at(fields: &[u32], index: usize) -> usize
+fn first_at(fields: &[u32], index: usize) -> usize
     requires { index < row_count fields.now }
     ensures { result ≡ first_of fields.now index }
 {
@@ -31,7 +22,7 @@ pub fn first_at(fields: &[u32], index: usize) -> usize
 }
 
 // The place behind its value.
-pub fn past_at(fields: &[u32], index: usize) -> usize
+fn past_at(fields: &[u32], index: usize) -> usize
     requires { index < row_count fields.now }
     ensures { result ≡ past_of fields.now index }
 {
@@ -64,13 +55,57 @@ pub fn check_field_table(fields: &[u32], message_len: usize) -> Result<(), Refus
     Ok(())
 }
 
-// The count that the field at `index` declares as a count field.
-pub fn count_at(fields: &[u32], message: &[u8], index: usize) -> Option<u64>
-    requires accepted_table { AcceptedTable fields.now (length message.now) }
-    requires index_bound { index < row_count fields.now }
-    ensures { result ≡ count_at (fields_of fields.now message.now) index }
-{
-    let first = first_at(fields, index);
-    let past = past_at(fields, index);
-    parse_count(&message[first..past])
+// A field table that is accepted for a message, both lent: three words a field, tag, first byte,
+// byte after the last, in the message (document 01, 'The events of a walk'). The Rust's slice of
+// FieldRef.
+#[derive(Clone, Copy)]
+pub struct FieldTable<'a> {
+    pub fields: &'a [u32],
+    pub message: &'a [u8],
+    pub ghost accepted: { table_check_of fields.now (length message.now) ≡ Ok tt },
+}
+
+impl<'a> FieldTable<'a> {
+    // The table, or what refuses it (`check_field_table`).
+    pub fn new(fields: &'a [u32], message: &'a [u8]) -> Result<Self, Refusal>
+        ensures outcome { MatchResult result
+            (λ table. (table.fields.now ≡ fields.now) × (table.message.now ≡ message.now))
+            (λ refusal. table_check_of fields.now (length message.now) ≡ Err refusal) }
+    {
+        check_field_table(fields, message.len())?;
+        Ok(FieldTable { fields, message })
+    }
+
+    // How many fields the table has.
+    pub fn len(&self) -> usize
+        ensures { result ≡ row_count self.now.fields.now }
+    {
+        self.fields.len() / 3
+    }
+
+    // The tag of the field at `index`.
+    pub fn tag_at(&self, index: usize) -> u32
+        requires { index < row_count self.now.fields.now }
+        ensures { result ≡ tag_of self.now.fields.now index }
+    {
+        self.fields[3 * index]
+    }
+
+    // The value of the field at `index`, a part of the message.
+    pub fn value_at(&self, index: usize) -> &'a [u8]
+        requires { index < row_count self.now.fields.now }
+        ensures { result.now ≡ (fields_of self.now.fields.now self.now.message.now).value_at index }
+    {
+        let first = self.fields[3 * index + 1] as usize;
+        let past = self.fields[3 * index + 2] as usize;
+        &self.message[first..past]
+    }
+
+    // The count that the field at `index` declares as a count field.
+    pub fn count_at(&self, index: usize) -> Option<u64>
+        requires { index < row_count self.now.fields.now }
+        ensures { result ≡ count_at (fields_of self.now.fields.now self.now.message.now) index }
+    {
+        parse_count(self.value_at(index))
+    }
 }

@@ -1,15 +1,16 @@
 // The check of lent layout words: whether they begin with the arrangement of a layout that meets the
 // seven rules and the limits.
 ghost use Rattle.std.specs.Prelude.{◌≡◌, ◌<◌, ◌≤◌, ◌&&◌, true, length};
+ghost use Rattle.std.specs.Option.{option_map};
 ghost use Rattle.ascii.specs.Notation.{◌≤ᵇ◌};
 ghost use Rattle.ascii.specs.Bytes.{every};
 ghost use Rattle.layouts.specs.Limits.{gate_limits};
 ghost use Rattle.layouts.specs.LayoutRules.{◌∈ᵇ◌};
 ghost use Rattle.layouts.specs.LayoutWords.{first_member};
-ghost use Rattle.layouts.specs.LayoutCheck.{is_run, is_ahead, is_flag, is_level, member_places_hold, required_places_hold, group_places_hold, all_levels_hold, all_delimiters_hold, is_layout};
+ghost use Rattle.layouts.specs.LayoutCheck.{is_run, is_ahead, is_flag, is_level, member_places_hold, required_places_hold, group_places_hold, all_levels_hold, all_delimiters_hold, is_layout, layout_words};
 ghost use Rattle.layouts.specs.LayoutCheckLaws.{PlacesInside};
 
-use layouts::layout_words::stretch_at;
+use layouts::layout_words::{Layout, stretch_at};
 
 // Whether the places begin at `first` and never fall.
 fn is_run(places: &[u32], first: usize) -> bool
@@ -169,4 +170,14 @@ pub fn is_layout(words: &[u32]) -> bool
         && are_flags(&words[7 + 5 * groups..][..groups])
         && levels_hold(words, groups)
         && delimiters_hold(words, groups)
+}
+
+// The words as a layout, where they are one.
+pub fn layout_of(words: &[u32]) -> Option<Layout<'_>>
+    ensures outcome { option_map (λ layout. layout.words.now) result ≡ layout_words gate_limits words.now }
+{
+    if !is_layout(words) {
+        return None;
+    }
+    Some(Layout { words })
 }

@@ -12,7 +12,8 @@
 --   levels_hold members count_tags  these rules for every level
 --   delimiters_hold members delimiters   rule 2 for every group
 --   is_layout limits words         the words begin with the arrangement of a layout that meets the rules and the limits
-use Rattle.std.specs.Prelude.{ℕ, ◌+◌, ◌*◌, Bool, true, false, ◌&&◌, List, [], ◌∷◌, length, get_or, take, drop}
+--   layout_words limits words      the words, if they do
+use Rattle.std.specs.Prelude.{ℕ, ◌+◌, ◌*◌, Bool, true, false, ◌&&◌, List, [], ◌∷◌, length, get_or, take, drop, if◌then◌else◌, Option, Some, None}
 use Rattle.ascii.specs.Notation.{◌≤ᵇ◌, ◌<ᵇ◌, ◌≡ᵇ◌}
 use Rattle.ascii.specs.Bytes.{non_empty, every}
 use Rattle.layouts.specs.Limits.{Limits}
@@ -83,3 +84,7 @@ is_layout_of limits groups words =
 
 unfoldable pub is_layout : Limits → List ℕ → Bool
 is_layout limits words = non_empty words && is_layout_of limits (group_count words) words
+
+-- the words, where they are a layout's
+unfoldable pub layout_words : Limits → List ℕ → Option (List ℕ)
+layout_words limits words = if is_layout limits words then Some words else None

@@ -1,19 +1,20 @@
 -- What holds of words that pass the check, for calls that read them: every level's stretches lie in the words, the members and count tags of
 -- each level ascend, the count tags of a level and the delimiter of a group are members, and the groups of a level have higher numbers than
 -- the level: so the entry level of a group stands behind the level that the group stands in. Assumes nothing.
-use Rattle.std.specs.Prelude.{◌≡◌, refl, ℕ, zero, suc, ◌+◌, ◌*◌, ◌≤◌, ◌<◌, Bool, true, false, ◌&&◌, List, [], ◌∷◌, drop, leb, ltb}
-use Rattle.std.proofs.Common.{ap}
+use Rattle.std.specs.Prelude.{◌≡◌, refl, ℕ, zero, suc, ◌+◌, ◌*◌, ◌≤◌, ◌<◌, Bool, true, false, ◌&&◌, List, [], ◌∷◌, drop, leb, ltb, if◌then◌else◌, Option, Some, None, Result, Ok, Err}
+use Rattle.std.specs.Option.{option_map, ok_or}
+use Rattle.std.proofs.Common.{ap, sym, ◌∙◌}
 use Rattle.std.proofs.lemmas.Bool.{false≢true}
 use native.Mathlib.Omega.{arith}
 use Rattle.std.proofs.Math.ListN.{length, get_or, take}
 use borrow.Author.Tests.{le-leb, leb-true, ltb-true}
 use Rattle.ascii.specs.NotationLaws.{and_left, and_right}
 use Rattle.ascii.specs.Bytes.{non_empty, every}
-use Rattle.layouts.specs.Limits.{Limits}
+use Rattle.layouts.specs.Limits.{Limits, gate_limits}
 use Rattle.layouts.specs.LayoutRules.{is_ascending, ◌∈ᵇ◌, are_among}
 use Rattle.layouts.specs.LayoutWords.{member_places, group_places, first_member, first_count_tag, first_delimiter, first_flag, group_count, stretch, stretches, level_members, level_count_tags, first_group, delimiter_at, flag_at}
 use Rattle.layouts.specs.LayoutWordsLaws.{StretchInside}
-use Rattle.layouts.specs.LayoutCheck.{is_ahead, member_places_hold, required_places_hold, group_places_hold, is_flag, is_level, levels_hold, delimiters_hold, all_levels_hold, all_delimiters_hold, is_layout_of, is_layout}
+use Rattle.layouts.specs.LayoutCheck.{is_ahead, member_places_hold, required_places_hold, group_places_hold, is_flag, is_level, levels_hold, delimiters_hold, all_levels_hold, all_delimiters_hold, is_layout_of, is_layout, layout_words}
 use Rattle.layouts.specs.LayoutCheckLaws.{RunIn, group-places, groups-end, groups-ahead, member-stretches, required-stretches, count-tag_stretches, word_of_part, length_part}
 
 -- the tests of `is_layout`, one by one
@@ -69,6 +70,55 @@ module _ (limits : Limits) (words : List ℕ) where
   passed-is_layout passed =
       rw
       (passed.some_word, le-leb (first_member (group_count words)) (length words) passed.heads, passed.members_hold, passed.required_hold, passed.groups_hold_lem, passed.flags_hold, passed.levels_hold_lem, passed.delimiters_hold_lem)
+
+-- ---- what the call that gives a layout tells
+
+module _ (limits : Limits) (words : List ℕ) where
+  pub layout_words-passed : is_layout limits words ≡ true → layout_words limits words ≡ Some words
+  unfolding layout_words
+  layout_words-passed passed = rw passed
+
+  pub layout_words-refused : is_layout limits words ≡ false → layout_words limits words ≡ None
+  unfolding layout_words
+  layout_words-refused refused = rw refused
+
+  module _ {X : Type 0} (view : X → List ℕ) (found : Option X) (told : option_map view found ≡ layout_words limits words) where
+    pub layout-found : (layout : X) → found ≡ Some layout → (is_layout limits words ≡ true) × (view layout ≡ words)
+    unfolding layout_words
+    layout-found layout there = go (is_layout limits words) refl (ap (option_map view) (sym there) ∙ told)
+      where
+        go : (test : Bool) → is_layout limits words ≡ test → Some (view layout) ≡ (if test then Some words else None)
+            → (is_layout limits words ≡ true) × (view layout ≡ words)
+        go true passed same = (passed, cc)
+        go false refused same = let zero_one : ◌≡◌ {A = ℕ} 0 1 = cc in absurd (omega arith)
+
+    pub layout-nowhere : found ≡ None → is_layout limits words ≡ false
+    unfolding layout_words
+    layout-nowhere nowhere = go (is_layout limits words) refl (ap (option_map view) (sym nowhere) ∙ told)
+      where
+        go : (test : Bool) → is_layout limits words ≡ test → None ≡ (if test then Some words else None) → is_layout limits words ≡ false
+        go true passed same = let zero_one : ◌≡◌ {A = ℕ} 0 1 = cc in absurd (omega arith)
+        go false refused same = refused
+
+    -- where a refusal takes the place of no layout
+    module _ {E : Type 0} (refusal : E) where
+      pub layout-taken : (layout : X) → ok_or found refusal ≡ Ok layout → (is_layout limits words ≡ true) × (view layout ≡ words)
+      layout-taken layout taken = go found refl taken
+        where
+          go : (answer : Option X) → found ≡ answer → ok_or answer refusal ≡ Ok layout → (is_layout limits words ≡ true) × (view layout ≡ words)
+          go (Some other) there same = layout-found layout (there ∙ ap Some cc)
+          go None nowhere same = let zero_one : ◌≡◌ {A = ℕ} 0 1 = cc in absurd (omega arith)
+
+      pub layout-refused : (error : E) → ok_or found refusal ≡ Err error → (is_layout limits words ≡ false) × (error ≡ refusal)
+      layout-refused error refused = go found refl refused
+        where
+          go : (answer : Option X) → found ≡ answer → ok_or answer refusal ≡ Err error → (is_layout limits words ≡ false) × (error ≡ refusal)
+          go (Some other) there same = let zero_one : ◌≡◌ {A = ℕ} 0 1 = cc in absurd (omega arith)
+          go None nowhere same = (layout-nowhere nowhere, cc)
+
+-- all words before the members are there
+pub layout_heads : (words : List ℕ) → is_layout gate_limits words ≡ true → first_member (group_count words) ≤ length words
+layout_heads words holds = (is_layout-passed gate_limits words holds).heads
 
 -- ---- each level, each group, by its number
 
@@ -212,3 +262,9 @@ module _ (limits : Limits) (words : List ℕ) (passed : Passed limits words) whe
   entry-behind (suc number) level =
       let same : first_group words (number + 1) ≡ first_group words (suc number) = ap (first_group words) (omega arith) in
       omega (arith, same, first_group-ahead number (omega arith))
+
+-- the place of a level's count tags is not before the first of them all
+pub layout_first_group : (words : List ℕ) → is_layout gate_limits words ≡ true → (number : ℕ) → number ≤ group_count words
+    → first_count_tag (group_count words) ≤ get_or words (group_places (group_count words) + number) 0
+layout_first_group words holds number level =
+    omega (arith, groups-place gate_limits words (is_layout-passed gate_limits words holds) number (omega arith))

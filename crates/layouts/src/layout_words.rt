@@ -1,10 +1,10 @@
 // Reading the words of a layout (docs/ARRANGEMENT.md): the stretches that their places bound.
-ghost use Rattle.std.specs.Prelude.{◌≡◌, ◌<◌, ◌≤◌};
+ghost use Rattle.std.specs.Prelude.{◌≡◌, ◌<◌, ◌≤◌, true};
 ghost use Rattle.ascii.specs.Notation.{◌≡ᵇ◌};
 ghost use Rattle.layouts.specs.Limits.{gate_limits};
-ghost use Rattle.layouts.specs.LayoutWords.{stretch, group_count, level_members, level_required, level_count_tags, count_tag_at, delimiter_at, flag_at};
+ghost use Rattle.layouts.specs.LayoutWords.{stretch, group_count, level_members, level_required, level_count_tags, first_group, count_tag_at, delimiter_at, flag_at};
 ghost use Rattle.layouts.specs.LayoutWordsLaws.{StretchInside};
-ghost use Rattle.layouts.specs.LayoutCheckFacts.{Passed};
+ghost use Rattle.layouts.specs.LayoutCheck.{is_layout};
 
 // A word as a number of words or a place among them.
 pub fn wide(word: u32) -> usize
@@ -31,63 +31,83 @@ pub fn stretch_at(words: &[u32], place: usize) -> &[u32]
     &words[first..past]
 }
 
-// How many groups the layout has over all levels. Level 0 is the top, and level `number + 1` is the entry level of group `number`.
-pub fn group_count(words: &[u32]) -> usize
-    requires { Passed gate_limits words.now }
-    ensures { result ≡ group_count words.now }
-{
-    wide(words[0])
+// Lent words that passed the check of a layout (crate layout_check, `layout_of`). Level 0 is the
+// top, and level `number + 1` is the entry level of group `number`.
+#[derive(Clone, Copy)]
+pub struct Layout<'a> {
+    pub words: &'a [u32],
+    pub ghost passed: { is_layout gate_limits words.now ≡ true },
+    pub ghost few_groups: { group_count words.now < 4294967296 },
 }
 
-// The count tag of a group.
-pub fn count_tag_at(words: &[u32], number: usize) -> u32
-    requires { Passed gate_limits words.now × (number < group_count words.now) }
-    ensures { result ≡ count_tag_at words.now number }
-{
-    let groups = group_count(words);
-    words[7 + 3 * groups + number]
-}
+impl<'a> Layout<'a> {
+    // How many groups the layout has over all levels.
+    pub fn group_count(&self) -> usize
+        ensures { result ≡ group_count self.now.words.now }
+    {
+        self.words[0] as usize
+    }
 
-// The delimiter of a group.
-pub fn delimiter_at(words: &[u32], number: usize) -> u32
-    requires { Passed gate_limits words.now × (number < group_count words.now) }
-    ensures { result ≡ delimiter_at words.now number }
-{
-    let groups = group_count(words);
-    words[7 + 4 * groups + number]
-}
+    // The count tag of a group.
+    pub fn count_tag_at(&self, number: usize) -> u32
+        requires { number < group_count self.now.words.now }
+        ensures { result ≡ count_tag_at self.now.words.now number }
+    {
+        let groups = self.group_count();
+        self.words[7 + 3 * groups + number]
+    }
 
-// Whether a group is required.
-pub fn is_required_at(words: &[u32], number: usize) -> bool
-    requires { Passed gate_limits words.now × (number < group_count words.now) }
-    ensures { result ≡ (flag_at words.now number ≡ᵇ 1) }
-{
-    let groups = group_count(words);
-    words[7 + 5 * groups + number] == 1
-}
+    // The delimiter of a group.
+    pub fn delimiter_at(&self, number: usize) -> u32
+        requires { number < group_count self.now.words.now }
+        ensures { result ≡ delimiter_at self.now.words.now number }
+    {
+        let groups = self.group_count();
+        self.words[7 + 4 * groups + number]
+    }
 
-// The members of a level, a part of the words.
-pub fn members_at(words: &[u32], level: usize) -> &[u32]
-    requires { Passed gate_limits words.now × (level ≤ group_count words.now) }
-    ensures { result.now ≡ level_members words.now level }
-{
-    stretch_at(words, 1 + level)
-}
+    // Whether a group is required.
+    pub fn is_required_at(&self, number: usize) -> bool
+        requires { number < group_count self.now.words.now }
+        ensures { result ≡ (flag_at self.now.words.now number ≡ᵇ 1) }
+    {
+        let groups = self.group_count();
+        self.words[7 + 5 * groups + number] == 1
+    }
 
-// The required tags of a level, a part of the words.
-pub fn required_at(words: &[u32], level: usize) -> &[u32]
-    requires { Passed gate_limits words.now × (level ≤ group_count words.now) }
-    ensures { result.now ≡ level_required words.now level }
-{
-    let groups = group_count(words);
-    stretch_at(words, 3 + groups + level)
-}
+    // The members of a level, a part of the words.
+    pub fn members_at(&self, level: usize) -> &'a [u32]
+        requires { level ≤ group_count self.now.words.now }
+        ensures { result.now ≡ level_members self.now.words.now level }
+    {
+        stretch_at(self.words, 1 + level)
+    }
 
-// The count tags of the groups that stand in a level, a part of the words.
-pub fn count_tags_at(words: &[u32], level: usize) -> &[u32]
-    requires { Passed gate_limits words.now × (level ≤ group_count words.now) }
-    ensures { result.now ≡ level_count_tags words.now level }
-{
-    let groups = group_count(words);
-    stretch_at(words, 5 + 2 * groups + level)
+    // The required tags of a level, a part of the words.
+    pub fn required_at(&self, level: usize) -> &'a [u32]
+        requires { level ≤ group_count self.now.words.now }
+        ensures { result.now ≡ level_required self.now.words.now level }
+    {
+        let groups = self.group_count();
+        stretch_at(self.words, 3 + groups + level)
+    }
+
+    // The count tags of the groups that stand in a level, a part of the words.
+    pub fn count_tags_at(&self, level: usize) -> &'a [u32]
+        requires { level ≤ group_count self.now.words.now }
+        ensures { result.now ≡ level_count_tags self.now.words.now level }
+    {
+        let groups = self.group_count();
+        stretch_at(self.words, 5 + 2 * groups + level)
+    }
+
+    // The number of the first group that stands in a level.
+    pub fn first_group_of(&self, level: usize) -> usize
+        requires { level ≤ group_count self.now.words.now }
+        ensures { result ≡ first_group self.now.words.now level }
+    {
+        let groups = self.group_count();
+        let place = self.words[5 + 2 * groups + level] as usize;
+        place - (7 + 3 * groups)
+    }
 }

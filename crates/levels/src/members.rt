@@ -3,24 +3,21 @@
 ghost use Rattle.std.specs.Prelude.{◌≡◌, ◌≤◌};
 ghost use Rattle.layouts.specs.Limits.{gate_limits};
 ghost use Rattle.layouts.specs.LayoutWords.{group_count};
-ghost use Rattle.layouts.specs.LayoutCheckFacts.{Passed};
 ghost use Rattle.levels.specs.Members.{nested_level, level_outcome, level_part};
 
 use ascending::search::binary_search;
-use layout_check::layout_check::is_layout;
-use layouts::layout_words::stretch_at;
+use layout_check::layout_check::layout_of;
+use layouts::layout_words::{Layout, stretch_at};
 use refusals::refusal::Refusal;
 
 // The number of the entry level of the group with this count tag that stands in the level, if there
 // is one.
-pub fn nested_level(words: &[u32], level: usize, tag: u32) -> Option<usize>
-    requires { Passed gate_limits words.now × (level ≤ group_count words.now) }
-    ensures { result ≡ nested_level words.now level tag }
+pub fn nested_level(layout: &Layout<'_>, level: usize, tag: u32) -> Option<usize>
+    requires { level ≤ group_count layout.now.words.now }
+    ensures { result ≡ nested_level layout.now.words.now level tag }
 {
-    let groups = words[0] as usize;
-    let place = 5 + 2 * groups + level;
-    let rank = binary_search(stretch_at(words, place), tag)?;
-    let number = words[place] as usize - (7 + 3 * groups) + rank;
+    let rank = binary_search(layout.count_tags_at(level), tag)?;
+    let number = layout.first_group_of(level) + rank;
     Some(number + 1)
 }
 
@@ -29,12 +26,10 @@ pub fn nested_level(words: &[u32], level: usize, tag: u32) -> Option<usize>
 pub fn level_of(words: &[u32], path: &[u32]) -> Result<usize, Refusal>
     ensures outcome { result ≡ level_outcome gate_limits words.now path.now }
 {
-    if !is_layout(words) {
-        return Err(Refusal::RuleBroken(0, 0));
-    }
+    let layout = layout_of(words).ok_or(Refusal::RuleBroken(0, 0))?;
     let mut level = 0;
     for tag in path {
-        level = nested_level(words, level, *tag).ok_or(Refusal::NoSuchGroup(*tag))?;
+        level = nested_level(&layout, level, *tag).ok_or(Refusal::NoSuchGroup(*tag))?;
     }
     Ok(level)
 }

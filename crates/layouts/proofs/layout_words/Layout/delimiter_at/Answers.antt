@@ -1,0 +1,7 @@
+-- `layouts::layout_words::Layout::delimiter_at` meets its contract: the words of each group stand before the members.
+use native.Mathlib.Omega.{arith}
+use Rattle.layouts.specs.LayoutCheckFacts.{layout_heads}
+use Rattle.layouts.proofs.layout_words.Layout.delimiter_at.Goals as goal
+
+pub bounds-self-groups : goal.bounds-self-groups
+bounds-self-groups c = omega (arith, layout_heads _ c.args.self.now.passed, c.requires, c.group_count-groups.ensures)

@@ -1,7 +1,0 @@
--- `layouts::layout_words::count_tags_at` meets its contract: the count tags of a level lie in words that pass the check.
-use Rattle.layouts.specs.Limits.{gate_limits}
-use Rattle.layouts.specs.LayoutCheckFacts.{count_tags-inside}
-use Rattle.layouts.proofs.layout_words.count_tags_at.Goals as goal
-
-pub stretch_at-requires : goal.stretch_at-requires
-stretch_at-requires c = rw c.group_count-groups.ensures (count_tags-inside gate_limits _ c.requires.0 _ c.requires.1)
