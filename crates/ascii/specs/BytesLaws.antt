@@ -1,8 +1,9 @@
 -- Laws of `Bytes.antt`, in its order, and of the parts of a list that loops and loans of a slice speak of. `drop index value` is what a
 -- loop that reads the value from the left has still to read. Assumes nothing.
-use Rattle.std.specs.Prelude.{◌≡◌, refl, ℕ, ◌+◌, ◌-◌, ◌≤◌, ◌<◌, Bool, true, false, not, eqb, List, [], ◌∷◌, length, get_or, take, drop}
+use Rattle.std.specs.Prelude.{◌≡◌, refl, ℕ, suc, ◌+◌, ◌-◌, ◌≤◌, ◌<◌, Bool, true, false, not, eqb, List, [], ◌∷◌, length, get_or, take, drop}
 use Rattle.std.proofs.Common.{◌∙◌, arith, add-one, rules, drop_of_length-le, length-drop, drop-cons, take_all}
-use Rattle.ascii.specs.Bytes.{non_empty, every}
+use Rattle.std.proofs.lemmas.List.Sums.{sum_by-cons}
+use Rattle.ascii.specs.Bytes.{non_empty, every, how_many}
 
 -- ---- lists
 
@@ -47,6 +48,17 @@ module _ (test : ℕ → Bool) (value : List ℕ) (index : ℕ) where
 
   pub every-end : length value ≤ index → every test (drop index value) ≡ true
   every-end over = rw (drop_of_length-le value over)
+
+  -- ---- how_many
+
+  pub how_many-counts : index < length value → test (get_or value index 0) ≡ true → how_many test (drop index value) ≡ suc (how_many test (drop (index + 1) value))
+  how_many-counts inside passes = rw (drop-step value index inside) (sum_by-cons _ (get_or value index 0) (drop (index + 1) value) ∙ rw passes (omega arith))
+
+  pub how_many-skips : index < length value → test (get_or value index 0) ≡ false → how_many test (drop index value) ≡ how_many test (drop (index + 1) value)
+  how_many-skips inside fails = rw (drop-step value index inside) (sum_by-cons _ (get_or value index 0) (drop (index + 1) value) ∙ rw fails (omega arith))
+
+  pub how_many-end : length value ≤ index → how_many test (drop index value) ≡ 0
+  how_many-end over = rw (drop_of_length-le value over)
 
 -- the loop of a function that looks at every byte: those before `index` pass the test
 pub record EverySoFar (test : ℕ → Bool) (value : List ℕ) (index : ℕ) : Type 0 where

@@ -1,6 +1,6 @@
 -- Laws of `Digits.antt`, in its order. Assumes nothing.
 use Rattle.std.specs.Prelude.{◌≡◌, ℕ, zero, suc, ◌+◌, ◌*◌, ◌-◌, ◌≤◌, ◌<◌, true, false, List, [], ◌∷◌, length, get_or, take, drop}
-use Rattle.std.proofs.Common.{arith, drop_of_length-le, ne_eqb}
+use Rattle.std.proofs.Common.{arith, drop_of_length-le, eq-eqb, ne_eqb}
 use Rattle.ascii.specs.NotationLaws.{is_between-range}
 use Rattle.ascii.specs.Bytes.{every}
 use Rattle.ascii.specs.BytesLaws.{drop-step, non_empty-none, non_empty-some}
@@ -24,6 +24,9 @@ module _ (value : List ℕ) where
 
   pub is_digits_of_len-other_length : (len : ℕ) → (length value ≡ len → ⊥) → is_digits_of_len len value ≡ false
   is_digits_of_len-other_length len other = rw (ne_eqb (length value) len other)
+
+  pub is_digits_of_len-length : (len : ℕ) → length value ≡ len → is_digits_of_len len value ≡ every is_digit value
+  is_digits_of_len-length len same = rw (eq-eqb (length value) len same)
 
 -- ---- decimal_from
 

@@ -7,6 +7,7 @@ pub mod BytesLaws
 pub mod Digits
 pub mod DigitsLaws
 pub mod Letters
+pub mod LettersLaws
 pub mod LettersCases
 pub mod Split
 pub mod SplitLaws

@@ -1,23 +1,34 @@
 -- Laws of `Split.antt`, in its order, for any separator. The last section is for code that searches a separator from `from` on and finds
 -- it, or the end, at `found`. Assumes nothing.
-use Rattle.std.specs.Prelude.{◌≡◌, ℕ, suc, ◌+◌, ◌-◌, ◌≤◌, ◌<◌, Bool, not, cond, eqb, ltb, length, take, drop}
+use Rattle.std.specs.Prelude.{◌≡◌, ℕ, suc, ◌+◌, ◌-◌, ◌≤◌, ◌<◌, Bool, not, cond, eqb, ltb, length, get_or, take, drop}
 use Rattle.std.proofs.Math.Path.{refl, ap, sym}
 use Rattle.std.proofs.Common.{◌∙◌, arith, drop_of_length-le, length-drop, drop-drop}
 use Rattle.std.proofs.Math.Bool.{true, false}
 use mathlib.Core.List.{List, [], ◌∷◌, ◌++◌}
-use borrow.Author.Tests.{eqb-true, not-true, eq-eqb}
+use borrow.Author.Tests.{eqb-true, not-true, eq-eqb, ne_eqb}
 use Rattle.std.specs.List.{position_or_len, position}
 use Rattle.std.specs.Option.{unwrap_or}
 use Rattle.std.proofs.Common.{Some, None, rules}
 use Rattle.std.proofs.lemmas.List.Recursion.{is_position_or_len}
 use Rattle.ascii.specs.NotationLaws.{and_left, and_right}
+use Rattle.ascii.specs.BytesLaws.{drop-step}
 use Rattle.ascii.specs.Split.{index_of, Parts, last, part, with_first, split, every_part, without, join}
 
 -- ---- index_of
 
-pub index_of_end : (separator : ℕ) (value : List ℕ) (index : ℕ) → length value ≤ index → index_of separator (drop index value) ≡ 0
-unfolding index_of
-index_of_end separator value index over = rw (drop_of_length-le value over)
+module _ (separator : ℕ) (value : List ℕ) (index : ℕ) where
+  pub index_of_here : index < length value → get_or value index 0 ≡ separator → index_of separator (drop index value) ≡ 0
+  unfolding index_of
+  index_of_here inside same = rw (drop-step value index inside, eq-eqb _ _ same)
+
+  pub index_of_further : index < length value → (get_or value index 0 ≡ separator → ⊥)
+      → index_of separator (drop index value) ≡ suc (index_of separator (drop (index + 1) value))
+  unfolding index_of
+  index_of_further inside other = rw (drop-step value index inside, ne_eqb _ _ other)
+
+  pub index_of_end : length value ≤ index → index_of separator (drop index value) ≡ 0
+  unfolding index_of
+  index_of_end over = rw (drop_of_length-le value over)
 
 index_of_within_by : (test : Bool) (m n : ℕ) → m ≤ n → cond test 0 (suc m) ≤ suc n
 index_of_within_by true m n less = omega arith
