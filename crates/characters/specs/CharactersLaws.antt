@@ -1,17 +1,25 @@
 -- Laws of `Characters.antt`, in its order. Assumes nothing.
-use Rattle.std.specs.Prelude.{◌≡◌, refl, ℕ, suc, ◌+◌, ◌≤◌, ◌<◌, Bool, true, false, cond, List, [], ◌∷◌, ◌++◌, ltb, length, get_or, drop}
-use Rattle.std.proofs.Common.{ap, ◌∙◌, arith, drop_of_length-le, ltb-true, le-ltb}
+use Rattle.std.specs.Prelude.{◌≡◌, refl, ℕ, suc, ◌+◌, ◌≤◌, ◌<◌, Bool, true, false, cond, List, [], ◌∷◌, ◌++◌, ltb, leb, length, get_or, drop}
+use Rattle.std.proofs.Common.{ap, ◌∙◌, arith, drop_of_length-le, ltb-true, le-leb, lt-ltb, le-ltb}
+use Rattle.std.proofs.lemmas.Bool.{lt-leb}
 use Rattle.characters.specs.declared.characters.Expected.{Expected}
 use Rattle.ascii.specs.Notation.{is_between}
-use Rattle.ascii.specs.NotationLaws.{and_left, and-false, is_between-below}
+use Rattle.ascii.specs.NotationLaws.{and_left, and-false, is_between-below, is_between-from}
 use Rattle.ascii.specs.Bytes.{non_empty}
 use Rattle.ascii.specs.BytesLaws.{drop-step}
 use Rattle.characters.specs.Characters.{expects, nothing_expected, expected_after, continues, next, characters_from, characters, leads_from, leads}
 
--- ---- expected_after
+-- ---- expected_after, row by row
 
--- a lead byte before a row of the table
+-- a lead byte in a row of the table, after it, before it
 module _ (low high lead : ℕ) (row others : Expected) where
+  in_row : low ≤ lead → lead ≤ high → cond (is_between low high lead) row others ≡ row
+  in_row from to = rw (is_between-from low high lead from, le-leb lead high to)
+
+  over-row : high < lead → cond (is_between low high lead) row others ≡ others
+  unfolding is_between
+  over-row over = rw (lt-leb lead high over, and-false (leb low lead))
+
   under_row : lead < low → cond (is_between low high lead) row others ≡ others
   under_row under = rw (is_between-below low high lead under)
 
@@ -27,6 +35,83 @@ module _ (lead : ℕ) where
       ∙ under_row _ _ _ _ _ (omega arith)
       ∙ under_row _ _ _ _ _ (omega arith)
       ∙ under_row _ _ _ _ _ (omega arith)
+
+  pub expected_after-C2_DF : 0xC2 ≤ lead → lead ≤ 0xDF → expected_after lead ≡ expects 1 0x80 0xBF
+  unfolding expected_after
+  expected_after-C2_DF from to = in_row _ _ _ _ _ from to
+
+  pub expected_after-E0 : 0xE0 ≤ lead → lead ≤ 0xE0 → expected_after lead ≡ expects 2 0xA0 0xBF
+  unfolding expected_after
+  expected_after-E0 from to = over-row _ _ _ _ _ (omega arith) ∙ in_row _ _ _ _ _ from to
+
+  pub expected_after-E1_EC : 0xE1 ≤ lead → lead ≤ 0xEC → expected_after lead ≡ expects 2 0x80 0xBF
+  unfolding expected_after
+  expected_after-E1_EC from to =
+      over-row _ _ _ _ _ (omega arith)
+      ∙ over-row _ _ _ _ _ (omega arith)
+      ∙ in_row _ _ _ _ _ from to
+
+  pub expected_after-ED : 0xED ≤ lead → lead ≤ 0xED → expected_after lead ≡ expects 2 0x80 0x9F
+  unfolding expected_after
+  expected_after-ED from to =
+      over-row _ _ _ _ _ (omega arith)
+      ∙ over-row _ _ _ _ _ (omega arith)
+      ∙ over-row _ _ _ _ _ (omega arith)
+      ∙ in_row _ _ _ _ _ from to
+
+  pub expected_after-EE_EF : 0xEE ≤ lead → lead ≤ 0xEF → expected_after lead ≡ expects 2 0x80 0xBF
+  unfolding expected_after
+  expected_after-EE_EF from to =
+      over-row _ _ _ _ _ (omega arith)
+      ∙ over-row _ _ _ _ _ (omega arith)
+      ∙ over-row _ _ _ _ _ (omega arith)
+      ∙ over-row _ _ _ _ _ (omega arith)
+      ∙ in_row _ _ _ _ _ from to
+
+  pub expected_after-F0 : 0xF0 ≤ lead → lead ≤ 0xF0 → expected_after lead ≡ expects 3 0x90 0xBF
+  unfolding expected_after
+  expected_after-F0 from to =
+      over-row _ _ _ _ _ (omega arith)
+      ∙ over-row _ _ _ _ _ (omega arith)
+      ∙ over-row _ _ _ _ _ (omega arith)
+      ∙ over-row _ _ _ _ _ (omega arith)
+      ∙ over-row _ _ _ _ _ (omega arith)
+      ∙ in_row _ _ _ _ _ from to
+
+  pub expected_after-F1_F3 : 0xF1 ≤ lead → lead ≤ 0xF3 → expected_after lead ≡ expects 3 0x80 0xBF
+  unfolding expected_after
+  expected_after-F1_F3 from to =
+      over-row _ _ _ _ _ (omega arith)
+      ∙ over-row _ _ _ _ _ (omega arith)
+      ∙ over-row _ _ _ _ _ (omega arith)
+      ∙ over-row _ _ _ _ _ (omega arith)
+      ∙ over-row _ _ _ _ _ (omega arith)
+      ∙ over-row _ _ _ _ _ (omega arith)
+      ∙ in_row _ _ _ _ _ from to
+
+  pub expected_after-F4 : 0xF4 ≤ lead → lead ≤ 0xF4 → expected_after lead ≡ expects 3 0x80 0x8F
+  unfolding expected_after
+  expected_after-F4 from to =
+      over-row _ _ _ _ _ (omega arith)
+      ∙ over-row _ _ _ _ _ (omega arith)
+      ∙ over-row _ _ _ _ _ (omega arith)
+      ∙ over-row _ _ _ _ _ (omega arith)
+      ∙ over-row _ _ _ _ _ (omega arith)
+      ∙ over-row _ _ _ _ _ (omega arith)
+      ∙ over-row _ _ _ _ _ (omega arith)
+      ∙ in_row _ _ _ _ _ from to
+
+  pub expected_after-above : 0xF5 ≤ lead → expected_after lead ≡ nothing_expected
+  unfolding expected_after
+  expected_after-above from =
+      over-row _ _ _ _ _ (omega arith)
+      ∙ over-row _ _ _ _ _ (omega arith)
+      ∙ over-row _ _ _ _ _ (omega arith)
+      ∙ over-row _ _ _ _ _ (omega arith)
+      ∙ over-row _ _ _ _ _ (omega arith)
+      ∙ over-row _ _ _ _ _ (omega arith)
+      ∙ over-row _ _ _ _ _ (omega arith)
+      ∙ over-row _ _ _ _ _ (omega arith)
 
 -- what is expected lies after ASCII
 pub record BehindAscii (expected : Expected) : Type 0 where
@@ -61,6 +146,10 @@ pub continues-none : (expected : Expected) (byte : ℕ) → expected.more ≡ 0 
 unfolding continues
 continues-none expected byte none = rw (le-ltb 0 expected.more (omega arith))
 
+pub continues-some : (expected : Expected) (byte : ℕ) → 0 < expected.more → continues expected byte ≡ is_between expected.low expected.high byte
+unfolding continues
+continues-some expected byte some = rw (lt-ltb 0 expected.more some)
+
 -- an ASCII byte continues no character
 pub continues-ascii : (expected : Expected) (byte : ℕ) → BehindAscii expected → byte < 0x80 → continues expected byte ≡ false
 unfolding continues
@@ -76,6 +165,16 @@ module _ (expected : Expected) (value : List ℕ) (index : ℕ) where
       (suc (characters_from (expected_after (get_or value index 0)) (drop (index + 1) value)))
   unfolding characters_from
   characters_from_step inside = rw (drop-step value index inside)
+
+  pub characters_from-continues : index < length value → continues expected (get_or value index 0) ≡ true
+      → characters_from expected (drop index value) ≡ characters_from (next expected) (drop (index + 1) value)
+  unfolding characters_from
+  characters_from-continues inside going_on = rw (drop-step value index inside, going_on)
+
+  pub characters_from-begins : index < length value → continues expected (get_or value index 0) ≡ false
+      → characters_from expected (drop index value) ≡ suc (characters_from (expected_after (get_or value index 0)) (drop (index + 1) value))
+  unfolding characters_from
+  characters_from-begins inside new = rw (drop-step value index inside, new)
 
   pub characters_from_end : length value ≤ index → characters_from expected (drop index value) ≡ 0
   unfolding characters_from

@@ -3,4 +3,5 @@
 pub mod Boolean
 pub mod BooleanLaws
 pub mod FieldValue
+pub mod FieldValueLaws
 pub mod StarredCases

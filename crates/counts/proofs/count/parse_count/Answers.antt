@@ -1,5 +1,5 @@
 -- `counts::count::parse_count` meets its contract: the digits so far decide, or all of them do (specs/CountLaws.antt).
-use Rattle.std.proofs.Common.{◌≡◌, ◌∙◌, ◌+◌, ◌*◌, ◌^◌, ◌≤◌, take, arith, sym, take_all, true}
+use Rattle.std.proofs.Common.{◌≡◌, ◌∙◌, ◌+◌, ◌^◌, ◌≤◌, take, arith, sym, take_all, true}
 use Rattle.std.proofs.lemmas.Grind.{common_steps}
 use Rattle.ascii.specs.Bytes.{every}
 use Rattle.ascii.specs.Digits.{is_digit, decimal}
