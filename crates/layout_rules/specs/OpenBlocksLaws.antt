@@ -160,3 +160,13 @@ blocks-opened kept depth count delimiter members tags room level blocks flag dee
       λ other. rw (← deep, ← of_members, ← of_tags) (get_or-set_same kept depth block other room),
       blocks-later kept depth block blocks (omega arith) hold,
     )
+
+-- ---- is_member: no place is found where the tag is none of the words
+
+pub member-missing : (words : List ℕ) (tag : ℕ) (found : Option ℕ) → found ≡ rank_in words tag → found ≡ None → is_in tag words ≡ false
+member-missing words tag found is nowhere = sym (member-found words tag found is) ∙ ap is_some nowhere
+
+-- ---- BlocksHold: a block that is opened leaves those around it as they are kept
+
+pub blocks-kept : (kept : List OpenBlock) (depth : ℕ) (block : OpenBlock) (blocks : List Block) → depth ≡ length blocks → BlocksHold kept blocks → BlocksHold (set kept depth block) blocks
+blocks-kept kept depth block blocks deep hold = blocks-later kept depth block blocks (omega arith) hold

@@ -16,3 +16,4 @@ pub mod LayoutCheckComplete
 pub mod GatheredLayout
 pub mod GatheredLayoutLaws
 pub mod LayoutCases
+pub mod LayoutCheckTests
