@@ -5,12 +5,12 @@
 --   accepts state number total lines   lines from this number on, read in this state behind so many bytes, are those of an accepted text, but for row 5
 --   is_index kind at count words  the index at this place has the names of all records of this kind, each once, and where they stand
 --   is_dictionary words           the words begin with the arrangement of an accepted dictionary
-use Rattle.std.specs.Prelude.{◌≡◌, ℕ, zero, suc, ◌+◌, ◌*◌, Bool, true, false, ◌&&◌, List, [], ◌∷◌, length, get_or, take, drop, if◌then◌else◌, Option, Some, None}
-use Rattle.ascii.specs.Notation.{◌≤ᵇ◌, ◌<ᵇ◌, ◌≡ᵇ◌, is_between}
+use Rattle.std.specs.Prelude.{◌≡◌, ℕ, zero, suc, ◌+◌, ◌*◌, Bool, true, false, ◌&&◌, List, [], ◌∷◌, length, get_or, take, drop, if◌then◌else◌, Result, Ok, Err}
+use Rattle.ascii.specs.Notation.{◌≤ᵇ◌, ◌<ᵇ◌, ◌≡ᵇ◌}
 use Rattle.ascending.specs.Search.{is_strictly_ascending}
 use Rattle.line_forms.specs.declared.line.Line.{Line}
 use Rattle.dictionary_order.specs.declared.dictionary_order.State.{State}
-use Rattle.dictionary_order.specs.DictionaryOrder.{start, step_of, behind_trailer, behind_message}
+use Rattle.dictionary_order.specs.DictionaryOrder.{start, step_of, after, may_end}
 use Rattle.records.specs.Records.{lines_from}
 use Rattle.records.specs.LineLengths.{length_of}
 use Rattle.dictionary.specs.DictionaryWords as kinds
@@ -18,16 +18,16 @@ use Rattle.refusals.specs.declared.refusal.Refusal.{Refusal}
 
 -- ---- the lines
 
-abbrev pub is_taken : Option Refusal → Bool
-is_taken None = true
-is_taken (Some refusal) = false
+abbrev pub is_taken : Result State Refusal → Bool
+is_taken (Ok next) = true
+is_taken (Err refusal) = false
 
 unfoldable pub accepts : State → ℕ → ℕ → List Line → Bool
-accepts state number total [] = is_between behind_trailer behind_message state.stage
+accepts state number total [] = may_end state
 accepts state number total (line ∷ rest) =
     let step = step_of state number line in
-    is_taken step.fault
-    && (total + (length_of line + 1) ≤ᵇ 65536 && accepts step.next (number + 1) (total + (length_of line + 1)) rest)
+    is_taken step
+    && (total + (length_of line + 1) ≤ᵇ 65536 && accepts (after state step) (number + 1) (total + (length_of line + 1)) rest)
 
 -- ---- an index
 

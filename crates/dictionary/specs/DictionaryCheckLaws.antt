@@ -1,5 +1,6 @@
 -- Laws of `DictionaryCheck.antt`: its loops, turn by turn, and its tests, one by one. Assumes nothing.
-use Rattle.std.specs.Prelude.{◌≡◌, refl, Bool, cond, ◌&&◌, List, [], ◌∷◌, leb, eqb, length, get_or, take}
+use Rattle.std.specs.Prelude.{◌≡◌, refl, Bool, cond, ◌&&◌, List, [], ◌∷◌, leb, eqb, length, get_or, take, is_some, Option, Some, None, Result, Ok, Err}
+use Rattle.std.specs.Bool.{then_some}
 use Rattle.std.proofs.Math.Path.{sym}
 use Rattle.std.proofs.Common.{subst, ◌∙◌, add-one, length-take, length-drop, drop-cons, get_or-drop}
 use Prim.Native.Nat.{ℕ, zero, suc, ◌+◌, ◌*◌, ◌-◌, ◌≤◌, ◌<◌}
@@ -9,19 +10,19 @@ use native.Mathlib.Omega.{arith}
 use Rattle.std.proofs.Math.ListN.{drop}
 use Rattle.std.proofs.Math.Seq.{drop-drop}
 use borrow.Author.Tests.{le-leb, lt-leb, leb-true, leb-false, eq-eqb, ne_eqb}
-use Rattle.ascii.specs.Notation.{is_between}
 use Rattle.ascii.specs.NotationLaws.{and_left, and_right, and-true, and-false, and_assoc}
 use Rattle.ascending.specs.Search.{is_strictly_above, is_strictly_ascending}
 use Rattle.line_forms.specs.declared.line.Line.{Line}
 use Rattle.line_forms.specs.declared.line.Line.TheVariants.{Def, Value, BeginHeader, BeginTrailer, EndHeader, EndTrailer, Component, Message, Field, Group, Use, End, Member, RequiredTag, Unknown}
+use Rattle.refusals.specs.declared.refusal.Refusal.{Refusal}
 use Rattle.dictionary_order.specs.declared.dictionary_order.State.{State}
-use Rattle.dictionary_order.specs.DictionaryOrder.{start, step_of, behind_trailer, behind_message}
+use Rattle.dictionary_order.specs.DictionaryOrder.{start, step_of, after, may_end}
 use Rattle.texts.specs.DictionaryOrderLaws.{step-depth}
 use Rattle.records.specs.Records.{line_from, lines_from}
 use Rattle.records.specs.KnownLines.{is_known, AreKnown}
 use Rattle.records.specs.LineLengths.{length_of, text_length}
 use Rattle.dictionary.specs.declared.line_order.Standing.{Standing}
-use Rattle.dictionary.specs.LineOrder.{state_of, standing_of}
+use Rattle.dictionary.specs.LineOrder.{state_of, kept_of, standing_of}
 use Rattle.dictionary.specs.LineOrderLaws.{state_again}
 use Rattle.dictionary.specs.LineRuns.{PassedOver}
 use Rattle.dictionary.specs.LineRunsLaws.{count_of_step, count_of_behind}
@@ -49,18 +50,18 @@ module _ (line : Line) (rest : List Line) (state : State) (number total : ℕ)
   line-by true fits =
       let step = step_of state number line in
       let together : all + text_length rest ≡ total + (length_of line + 1 + text_length rest) = omega arith in
-      rw (fits, halves step.next (number + 1) all (leb-true all 65536 fits), together)
-      (sym (and_assoc (is_taken step.fault) (takes step.next (number + 1) rest) (leb (total + (length_of line + 1 + text_length rest)) 65536)))
+      rw (fits, halves (after state step) (number + 1) all (leb-true all 65536 fits), together)
+      (sym (and_assoc (is_taken step) (takes (after state step) (number + 1) rest) (leb (total + (length_of line + 1 + text_length rest)) 65536)))
   line-by false long =
       let step = step_of state number line in
       let over = leb-false all 65536 long in
-      rw (long, lt-leb (total + (length_of line + 1 + text_length rest)) 65536 (omega arith), and-false (is_taken step.fault))
-      (sym (and-false (is_taken step.fault && takes step.next (number + 1) rest)))
+      rw (long, lt-leb (total + (length_of line + 1 + text_length rest)) 65536 (omega arith), and-false (is_taken step))
+      (sym (and-false (is_taken step && takes (after state step) (number + 1) rest)))
 
 pub accepts_halves : (lines : List Line) (state : State) (number total : ℕ) → total ≤ 65536
     → accepts state number total lines ≡ (takes state number lines && leb (total + text_length lines) 65536)
 unfolding accepts takes text_length
-accepts_halves [] state number total few = rw (le-leb (total + 0) 65536 (omega arith)) (sym (and-true (is_between behind_trailer behind_message state.stage)))
+accepts_halves [] state number total few = rw (le-leb (total + 0) 65536 (omega arith)) (sym (and-true (may_end state)))
 accepts_halves (line ∷ rest) state number total few =
     line-by line rest state number total (λ state number total few. accepts_halves rest state number total few) (leb (total + (length_of line + 1)) 65536) refl
 
@@ -77,7 +78,7 @@ module _ (lines : List Line) where
 
 -- ---- takes: lines that are taken are of known forms
 
-taken-known : (state : State) (number : ℕ) (line : Line) → is_taken (step_of state number line).fault ≡ true → is_known line ≡ true
+taken-known : (state : State) (number : ℕ) (line : Line) → is_taken (step_of state number line) ≡ true → is_known line ≡ true
 unfolding is_known step_of
 taken-known state number (Def tag place) taken = refl
 taken-known state number (Value value) taken = refl
@@ -100,15 +101,28 @@ unfolding takes lines_from
 takes-known zero words state number all index inside = absurd (omega arith)
 takes-known (suc lines) words state number all zero inside =
     let step = step_of state number (line_from (take 10 words)) in
-    taken-known state number (line_from (take 10 words)) (and_left (is_taken step.fault) (takes step.next (number + 1) (lines_from lines (drop 10 words))) all)
+    taken-known state number (line_from (take 10 words)) (and_left (is_taken step) (takes (after state step) (number + 1) (lines_from lines (drop 10 words))) all)
 takes-known (suc lines) words state number all (suc index) inside =
     let step = step_of state number (line_from (take 10 words)) in
     let place : 10 + 10 * index ≡ 10 * suc index = omega arith in
-    let deeper = takes-known lines (drop 10 words) step.next (number + 1)
-    (and_right (is_taken step.fault) (takes step.next (number + 1) (lines_from lines (drop 10 words))) all) index (omega arith) in
+    let deeper = takes-known lines (drop 10 words) (after state step) (number + 1)
+    (and_right (is_taken step) (takes (after state step) (number + 1) (lines_from lines (drop 10 words))) all) index (omega arith) in
     rw (drop-drop (10 * index) 10 words, place) at deeper
 
 -- ---- takes: the loop of `take_lines`
+
+pub is_some-then_some : {T : Type 0} (test : Bool) (value : T) → is_some (then_some test value) ≡ test
+is_some-then_some true value = refl
+is_some-then_some false value = refl
+
+stands-refused : (step : Result State Refusal) → standing_of step ≡ None → is_taken step ≡ false
+stands-refused (Ok next) none = let never : ◌≡◌ {A = ℕ} 0 1 = cc in absurd (omega arith)
+stands-refused (Err refusal) none = refl
+
+stands-taken : (state : State) (step : Result State Refusal) (next : Standing) (tags : List ℕ) → standing_of step ≡ Some next → tags ≡ (after state step).counts
+    → (is_taken step ≡ true) × (state_of next tags ≡ after state step)
+stands-taken state (Ok reached) next tags some opens = let same : kept_of reached ≡ next = cc in (refl, rw (← same, opens) (state_again reached))
+stands-taken state (Err refusal) next tags some opens = let never : ◌≡◌ {A = ℕ} 0 1 = cc in absurd (omega arith)
 
 -- the first `done` lines are taken and have at most so many bytes, and those from the record at `at` on are to be taken
 pub record TakesSoFar (words : List ℕ) (lines : ℕ) (state : State) (bytes done at : ℕ) : Type 0 where
@@ -131,32 +145,29 @@ takes-begins words lines = record {
 }
 
 module _ (words : List ℕ) (lines : ℕ) (state : State) (bytes done at : ℕ) (so_far : TakesSoFar words lines state bytes done at) where
-  pub takes-ends : lines ≤ done → takes start 1 (lines_from lines (drop 4 words)) ≡ is_between behind_trailer behind_message state.stage
+  pub takes-ends : lines ≤ done → takes start 1 (lines_from lines (drop 4 words)) ≡ may_end state
   unfolding lines_from takes
   takes-ends over = let none : lines - done ≡ 0 = omega (arith, so_far.within) in so_far.rest ∙ rw none
 
   pub takes-short : lines ≤ done → text_length (lines_from lines (drop 4 words)) ≤ bytes
   takes-short over = let all : lines ≡ done = omega (arith, so_far.within) in rw all so_far.short
 
-  module _ (inside : done < lines) (line : Line) (read : line ≡ line_from (take 10 (drop at words))) (next : Standing) (stands : next ≡ standing_of (step_of state (done + 1) line)) where
+  module _ (inside : done < lines) (line : Line) (read : line ≡ line_from (take 10 (drop at words))) (answer : Option Standing) (stands : answer ≡ standing_of (step_of state (done + 1) line)) where
     next-line : lines_from (lines - done) (drop at words) ≡ line ∷ lines_from (lines - (done + 1)) (drop (at + 10) words)
     next-line =
         let more : lines - done ≡ suc (lines - (done + 1)) = omega arith in
         rw (more, read) (lines_from_step (lines - (done + 1)) words at)
 
-    taken-same : is_taken (step_of state (done + 1) line).fault ≡ next.taken
-    taken-same = rw stands
-
-    pub takes-faulty : next.taken ≡ false → takes start 1 (lines_from lines (drop 4 words)) ≡ false
+    pub takes-faulty : answer ≡ None → takes start 1 (lines_from lines (drop 4 words)) ≡ false
     unfolding takes
-    takes-faulty fault = so_far.rest ∙ rw (next-line, taken-same, fault)
+    takes-faulty fault = so_far.rest ∙ rw (next-line, stands-refused (step_of state (done + 1) line) (sym stands ∙ fault))
 
-    -- the line is taken, and the run behind it is passed over
-    module _ (taken : next.taken ≡ true) (tags : List ℕ) (opens : tags ≡ (step_of state (done + 1) line).next.counts)
+    -- the line is taken, and the run after it is passed over
+    module _ (next : Standing) (is_next : answer ≡ Some next) (tags : List ℕ) (opens : tags ≡ (after state (step_of state (done + 1) line)).counts)
         (run-lines run-bytes run-tags : ℕ) (run : PassedOver next run-lines run-bytes run-tags (drop (at + 10) words))
         (run_Inside : run-lines ≤ lines - done - 1) (run-few : run-bytes ≤ 271 * run-lines) where
-      behind : state_of next tags ≡ (step_of state (done + 1) line).next
-      behind = rw (stands, opens) (state_again (step_of state (done + 1) line))
+      taken : (is_taken (step_of state (done + 1) line) ≡ true) × (state_of next tags ≡ after state (step_of state (done + 1) line))
+      taken = stands-taken state (step_of state (done + 1) line) next tags (sym stands ∙ is_next) opens
 
       longer : at + 10 ≤ length words → text_length (lines_from (done + (1 + run-lines)) (drop 4 words)) ≤ bytes + (39 + run-bytes)
       unfolding lines_from text_length
@@ -178,10 +189,10 @@ module _ (words : List ℕ) (lines : ℕ) (state : State) (bytes done at : ℕ) 
           record {
             within = omega arith;
             place = omega (arith, so_far.place);
-            few_open = subst (λ (standing : State). standing.depth ≤ 40) (sym behind) (step-depth state (done + 1) so_far.few_open line);
+            few_open = subst (λ (standing : State). standing.depth ≤ 40) (sym taken.1) (step-depth state (done + 1) so_far.few_open line);
             few_bytes = omega (arith, so_far.few_bytes);
             short = longer fits;
-            rest = so_far.rest ∙ rw (next-line, taken-same, taken, ← behind, over, drop-drop (10 * run-lines) (at + 10) words, number, left, place);
+            rest = so_far.rest ∙ rw (next-line, taken.0, ← taken.1, over, drop-drop (10 * run-lines) (at + 10) words, number, left, place);
           }
 
 -- ---- count_of: what the lines behind define

@@ -1,6 +1,6 @@
 -- Laws of `LineRuns.antt`: the lines of a run, its loops turn by turn, and that a run may be passed over at once (`definitions-passed`, `fields-passed`).
 -- Assumes nothing.
-use Rattle.std.specs.Prelude.{◌≡◌, Bool, cond, ◌&&◌, List, eqb, ltb, leb, length, get_or, take, drop}
+use Rattle.std.specs.Prelude.{◌≡◌, Bool, cond, ◌&&◌, List, eqb, ltb, leb, length, get_or, take, drop, Option, Some, None, IfSome, Ok}
 use Rattle.std.proofs.Math.Path.{refl, ap}
 use Rattle.std.proofs.Common.{sym, ◌∙◌, suc-mul, mul-le-mul_left, length-take, length-drop, get_or-take, get_or-drop}
 use Prim.Native.Nat.{ℕ, zero, suc, ◌+◌, ◌*◌, ◌-◌, ◌/◌, ◌%◌, ◌≤◌, ◌<◌}
@@ -9,13 +9,16 @@ use native.Mathlib.Omega.{arith}
 use Rattle.std.specs.Int.Bits.{bit_or}
 use Rattle.std.proofs.Math.Seq.{drop-drop}
 use borrow.Author.Tests.{lt-ltb, le-leb, eq-eqb, eqb-true, eqb-false}
+use Rattle.ascii.specs.Notation.{is_between}
 use Rattle.ascii.specs.NotationLaws.{and_left, and_right, is_between-from}
 use Rattle.lines.specs.LineParts.{is_visible}
 use Rattle.line_forms.specs.declared.line.Line.{Line}
 use Rattle.line_forms.specs.declared.line.Line.TheVariants.{Def, Value, Field, Unknown}
 use Rattle.dictionary_order.specs.declared.dictionary_order.State.{State}
-use Rattle.dictionary_order.specs.DictionaryOrder as order
-use Rattle.dictionary_order.specs.DictionaryOrder.{taken, closed_block, step_of}
+use Rattle.dictionary_order.specs.declared.dictionary_order.Stage.TheVariants.{Definitions}
+use Rattle.dictionary_order.specs.declared.dictionary_order.Part.TheVariants.{Fields, NoBody}
+use Rattle.dictionary_order.specs.DictionaryOrder.{part_number, is_at, closed_block, step_of}
+use Rattle.dictionary_order.specs.DictionaryOrderLaws.{stage_number-once, part_number-once}
 use Rattle.records.specs.Records.{holds_part, holds_value, is_unused, admitted_from, def_from, value_from, field_from, outer_from, body_from, line_from, lines_from}
 use Rattle.records.specs.WordPairs.{pair_at}
 use Rattle.records.specs.RecordsLaws.{or-least, or-none, is_unused-short}
@@ -27,8 +30,10 @@ use Rattle.dictionary.specs.DictionaryWords as kinds
 use Rattle.dictionary.specs.DictionaryCheck.{count_of}
 use Rattle.dictionary.specs.LinesTaken.{takes, count_one}
 use Rattle.dictionary.specs.declared.line_order.Standing.{Standing}
+use Rattle.dictionary.specs.declared.line_runs.Run.{Run}
+use Rattle.std.specs.Option.{UnwrapsOrElse}
 use Rattle.dictionary.specs.LineOrder.{state_of}
-use Rattle.dictionary.specs.LineRuns.{HoldsShort, FewDigits, run_length, IsRun, is_among_definitions, PassedOver}
+use Rattle.dictionary.specs.LineRuns.{HoldsShort, FewDigits, run_length, IsRun, FewIn, is_among_definitions, PassedOver}
 
 -- ---- FewDigits
 
@@ -95,52 +100,50 @@ module _ (words : List ℕ) where
 
 -- the lines of such a run leave the state as it is
 abbrev Stays : State → Bool → Type 0
-Stays state definitions = (words : List ℕ) (number : ℕ) → (run_length definitions words ≡ 0 → ⊥) → step_of state number (line_from words) ≡ taken state
+Stays state definitions = (words : List ℕ) (number : ℕ) → (run_length definitions words ≡ 0 → ⊥) → step_of state number (line_from words) ≡ Ok state
 
 module _ (state : State) (words : List ℕ) (number : ℕ) where
   abbrev IsTaken : Type 0
-  IsTaken = step_of state number (line_from words) ≡ taken state
+  IsTaken = step_of state number (line_from words) ≡ Ok state
 
-  field_by : (test : Bool) → eqb (get_or words 0 0) 7 ≡ test → state.part ≡ order.fields → (cond test (length_of (field_from words)) 0 ≡ 0 → ⊥) → IsTaken
+  field_by : (test : Bool) → eqb (get_or words 0 0) 7 ≡ test → state.part ≡ Fields → (cond test (length_of (field_from words)) 0 ≡ 0 → ⊥) → IsTaken
   unfolding step_of
   field_by true kind part some =
       rw (
         field_line_lem words (eqb-true (get_or words 0 0) 7 kind),
         known_by (leb (get_or words 2 0) 1) (is_unused 3 words) (Field (get_or words 1 0) (eqb (get_or words 2 0) 1)) some,
-        eq-eqb state.part order.fields part,
+        part,
       )
   field_by false kind part some = absurd (some refl)
 
-  def_by : (test : Bool) → eqb (get_or words 0 0) 1 ≡ test → state ≡ closed_block order.definitions state → (cond test (length_of (def_from words)) 0 ≡ 0 → ⊥) → IsTaken
-  unfolding step_of
+  def_by : (test : Bool) → eqb (get_or words 0 0) 1 ≡ test → state ≡ closed_block Definitions state → (cond test (length_of (def_from words)) 0 ≡ 0 → ⊥) → IsTaken
+  unfolding step_of is_between
   def_by true kind closed some =
-      let stage : state.stage ≡ order.definitions = ap (λ (this : State). this.stage) closed in
       rw (
         def_line words (eqb-true (get_or words 0 0) 1 kind),
         known_by (ltb (get_or words 2 0) 34) (is_unused 3 words) (Def (get_or words 1 0) (get_or words 2 0)) some,
-        le-leb state.stage order.definitions (omega arith),
+        closed,
       )
-      (ap taken (sym closed))
   def_by false kind closed some = absurd (some refl)
 
-  definition-by : (test : Bool) → eqb (get_or words 0 0) 2 ≡ test → state ≡ closed_block order.definitions state
+  definition-by : (test : Bool) → eqb (get_or words 0 0) 2 ≡ test → state ≡ closed_block Definitions state
       → (cond test (length_of (value_from words)) (cond (eqb (get_or words 0 0) 1) (length_of (def_from words)) 0) ≡ 0 → ⊥)
       → IsTaken
   unfolding step_of
   definition-by true kind closed some =
-      let stage : state.stage ≡ order.definitions = ap (λ (this : State). this.stage) closed in
+      let stage : state.stage ≡ Definitions = ap (λ (this : State). this.stage) closed in
       rw (
         value_line words (eqb-true (get_or words 0 0) 2 kind),
         known_by (leb 1 (get_or words 1 0)) (holds_value (get_or words 1 0) (drop 2 words)) (Value (admitted_from words)) some,
-        eq-eqb state.stage order.definitions stage,
+        stage,
       )
   definition-by false kind closed some = def_by (eqb (get_or words 0 0) 1) refl closed some
 
-fields-stay : (state : State) → state.part ≡ order.fields → Stays state false
+fields-stay : (state : State) → state.part ≡ Fields → Stays state false
 unfolding run_length
 fields-stay state part words number some = field_by state words number (eqb (get_or words 0 0) 7) refl part some
 
-definitions-stay : (state : State) → state ≡ closed_block order.definitions state → Stays state true
+definitions-stay : (state : State) → state ≡ closed_block Definitions state → Stays state true
 unfolding run_length
 definitions-stay state closed words number some = definition-by state words number (eqb (get_or words 0 0) 2) refl closed some
 
@@ -486,18 +489,18 @@ module _ (state : State) (definitions : Bool) (stays : Stays state definitions) 
       let left : count - lines ≡ suc count - suc lines = omega arith in
       rw (line, further, drop-drop (10 * lines) 10 words, place lines, numbers, left)
 
-among-closed : (standing : Standing) (counts : List ℕ) → is_among_definitions standing ≡ true → state_of standing counts ≡ closed_block order.definitions (state_of standing counts)
+among-closed : (standing : Standing) (counts : List ℕ) → is_among_definitions standing ≡ true → state_of standing counts ≡ closed_block Definitions (state_of standing counts)
 unfolding is_among_definitions
 among-closed standing counts among =
-    let stage = eqb standing.stage order.definitions in
-    let part = eqb standing.part order.no_body in
+    let stage = is_at Definitions standing.stage in
+    let part = eqb (part_number standing.part) (part_number NoBody) in
     let name = eqb standing.name 0 in
     let depth = eqb standing.depth 0 in
     let behind-stage = and_right stage (part && (name && depth)) among in
     let behind-part = and_right part (name && depth) behind-stage in
     rw (
-      eqb-true standing.stage order.definitions (and_left stage (part && (name && depth)) among),
-      eqb-true standing.part order.no_body (and_left part (name && depth) behind-stage),
+      stage_number-once standing.stage Definitions (eqb-true _ _ (and_left stage (part && (name && depth)) among)),
+      part_number-once standing.part NoBody (eqb-true _ _ (and_left part (name && depth) behind-stage)),
       eqb-true standing.name 0 (and_left name depth behind-part),
       eqb-true standing.depth 0 (and_right name depth behind-part),
     )
@@ -511,7 +514,7 @@ module _ (standing : Standing) (lines bytes tags : ℕ) (words : List ℕ) where
     short = run.short;
   }
 
-  pub fields-passed : standing.part ≡ order.fields → IsRun false lines bytes tags words → PassedOver standing lines bytes tags words
+  pub fields-passed : standing.part ≡ Fields → IsRun false lines bytes tags words → PassedOver standing lines bytes tags words
   fields-passed part run = record {
     stays = λ counts number count within. run-taken (state_of standing counts) false (fields-stay (state_of standing counts) part) lines count words number within run.each;
     counted = run.counted;
@@ -526,3 +529,19 @@ none_passed standing words =
       counted = none.counted;
       short = none.short;
     }
+
+-- the run that was found, and no line where none was
+module _ (standing : Standing) (count : ℕ) (words : List ℕ) where
+  abbrev Passed : Run → Type 0
+  Passed run = PassedOver standing run.lines run.bytes run.tags words
+
+  pub no_run : (run : Run) → (run.lines ≡ 0) × ((run.bytes ≡ 0) × (run.tags ≡ 0)) → Passed run × FewIn run count
+  no_run run none = (rw (none.0, none.1.0, none.1.1) (none_passed standing words), (omega (arith, none.0), (omega (arith, none.1.0), omega (arith, none.1.1))))
+
+  pub run_found : (found : Option Run) (run : Run)
+      → UnwrapsOrElse found (λ (run : Run). (run.lines ≡ 0) × ((run.bytes ≡ 0) × (run.tags ≡ 0))) run
+      → IfSome found Passed
+      → IfSome found (λ run. FewIn run count)
+      → Passed run × FewIn run count
+  run_found None run none passed few = no_run run none
+  run_found (Some found) run same passed few = (rw same passed, rw same few)

@@ -1,119 +1,86 @@
 // The check of lent words: whether they begin with the arrangement of an accepted dictionary.
-ghost use Rattle.std.specs.Prelude.{◌≡◌, true, false, ◌&&◌, ◌+◌, ◌*◌, ◌≤◌, length, get_or, take, drop};
-ghost use Rattle.ascii.specs.Notation.{is_between};
+ghost use Rattle.std.specs.Prelude.{◌≡◌, ℕ, ◌&&◌, ◌+◌, ◌*◌, ◌≤◌, List, length, get_or, take, drop, is_some, IfSome};
 ghost use Rattle.ascending.specs.Search.{is_strictly_ascending};
-ghost use Rattle.dictionary_order.specs.DictionaryOrder.{start, behind_trailer, behind_message};
+ghost use Rattle.dictionary_order.specs.DictionaryOrder.{start, may_end};
 ghost use Rattle.dictionary.specs.DictionaryCheck.{accepts, count_of, stands_at, stands_each, is_index, is_dictionary};
+ghost use Rattle.dictionary.specs.LineOrder.{state_of};
 ghost use Rattle.dictionary.specs.LinesTaken.{takes, Counted};
 ghost use Rattle.records.specs.Records.{lines_from};
 ghost use Rattle.records.specs.LineLengths.{text_length};
 
 use crate::line_order::{Standing, next_standing};
-use crate::line_runs::{count_one, run_behind};
-use dictionary_order::dictionary_order::{BEGINNING, BEHIND_MESSAGE, BEHIND_TRAILER, NO_BODY};
+use crate::line_runs::{count_one, run_after};
+use dictionary_order::dictionary_order::{Part, Stage};
 use records::line_texts::text_length;
+use records::record_kind::RecordKind;
 use records::records::line_at;
 
 // How many bytes a line has at most, with its line feed: a value of 32 bytes has the longest.
 const LONGEST_LINE: usize = 39;
 
-// A text may end here: behind its trailer, and with no block open.
-fn may_end(stage: u8) -> bool
-    ensures { result ≡ is_between behind_trailer behind_message stage }
+// A text may end here: after its trailer, and with no block open.
+#[tactic(auto, unfolding(ascii::specs::Notation::is_between))]
+fn may_end(standing: Standing) -> bool
+    ensures { (counts : List ℕ) → result ≡ may_end (state_of standing counts) }
 {
-    if stage < BEHIND_TRAILER {
-        return false;
-    }
-    stage <= BEHIND_MESSAGE
+    matches!(standing.stage, Stage::AfterTrailer | Stage::AfterMessage)
 }
 
-// Whether lines were accepted. If so, how many bytes their text has at most, and how many of them define a tag, a component, a message.
-#[derive(Clone, Copy)]
+// What was read of lines that are accepted: how many bytes their text has at most, and how many of them define a tag, a component, a message.
+#[derive(Clone, Copy, Default)]
 struct LinesRead {
-    accepted: bool,
     bytes: usize,
     tags: usize,
     components: usize,
     messages: usize,
 }
 
-fn not_accepted() -> LinesRead
-    ensures { result.accepted ≡ false }
-{
-    LinesRead {
-        accepted: false,
-        bytes: 0,
-        tags: 0,
-        components: 0,
-        messages: 0,
-    }
-}
-
-// Takes the lines of so many records, one behind the other. A text with no block open may end behind them.
-fn take_lines(words: &[u32], lines: usize) -> LinesRead
+// Takes the lines of so many records, one after the other. A text with no block open may end after them.
+fn take_lines(words: &[u32], lines: usize) -> Option<LinesRead>
     requires { (lines ≤ 4294967295) × (4 + 10 * lines ≤ length words.now) }
-    ensures accepted { result.accepted ≡ takes start 1 (lines_from lines (drop 4 words.now)) }
-    ensures bytes { result.accepted ≡ true → text_length (lines_from lines (drop 4 words.now)) ≤ result.bytes }
-    ensures counts { result.accepted ≡ true → Counted lines (drop 4 words.now) result.tags result.components result.messages }
+    ensures accepted { is_some result ≡ takes start 1 (lines_from lines (drop 4 words.now)) }
+    ensures bytes { IfSome result (λ read. text_length (lines_from lines (drop 4 words.now)) ≤ read.bytes) }
+    ensures counts { IfSome result (λ read. Counted lines (drop 4 words.now) read.tags read.components read.messages) }
 {
-    let mut counts = [0u32; 40];
+    let mut counts = [0; 40];
     let mut standing = Standing {
-        taken: true,
-        stage: BEGINNING,
-        part: NO_BODY,
+        stage: Stage::Beginning,
+        part: Part::NoBody,
         name: 0,
         depth: 0,
     };
     let mut clean = true;
-    let mut bytes: usize = 0;
-    let mut tags: usize = 0;
-    let mut components: usize = 0;
-    let mut messages: usize = 0;
-    let mut done: usize = 0;
-    let mut at: usize = 4;
+    let mut read = LinesRead::default();
+    let mut done = 0;
+    let mut at = 4;
+    // a turn passes over as many records as the run has, so no iterator gives them
     while done < lines {
-        let line = line_at(words, at);
-        let next = next_standing(standing, &mut counts, line);
-        if !next.taken {
-            return not_accepted();
-        }
-        let run = run_behind(next, clean, lines - done - 1, words, at + 10);
+        standing = next_standing(standing, &mut counts, line_at(words, at))?;
+        let run = run_after(standing, clean, lines - done - 1, words, at + 10);
+        clean = run.is_some();
+        let run = run.unwrap_or_default();
         let kind = words[at];
-        bytes += LONGEST_LINE + run.bytes;
-        tags += count_one(kind, 1) + run.tags;
-        components += count_one(kind, 5);
-        messages += count_one(kind, 6);
-        standing = next;
-        clean = run.clean;
+        read.bytes += LONGEST_LINE + run.bytes;
+        read.tags += count_one(kind, RecordKind::Def as u32) + run.tags;
+        read.components += count_one(kind, RecordKind::Component as u32);
+        read.messages += count_one(kind, RecordKind::Message as u32);
         done += 1 + run.lines;
         at += 10 + 10 * run.lines;
     }
-    LinesRead {
-        accepted: may_end(standing.stage),
-        bytes,
-        tags,
-        components,
-        messages,
-    }
+    may_end(standing).then_some(read)
 }
 
 // Whether the lines of records are those of an accepted text, but for what is defined again. The bytes of the text are counted only where it may have too many.
-fn read_lines(words: &[u32], lines: usize) -> LinesRead
+fn read_lines(words: &[u32], lines: usize) -> Option<LinesRead>
     requires { (lines ≤ 4294967295) × (4 + 10 * lines ≤ length words.now) }
-    ensures accepted { result.accepted ≡ accepts start 1 0 (lines_from lines (drop 4 words.now)) }
-    ensures counts { result.accepted ≡ true → Counted lines (drop 4 words.now) result.tags result.components result.messages }
+    ensures accepted { is_some result ≡ accepts start 1 0 (lines_from lines (drop 4 words.now)) }
+    ensures counts { IfSome result (λ read. Counted lines (drop 4 words.now) read.tags read.components read.messages) }
 {
-    let read = take_lines(words, lines);
-    if !read.accepted {
-        return not_accepted();
+    let read = take_lines(words, lines)?;
+    if read.bytes <= 65536 || text_length(words, lines) <= 65536 {
+        return Some(read);
     }
-    if read.bytes <= 65536 {
-        return read;
-    }
-    if text_length(words, lines) <= 65536 {
-        return read;
-    }
-    not_accepted()
+    None
 }
 
 // The record with this number is of this kind and has this name.
@@ -193,15 +160,22 @@ pub fn is_dictionary(words: &[u32]) -> bool
     if words.len() < size {
         return false;
     }
-    let read = read_lines(words, lines);
-    if !read.accepted {
+    let Some(read) = read_lines(words, lines) else {
         return false;
-    }
-    if !is_index(words, 1, tags_at, tags, read.tags) {
-        return false;
-    }
-    if !is_index(words, 5, components_at, components, read.components) {
-        return false;
-    }
-    is_index(words, 6, messages_at, messages, read.messages)
+    };
+    is_index(words, RecordKind::Def as u32, tags_at, tags, read.tags)
+        && is_index(
+            words,
+            RecordKind::Component as u32,
+            components_at,
+            components,
+            read.components,
+        )
+        && is_index(
+            words,
+            RecordKind::Message as u32,
+            messages_at,
+            messages,
+            read.messages,
+        )
 }

@@ -3,20 +3,18 @@
 //
 // Two words of a record are read as one number, `head` the first two and `next` those behind them. What the records of a run must not have is joined over the
 // run and tested once: a test of each record takes longer.
-ghost use Rattle.std.specs.Prelude.{◌≡◌, true, false, ◌+◌, ◌*◌, ◌/◌, ◌%◌, ◌≤◌, length, drop};
+ghost use Rattle.std.specs.Prelude.{◌≡◌, true, false, ◌+◌, ◌*◌, ◌/◌, ◌%◌, ◌≤◌, length, drop, IfSome};
 ghost use Rattle.dictionary.specs.LinesTaken.{count_one};
-ghost use Rattle.dictionary.specs.LineRuns.{HoldsShort, FewDigits, IsRun, is_among_definitions, PassedOver};
+ghost use Rattle.dictionary.specs.LineRuns.{HoldsShort, FewDigits, IsRun, FewIn, is_among_definitions, PassedOver};
 
 use crate::line_order::Standing;
-use dictionary_order::dictionary_order::{DEFINITIONS, FIELDS, NO_BODY};
+use dictionary_order::dictionary_order::{Part, Stage};
 use records::line_texts::type_length;
 use records::records::{holds_visible_part, pair_at};
 
 // How many lines stand in the run, how many bytes they have with their line feeds at most, and how many of them define a tag.
-#[derive(Clone, Copy)]
+#[derive(Clone, Copy, Default)]
 pub struct Run {
-    // Whether a further run is to be looked for: not where a record has a word that its kind does not use.
-    pub clean: bool,
     pub lines: usize,
     pub bytes: usize,
     pub tags: usize,
@@ -88,24 +86,12 @@ fn is_short_value(head: u64, next: u64) -> bool
     holds_visible_part(len as u32, next as u32)
 }
 
-// No run, since a record of it has a word that its kind does not use.
-fn no_clean_run() -> Run
-    ensures { result ≡ record { clean = false; lines = 0; bytes = 0; tags = 0 } }
-{
-    Run {
-        clean: false,
-        lines: 0,
-        bytes: 0,
-        tags: 0,
-    }
-}
-
 // A run of definitions with values of at most four bytes. `bytes` counts those of the type names and what longer values have beside those of one byte; the
-// other bytes follow from the number of lines, of tags and of the digits that a tag has at most.
-fn definitions_run(count: usize, words: &[u32], first: usize) -> Run
+// other bytes follow from the number of lines, of tags and of the digits that a tag has at most. None where a record has a word that its kind does not use.
+fn definitions_run(count: usize, words: &[u32], first: usize) -> Option<Run>
     requires { (count ≤ 4294967295) × (first + 10 * count ≤ length words.now) }
-    ensures run { IsRun true result.lines result.bytes result.tags (drop first words.now) }
-    ensures few { (result.lines ≤ count) × ((result.bytes ≤ 271 * result.lines) × (result.tags ≤ result.lines)) }
+    ensures run { IfSome result (λ run. IsRun true run.lines run.bytes run.tags (drop first words.now)) }
+    ensures few { IfSome result (λ run. FewIn run count) }
 {
     let mut lines: usize = 0;
     let mut bytes: usize = 0;
@@ -142,22 +128,21 @@ fn definitions_run(count: usize, words: &[u32], first: usize) -> Run
         at += 10;
     }
     if pair4 | pair6 | pair8 != 0 {
-        return no_clean_run();
+        return None;
     }
     let digits = digits_within(names);
-    Run {
-        clean: true,
+    Some(Run {
         lines,
         bytes: bytes + 8 * (lines - tags) + tags * (6 + digits),
         tags,
-    }
+    })
 }
 
 // A run of fields.
-fn fields_run(count: usize, words: &[u32], first: usize) -> Run
+fn fields_run(count: usize, words: &[u32], first: usize) -> Option<Run>
     requires { (count ≤ 4294967295) × (first + 10 * count ≤ length words.now) }
-    ensures run { IsRun false result.lines result.bytes result.tags (drop first words.now) }
-    ensures few { (result.lines ≤ count) × ((result.bytes ≤ 271 * result.lines) × (result.tags ≤ result.lines)) }
+    ensures run { IfSome result (λ run. IsRun false run.lines run.bytes run.tags (drop first words.now)) }
+    ensures few { IfSome result (λ run. FewIn run count) }
 {
     let mut lines: usize = 0;
     let mut names: u64 = 0;
@@ -180,51 +165,48 @@ fn fields_run(count: usize, words: &[u32], first: usize) -> Run
         at += 10;
     }
     if flags / 2 | pair4 | pair6 | pair8 != 0 {
-        return no_clean_run();
+        return None;
     }
     let digits = digits_within(names);
-    Run {
-        clean: true,
+    Some(Run {
         lines,
         bytes: lines * (9 + digits),
         tags: 0,
-    }
+    })
 }
 
 // Definitions are being read, and a further one leaves the standing as it is.
+#[tactic(auto, unfolding(crate::specs::LineRuns::is_among_definitions))]
 fn is_among_definitions(standing: Standing) -> bool
     ensures { result ≡ is_among_definitions standing }
 {
-    if standing.stage != DEFINITIONS {
-        return false;
-    }
-    if standing.part != NO_BODY {
-        return false;
-    }
-    if standing.name != 0 {
-        return false;
-    }
-    standing.depth == 0
+    matches!(standing.stage, Stage::Definitions)
+        && matches!(standing.part, Part::NoBody)
+        && standing.name == 0
+        && standing.depth == 0
 }
 
-// A run at the head of these records that leaves this standing as it is. None is looked for where one was not clean, so that no record is looked at again and again.
-pub fn run_behind(standing: Standing, clean: bool, count: usize, words: &[u32], first: usize) -> Run
+// A run at the head of these records that leaves this standing as it is; None where one was not clean before or is not now, so that no record is looked at again
+// and again.
+pub fn run_after(
+    standing: Standing,
+    clean: bool,
+    count: usize,
+    words: &[u32],
+    first: usize,
+) -> Option<Run>
     requires { (count ≤ 4294967295) × (first + 10 * count ≤ length words.now) }
-    ensures run { PassedOver standing result.lines result.bytes result.tags (drop first words.now) }
-    ensures few { (result.lines ≤ count) × ((result.bytes ≤ 271 * result.lines) × (result.tags ≤ result.lines)) }
+    ensures run { IfSome result (λ run. PassedOver standing run.lines run.bytes run.tags (drop first words.now)) }
+    ensures few { IfSome result (λ run. FewIn run count) }
 {
-    if clean {
-        if is_among_definitions(standing) {
-            return definitions_run(count, words, first);
-        }
-        if standing.part == FIELDS {
-            return fields_run(count, words, first);
-        }
+    if !clean {
+        return None;
     }
-    Run {
-        clean,
-        lines: 0,
-        bytes: 0,
-        tags: 0,
+    if is_among_definitions(standing) {
+        return definitions_run(count, words, first);
+    }
+    match standing.part {
+        Part::Fields => fields_run(count, words, first),
+        _ => Some(Run::default()),
     }
 }

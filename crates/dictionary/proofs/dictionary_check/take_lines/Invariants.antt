@@ -12,7 +12,7 @@ use borrow.Author.Rules.{rules}
 use Rattle.dictionary.proofs.dictionary_check.take_lines.Given as goal
 
 abbrev pub invariant-loop-done : goal.invariant-loop-done
-invariant-loop-done l = TakesSoFar l.words l.lines (state_of l.standing l.counts) l.bytes l.done l.at × Counted l.done (drop 4 l.words) l.tags l.components l.messages
+invariant-loop-done l = TakesSoFar l.words l.lines (state_of l.standing l.counts) l.read.bytes l.done l.at × Counted l.done (drop 4 l.words) l.read.tags l.read.components l.read.messages
 
 abbrev pub decreases-loop-done : goal.decreases-loop-done
 decreases-loop-done l = l.lines - l.done

@@ -81,12 +81,6 @@ loop-lines-preserved c =
       | else-head-eq-ONE_BYTE+else-head-eq1+else-not-is_short_value w ↦ short-value_goes_on _ _ _ _ _ _ _ _ _ _ _ c.loop-lines.invariant c.loop-lines-test.true omega (arith, c.loop-lines.invariant.place, c.requires) _ _ _ c.pair_at-pair4.ensures.pair c.pair_at-pair6.ensures.pair c.pair_at-pair8.ensures.pair _ _ c.pair_at-head.ensures.halves c.pair_at-next.ensures.halves _ _ _ (w.is_short_value.ensures w.if-not-is_short_value.false) w.bytes-is w.tags-is w.names-is
     ]
 
-pub returns-then-pair4-pair6-ne0 : goal.returns-then-pair4-pair6-ne0
-returns-then-pair4-pair6-ne0 c = record {
-  run = rw c.no_clean_run.ensures (run_none true 0 (drop c.args.first c.args.words.now));
-  few = rw c.no_clean_run.ensures ((omega arith, (omega arith, omega arith)));
-}
-
 -- bytes: bytes + 8 * (lines - tags) + tags * (6 + digits),
 pub overflow_sub-result : goal.overflow_sub-result
 overflow_sub-result c = c.loop-lines.invariant.few_tags_lem
@@ -106,7 +100,7 @@ overflow_mul-result-2 c = omega (arith, definitions-few _ _ _ _ _ _ _ _ _ _ _ c.
 pub overflow_add-result-3 : goal.overflow_add-result-3
 overflow_add-result-3 c = omega (arith, definitions-few _ _ _ _ _ _ _ _ _ _ _ c.loop-lines.invariant _ c.digits_within-digits.ensures.few, c.loop-lines.invariant.few_bytes, c.loop-lines.invariant.few_tags_lem, c.loop-lines.invariant.within, c.requires)
 
--- fn definitions_run(count: usize, words: &[u32], first: usize) -> Run
+-- fn definitions_run(count: usize, words: &[u32], first: usize) -> Option<Run>
 pub returns : goal.returns
 returns c = record {
   run = definitions-end _ _ _ _ _ _ _ _ _ _ _ c.loop-lines.invariant _ c.if-pair4-pair6-ne0.false c.digits_within-digits.ensures.digits;

@@ -58,12 +58,6 @@ loop-lines-smaller c = omega (arith, c.loop-lines-test.true)
 pub loop-lines-preserved : goal.loop-lines-preserved
 loop-lines-preserved c = field_goes_on _ _ _ _ _ _ _ _ _ _ c.loop-lines.invariant c.loop-lines-test.true omega (arith, c.loop-lines.invariant.place, c.requires) _ _ _ c.pair_at-pair4.ensures.pair c.pair_at-pair6.ensures.pair c.pair_at-pair8.ensures.pair _ _ c.pair_at-head.ensures.halves c.pair_at-flags.ensures.halves c.if-head-ne7.false
 
-pub returns-then-flags-pair4-ne0 : goal.returns-then-flags-pair4-ne0
-returns-then-flags-pair4-ne0 c = record {
-  run = rw c.no_clean_run.ensures (run_none false 0 (drop c.args.first c.args.words.now));
-  few = rw c.no_clean_run.ensures ((omega arith, (omega arith, omega arith)));
-}
-
 -- bytes: lines * (9 + digits),
 pub overflow_add-result : goal.overflow_add-result
 overflow_add-result c = omega (arith, c.digits_within-digits.ensures.few)
@@ -71,7 +65,7 @@ overflow_add-result c = omega (arith, c.digits_within-digits.ensures.few)
 pub overflow_mul-result : goal.overflow_mul-result
 overflow_mul-result c = omega (arith, product_few c.loop-lines.lines (9 + c.digits_within-digits.result) 19 (omega (arith, c.digits_within-digits.ensures.few)), c.loop-lines.invariant.within, c.requires)
 
--- fn fields_run(count: usize, words: &[u32], first: usize) -> Run
+-- fn fields_run(count: usize, words: &[u32], first: usize) -> Option<Run>
 pub returns : goal.returns
 returns c = record {
   run = fields-end _ _ _ _ _ _ _ _ _ _ c.loop-lines.invariant _ c.if-flags-pair4-ne0.false c.digits_within-digits.ensures.digits;
