@@ -5,12 +5,11 @@
 --   fill_at words depth path collect place work   what is left of the body that is open at the place, added to the level in work
 --   outcome_of filled          what was added, without the place
 --   calls_left depth builder   the depths left and the nodes left: both fall from a group or a use to the body that it adds
---   Asks words depth path builder           dictionary words that passed, and a path that leaves room for the depths left in 33 names
+--   Asks depth path builder                 a path that leaves room for the depths left in 33 names, and a builder that fits the limits
 --   Fills change words place builder before filled after   the change is told by the trace, and the place that is given is behind the body at `place`
 --   Uses change builder before added after  the same for a use, which gives no place
 use Rattle.std.specs.Prelude.{◌≡◌, ℕ, ◌+◌, ◌-◌, ◌≤◌, ◌<◌, Bool, true, List, length, get_or, Result, Ok, Err}
 use Rattle.layouts.specs.Limits.{gate_limits}
-use Rattle.dictionary.specs.DictionaryCheck.{is_dictionary}
 use Rattle.expansion.specs.declared.builder.Builder.{Builder}
 use Rattle.bodies.specs.declared.add_body.GroupLine.{GroupLine}
 use Rattle.expansion.specs.Dictionary.{GroupDef, group_def}
@@ -44,8 +43,7 @@ nodes_left builder = 4096 - builder.nodes
 abbrev pub calls_left : ℕ → Builder → ℕ
 calls_left depth builder = depth + nodes_left builder
 
-pub record Asks (words : List ℕ) (depth : ℕ) (path : List ℕ) (builder : Builder) : Type 0 where
-  pub passed : is_dictionary words ≡ true
+pub record Asks (depth : ℕ) (path : List ℕ) (builder : Builder) : Type 0 where
   pub deep : depth + length path ≤ 33
   pub fits : Fits builder
 

@@ -13,6 +13,7 @@ ghost use Rattle.bodies.specs.ExpansionPromises.{group_at, fill_at, Asks, Fills,
 
 use crate::body_line::{BodyLine, body_line};
 use definitions::definitions::component_of;
+use dictionary::dictionary::Dictionary;
 use expansion::builder::{Builder, Stop, add_field, enter_group, leave_group, spend};
 use refusals::refusal::Refusal;
 
@@ -40,7 +41,7 @@ fn open_component(names: &mut [u32], path: &[u32], name: u32) -> usize
 // Adds what is left of the body that is open at `place`, a line at a time: fields, groups and uses.
 #[cycle(add_body_add_component_add_group)]
 pub fn add_body(
-    words: &[u32],
+    dictionary: Dictionary<'_>,
     place: usize,
     depth_left: usize,
     path: &[u32],
@@ -48,14 +49,14 @@ pub fn add_body(
     trace: &mut [u64],
     builder: Builder,
 ) -> Result<(usize, Builder), Stop>
-    requires { Asks words.now depth_left path.now builder × BodyAt (word_lines words.now) place }
-    ensures { Fills (fill_at words.now depth_left path.now collect place) words.now place
+    requires { Asks depth_left path.now builder × BodyAt (word_lines dictionary.words.now) place }
+    ensures { Fills (fill_at dictionary.entry.words.now depth_left path.now collect place) dictionary.entry.words.now place
         builder trace.old result trace.new }
 {
     let mut at = place;
     let mut so_far = builder;
     loop {
-        match body_line(words, at) {
+        match body_line(dictionary, at) {
             BodyLine::Field(tag, required) => {
                 so_far = add_field(trace, so_far, tag, collect && required)?;
                 at += 1;
@@ -68,14 +69,14 @@ pub fn add_body(
                     first: at + 1,
                 };
                 let (past, filled) = add_group(
-                    words, group, depth_left, path, collect, trace, so_far,
+                    dictionary, group, depth_left, path, collect, trace, so_far,
                 )?;
                 at = past;
                 so_far = filled;
             }
             BodyLine::Use(name, required) => {
                 so_far = add_component(
-                    words, name, required, depth_left, path, collect, trace, so_far,
+                    dictionary, name, required, depth_left, path, collect, trace, so_far,
                 )?;
                 at += 1;
             }
@@ -89,7 +90,7 @@ pub fn add_body(
 // Adds a group to the level in work, with the level formed by one entry.
 #[cycle(add_body_add_component_add_group)]
 fn add_group(
-    words: &[u32],
+    dictionary: Dictionary<'_>,
     group: GroupLine,
     depth_left: usize,
     path: &[u32],
@@ -97,15 +98,15 @@ fn add_group(
     trace: &mut [u64],
     builder: Builder,
 ) -> Result<(usize, Builder), Stop>
-    requires { Asks words.now depth_left path.now builder × BodyAt (word_lines words.now) group.first }
-    ensures { Fills (add_group gate_limits (dictionary_in words.now) depth_left path.now collect (group_at words.now group))
-        words.now group.first builder trace.old result trace.new }
+    requires { Asks depth_left path.now builder × BodyAt (word_lines dictionary.words.now) group.first }
+    ensures { Fills (add_group gate_limits (dictionary_in dictionary.entry.words.now) depth_left path.now collect (group_at dictionary.entry.words.now group))
+        dictionary.entry.words.now group.first builder trace.old result trace.new }
 {
     let node = spend(builder, group.count, depth_left)?;
     let required = group.required && collect;
     let entry = enter_group(trace, node, group.count, required, group.delimiter)?;
     let below = depth_left - 1;
-    let (past, filled) = add_body(words, group.first, below, path, true, trace, entry)?;
+    let (past, filled) = add_body(dictionary, group.first, below, path, true, trace, entry)?;
     let last = leave_group(trace, filled, group.delimiter)?;
     Ok((past, last))
 }
@@ -113,7 +114,7 @@ fn add_group(
 // Expands a component reference into the level in work.
 #[cycle(add_body_add_component_add_group)]
 fn add_component(
-    words: &[u32],
+    dictionary: Dictionary<'_>,
     name: u32,
     required: bool,
     depth_left: usize,
@@ -122,12 +123,12 @@ fn add_component(
     trace: &mut [u64],
     builder: Builder,
 ) -> Result<Builder, Stop>
-    requires { Asks words.now depth_left path.now builder }
-    ensures { Uses (add_component gate_limits (dictionary_in words.now) depth_left path.now collect
+    requires { Asks depth_left path.now builder }
+    ensures { Uses (add_component gate_limits (dictionary_in dictionary.entry.words.now) depth_left path.now collect
         (record { name = name; required = required })) builder trace.old result trace.new }
 {
     let node = spend(builder, name, depth_left)?;
-    let Some(number) = component_of(words, name) else {
+    let Some(number) = component_of(dictionary, name) else {
         return Err(Stop::Error(Refusal::ComponentNotDefined(name)));
     };
     if path.contains(&name) {
@@ -138,6 +139,14 @@ fn add_component(
     let collects = collect && required;
     let first = number + 1;
     let below = depth_left - 1;
-    let (_, filled) = add_body(words, first, below, &names[0..open], collects, trace, node)?;
+    let (_, filled) = add_body(
+        dictionary,
+        first,
+        below,
+        &names[0..open],
+        collects,
+        trace,
+        node,
+    )?;
     Ok(filled)
 }

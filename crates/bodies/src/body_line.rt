@@ -1,9 +1,9 @@
 // A line of a body, read from its record: words that passed their check need no second one.
-ghost use Rattle.std.specs.Prelude.{◌≡◌, true, ◌<◌, length, get_or};
-ghost use Rattle.dictionary.specs.DictionaryCheck.{is_dictionary};
+ghost use Rattle.std.specs.Prelude.{◌≡◌, ◌<◌, length, get_or};
 ghost use Rattle.definitions.specs.Definitions.{line_numbered};
 ghost use Rattle.bodies.specs.BodyLines.{read_from, Tells};
 
+use dictionary::dictionary::Dictionary;
 use records::records::RECORD;
 
 // The kinds of the records of a body.
@@ -44,10 +44,10 @@ fn line_from(words: &[u32]) -> BodyLine
 }
 
 // The line of the record with this number.
-pub fn body_line(words: &[u32], number: usize) -> BodyLine
-    requires { (is_dictionary words.now ≡ true) × (number < get_or words.now 0 0) }
-    ensures { Tells result (line_numbered words.now number) }
+pub fn body_line(dictionary: Dictionary<'_>, number: usize) -> BodyLine
+    requires { number < get_or dictionary.words.now 0 0 }
+    ensures { Tells result (line_numbered dictionary.entry.words.now number) }
 {
     let at = 4 + RECORD * number;
-    line_from(&words[at..at + RECORD])
+    line_from(&dictionary.words[at..at + RECORD])
 }

@@ -2,7 +2,6 @@
 ghost use Rattle.std.specs.Prelude.{◌≡◌, true, ◌||◌, [], ◌+◌};
 ghost use Rattle.ascii.specs.Notation.{◌≡ᵇ◌};
 ghost use Rattle.dictionary.specs.DictionaryWords.{place_of, word_lines};
-ghost use Rattle.dictionary.specs.DictionaryCheck.{is_dictionary};
 ghost use Rattle.bodies.specs.DictionaryLookups.{Begins};
 ghost use Rattle.expansion.specs.Trace.{Fits};
 ghost use Rattle.bodies.specs.ExpansionPromises.{fill_at, Uses};
@@ -10,6 +9,7 @@ ghost use Rattle.build.specs.BuildPromises.{Built, Traced};
 
 use bodies::add_body::add_body;
 use definitions::definitions::message_of;
+use dictionary::dictionary::Dictionary;
 use dictionary::dictionary_check::stands_at;
 use expansion::builder::{Builder, Stop};
 use refusals::refusal::Refusal;
@@ -32,15 +32,14 @@ fn is_definition(kind: u32) -> bool
 }
 
 // The place of the line that opens the header: the definitions stand before it, and none after it. So it is found by halving.
-fn header_of(words: &[u32]) -> usize
-    requires { is_dictionary words.now ≡ true }
-    ensures { result ≡ place_of 3 0 (word_lines words.now) }
+fn header_of(dictionary: Dictionary<'_>) -> usize
+    ensures { result ≡ place_of 3 0 (word_lines dictionary.entry.words.now) }
 {
     let mut first = 0;
-    let mut past = words[0] as usize;
+    let mut past = dictionary.words[0] as usize;
     while first < past {
         let middle = (first + past) / 2;
-        if is_definition(words[4 + 10 * middle]) {
+        if is_definition(dictionary.words[4 + 10 * middle]) {
             first = middle + 1;
         } else {
             past = middle;
@@ -50,13 +49,13 @@ fn header_of(words: &[u32]) -> usize
 }
 
 // The place of the line that opens the trailer, which stands after the header's.
-fn trailer_of(words: &[u32], header: usize) -> usize
-    requires { (is_dictionary words.now ≡ true) × (header ≡ place_of 3 0 (word_lines words.now)) }
-    ensures { result ≡ place_of 4 0 (word_lines words.now) }
+fn trailer_of(dictionary: Dictionary<'_>, header: usize) -> usize
+    requires { header ≡ place_of 3 0 (word_lines dictionary.words.now) }
+    ensures { result ≡ place_of 4 0 (word_lines dictionary.entry.words.now) }
 {
     let mut at = header as u32;
     loop {
-        if stands_at(words, BEGIN_TRAILER, 0, at) {
+        if stands_at(dictionary.words, BEGIN_TRAILER, 0, at) {
             return at as usize;
         }
         at += 1;
@@ -64,39 +63,43 @@ fn trailer_of(words: &[u32], header: usize) -> usize
 }
 
 // Adds the body after a line to the message level.
-fn add_top(words: &[u32], line: usize, trace: &mut [u64], builder: Builder) -> Result<Builder, Stop>
-    requires { (is_dictionary words.now ≡ true) × (Begins words.now line × Fits builder) }
-    ensures { Uses (fill_at words.now 33 [] true (line + 1)) builder trace.old result trace.new }
+fn add_top(
+    dictionary: Dictionary<'_>,
+    line: usize,
+    trace: &mut [u64],
+    builder: Builder,
+) -> Result<Builder, Stop>
+    requires { Begins dictionary.words.now line × Fits builder }
+    ensures { Uses (fill_at dictionary.entry.words.now 33 [] true (line + 1)) builder trace.old result trace.new }
 {
-    let (_, filled) = add_body(words, line + 1, DEPTHS, &[], true, trace, builder)?;
+    let (_, filled) = add_body(dictionary, line + 1, DEPTHS, &[], true, trace, builder)?;
     Ok(filled)
 }
 
 // Builds the message level: header and trailer, then the fields, groups and uses of the message whose line is at this place.
-pub fn build(words: &[u32], message: usize, trace: &mut [u64]) -> Result<Builder, Stop>
-    requires { (is_dictionary words.now ≡ true) × Begins words.now message }
-    ensures { Built words.now message result trace.new }
+pub fn build(dictionary: Dictionary<'_>, message: usize, trace: &mut [u64]) -> Result<Builder, Stop>
+    requires { Begins dictionary.words.now message }
+    ensures { Built dictionary.entry.words.now message result trace.new }
 {
-    let header = header_of(words);
-    let trailer = trailer_of(words, header);
+    let header = header_of(dictionary);
+    let trailer = trailer_of(dictionary, header);
     let nothing = Builder {
         nodes: 0,
         members: 0,
         required: 0,
         len: 0,
     };
-    let head = add_top(words, header, trace, nothing)?;
-    let envelope = add_top(words, trailer, trace, head)?;
-    add_top(words, message, trace, envelope)
+    let head = add_top(dictionary, header, trace, nothing)?;
+    let envelope = add_top(dictionary, trailer, trace, head)?;
+    add_top(dictionary, message, trace, envelope)
 }
 
 // Writes the trace of the expansion of the message type.
-pub fn expand(words: &[u32], value: &[u8], trace: &mut [u64]) -> Result<Builder, Stop>
-    requires { is_dictionary words.now ≡ true }
-    ensures { Traced words.now value.now result trace.new }
+pub fn expand(dictionary: Dictionary<'_>, value: &[u8], trace: &mut [u64]) -> Result<Builder, Stop>
+    ensures { Traced dictionary.entry.words.now value.now result trace.new }
 {
-    let Some(number) = message_of(words, value) else {
+    let Some(number) = message_of(dictionary, value) else {
         return Err(Stop::Error(Refusal::TypeNotDefined));
     };
-    build(words, number, trace)
+    build(dictionary, number, trace)
 }

@@ -1,11 +1,12 @@
 // What a dictionary defines, looked up in its words.
 ghost use Rattle.std.specs.Prelude.{◌≡◌, true, ◌+◌, ◌*◌, ◌≤◌, ◌<◌, length, get_or};
-ghost use Rattle.dictionary.specs.DictionaryCheck.{is_index, messages_at, is_dictionary};
+ghost use Rattle.dictionary.specs.DictionaryCheck.{is_index, messages_at};
 ghost use Rattle.definitions.specs.Definitions.{record_in, definition_of, component_of, message_of, is_same_value, is_among, is_enumerated, admits_value};
 ghost use Rattle.definitions.specs.DefinitionsLaws.{Below};
 ghost use Rattle.records.specs.Records.{admitted_from};
 
 use ascending::search::binary_search;
+use dictionary::dictionary::Dictionary;
 use lines::line_parts::{Admitted, parse_message_type, parse_value};
 
 // The definition of a tag: the place of its TYPE among the names of FieldType, and the number of its
@@ -28,10 +29,10 @@ fn record_in(words: &[u32], kind: u32, at: usize, count: usize, name: u32) -> Op
 }
 
 // The definition of the tag.
-pub fn definition_of(words: &[u32], tag: u32) -> Option<Definition>
-    requires { is_dictionary words.now ≡ true }
-    ensures { result ≡ definition_of words.now tag }
+pub fn definition_of(dictionary: Dictionary<'_>, tag: u32) -> Option<Definition>
+    ensures { result ≡ definition_of dictionary.entry.words.now tag }
 {
+    let words = dictionary.words;
     let lines = words[0] as usize;
     let count = words[1] as usize;
     let at = 4 + 10 * lines;
@@ -44,11 +45,11 @@ pub fn definition_of(words: &[u32], tag: u32) -> Option<Definition>
 }
 
 // The number of the record of component N.
-pub fn component_of(words: &[u32], name: u32) -> Option<usize>
-    requires { is_dictionary words.now ≡ true }
-    ensures found { result ≡ component_of words.now name }
-    ensures inside { Below (get_or words.now 0 0) result }
+pub fn component_of(dictionary: Dictionary<'_>, name: u32) -> Option<usize>
+    ensures found { result ≡ component_of dictionary.entry.words.now name }
+    ensures inside { Below (get_or dictionary.entry.words.now 0 0) result }
 {
+    let words = dictionary.words;
     let lines = words[0] as usize;
     let tags = words[1] as usize;
     let count = words[2] as usize;
@@ -57,11 +58,11 @@ pub fn component_of(words: &[u32], name: u32) -> Option<usize>
 }
 
 // The number of the record of the message whose type is these letters.
-fn message_named(words: &[u32], letters: u32) -> Option<usize>
-    requires { is_dictionary words.now ≡ true }
-    ensures found { result ≡ record_in (messages_at words.now) (get_or words.now 3 0) letters words.now }
-    ensures inside { Below (get_or words.now 0 0) result }
+fn message_named(dictionary: Dictionary<'_>, letters: u32) -> Option<usize>
+    ensures found { result ≡ record_in (messages_at dictionary.entry.words.now) (get_or dictionary.entry.words.now 3 0) letters dictionary.entry.words.now }
+    ensures inside { Below (get_or dictionary.entry.words.now 0 0) result }
 {
+    let words = dictionary.words;
     let lines = words[0] as usize;
     let tags = words[1] as usize;
     let components = words[2] as usize;
@@ -71,13 +72,12 @@ fn message_named(words: &[u32], letters: u32) -> Option<usize>
 }
 
 // The number of the record of the message of this type.
-pub fn message_of(words: &[u32], value: &[u8]) -> Option<usize>
-    requires { is_dictionary words.now ≡ true }
-    ensures found { result ≡ message_of words.now value.now }
-    ensures inside { Below (get_or words.now 0 0) result }
+pub fn message_of(dictionary: Dictionary<'_>, value: &[u8]) -> Option<usize>
+    ensures found { result ≡ message_of dictionary.entry.words.now value.now }
+    ensures inside { Below (get_or dictionary.entry.words.now 0 0) result }
 {
     let letters = parse_message_type(value)?;
-    message_named(words, letters)
+    message_named(dictionary, letters)
 }
 
 // The value is that of the record. Most records differ from it in their first words, and no other is read.
@@ -134,10 +134,11 @@ fn is_among(words: &[u32], first: usize, records: usize, value: Admitted) -> boo
 }
 
 // The definition with this record has admitted values: a `value=V` line stands behind it.
-pub fn is_enumerated(words: &[u32], number: usize) -> bool
-    requires { (is_dictionary words.now ≡ true) × (number < get_or words.now 0 0) }
-    ensures { result ≡ is_enumerated words.now number }
+pub fn is_enumerated(dictionary: Dictionary<'_>, number: usize) -> bool
+    requires { number < get_or dictionary.words.now 0 0 }
+    ensures { result ≡ is_enumerated dictionary.entry.words.now number }
 {
+    let words = dictionary.words;
     let lines = words[0] as usize;
     if lines - number - 1 == 0 {
         return false;
@@ -147,10 +148,11 @@ pub fn is_enumerated(words: &[u32], number: usize) -> bool
 }
 
 // The definition with this record admits the value: it has no admitted values, or the value is one of them.
-pub fn admits(words: &[u32], number: usize, value: &[u8]) -> bool
-    requires { (is_dictionary words.now ≡ true) × (number < get_or words.now 0 0) }
-    ensures { result ≡ admits_value words.now number value.now }
+pub fn admits(dictionary: Dictionary<'_>, number: usize, value: &[u8]) -> bool
+    requires { number < get_or dictionary.words.now 0 0 }
+    ensures { result ≡ admits_value dictionary.entry.words.now number value.now }
 {
+    let words = dictionary.words;
     let lines = words[0] as usize;
     let left = lines - number - 1;
     let at = 4 + 10 * number + 10;

@@ -8,3 +8,4 @@ pub mod LineOrderLaws
 pub mod LineRuns
 pub mod LineRunsLaws
 pub mod DictionaryCheckLaws
+pub mod DictionaryFacts

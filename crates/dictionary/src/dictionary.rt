@@ -1,44 +1,34 @@
-// The words of a dictionary: lent words that passed their check. A contract sees a dictionary as
-// its words, and a function that is given one asks no more of them.
-ghost use Rattle.std.specs.Prelude.{◌≡◌, true, Some, None, if◌then◌else◌};
-ghost use Rattle.dictionary.specs.DictionaryCheck.{is_dictionary};
+// The words of a dictionary: lent words that passed their check, so that a function which is given
+// them asks nothing more of them.
+ghost use Rattle.std.specs.Prelude.{◌≡◌, ◌≤◌, true, length};
+ghost use Rattle.dictionary.specs.DictionaryCheck.{size_of, is_dictionary};
+ghost use Rattle.records.specs.Records.{Words32};
 
 use crate::dictionary_check::is_dictionary;
-use std::marker::Model;
 
-#[derive(Drop)]
+#[derive(Clone, Copy)]
 pub struct Dictionary<'a> {
-    words: &'a [u32],
-}
-
-impl<'a> Model for Dictionary<'a> {
-    ghost use Rattle.std.specs.Prelude.{◌≡◌, true, ℕ, List};
-    ghost use Rattle.dictionary.specs.DictionaryCheck.{is_dictionary};
-
-    ghost Value = { List ℕ };
-
-    ghost view = { λ dictionary. dictionary.words.now };
-
-    ghost invariant = { λ dictionary. is_dictionary dictionary.words.now ≡ true };
+    pub words: &'a [u32],
+    pub ghost accepted: { is_dictionary words.now ≡ true },
+    pub ghost words32: { Words32 words.now },
+    // the words have a head, and hold all that it counts
+    pub ghost head: { 4 ≤ length words.now },
+    pub ghost fits: { size_of words.now ≤ length words.now },
 }
 
 impl<'a> Dictionary<'a> {
+    ghost use Rattle.std.specs.Prelude.{IfSome};
+    ghost use Rattle.std.specs.Option.{is_some};
+
     // The dictionary in these words, if they pass their check.
     pub fn new(words: &'a [u32]) -> Option<Self>
-        ensures outcome { result ≡ (if is_dictionary words.now then Some words.now else None) }
+        ensures accepted { is_some result ≡ is_dictionary words.now }
+        ensures words { IfSome result (λ dictionary. dictionary.words.now ≡ words.now) }
     {
         if is_dictionary(words) {
             Some(Dictionary { words })
         } else {
             None
         }
-    }
-
-    // The words of the dictionary.
-    pub fn words(&self) -> &'a [u32]
-        ensures words { result.now ≡ self.now }
-        ensures accepted { is_dictionary result.now ≡ true }
-    {
-        self.words
     }
 }

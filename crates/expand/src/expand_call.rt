@@ -1,12 +1,11 @@
 // The expansion of a message type, on lent words: from a dictionary's words to those of the type's layout.
-ghost use Rattle.std.specs.Prelude.{◌≡◌, true, ◌*◌, ◌≤◌, length};
-ghost use Rattle.dictionary.specs.DictionaryCheck.{is_dictionary};
+ghost use Rattle.std.specs.Prelude.{◌≡◌, ◌*◌, ◌≤◌, length};
 ghost use Rattle.arrange.specs.ArrangeGather.{level_count, GatherRoom};
 ghost use Rattle.expand.specs.ExpandCall.{expanded_of, expanded_in};
 ghost use Rattle.expand.specs.ExpandSteps.{told_answer, told_with, ExpandedIn};
 
 use arrange::arrange::gather;
-use dictionary::dictionary_check::is_dictionary;
+use dictionary::dictionary::Dictionary;
 use expansion::builder::Stop;
 use layouts::put_layout::put_layout;
 use refusals::refusal::Refusal;
@@ -100,12 +99,12 @@ fn arrange_told(trace: &[u64], nodes: usize, layout: &mut [u32]) -> Result<Expan
 // compiled by itself, as `arrange_in` is.
 #[inline(never)]
 fn expand_in<const WORDS: usize>(
-    dictionary: &[u32],
+    dictionary: Dictionary<'_>,
     message_type: &[u8],
     layout: &mut [u32],
 ) -> Option<Result<Expanded, Refusal>>
-    requires { (is_dictionary dictionary.now ≡ true) × (WORDS ≤ 14336) }
-    ensures { ExpandedIn WORDS dictionary.now message_type.now layout.old result layout.new }
+    requires { WORDS ≤ 14336 }
+    ensures { ExpandedIn WORDS dictionary.entry.words.now message_type.now layout.old result layout.new }
 {
     let mut trace = [0u64; WORDS];
     match build::build::expand(dictionary, message_type, &mut trace) {
@@ -129,9 +128,9 @@ pub fn expand(
     ensures outcome { result ≡ expanded_of dictionary.now message_type.now (length layout.old) }
     ensures memory { layout.new ≡ expanded_in dictionary.now message_type.now layout.old }
 {
-    if !is_dictionary(dictionary) {
+    let Some(dictionary) = Dictionary::new(dictionary) else {
         return Err(Refusal::UnknownForm(0));
-    }
+    };
     // as a message type mostly needs, and then as the limits allow
     match expand_in::<1024>(dictionary, message_type, layout) {
         Some(answer) => answer,

@@ -56,7 +56,7 @@ module _ (dictionary words fields message space : List ℕ) where
 
 -- ---- the whole walk
 
-module _ (dictionary words fields message : List ℕ) (accepted : Accepted dictionary words fields message) where
+module _ (dictionary words fields message : List ℕ) (accepted : Accepted words fields message) where
   pub lent-with : (defined : List ℕ) → defined ≡ defined_tags dictionary → StrictlyAscending defined → length defined ≤ 10922 → Lent defined words fields message
   lent-with defined are-defined ascends few = record {
     ascends = ascends;

@@ -10,7 +10,7 @@ ghost use Rattle.validator.specs.CallPromises.{Accepted, most_words};
 ghost use Rattle.validator.specs.MessageCall.{walk_of, space_answer, space_with, walked_of, events_in};
 
 use definitions::defined_tags::defined_tags;
-use dictionary::dictionary_check::is_dictionary;
+use dictionary::dictionary::Dictionary;
 use field_table::field_table::check_field_table;
 use layout_check::layout_check::is_layout;
 use layouts::layout_words::{count_tags_at, required_at};
@@ -33,15 +33,15 @@ fn most_words(layout: &[u32], fields: &[u32]) -> usize
 
 // The walk once the lent words are accepted: the loop, then what is missing. Gives the place behind the events' words.
 fn walk_level(
-    dictionary: &[u32],
+    dictionary: Dictionary<'_>,
     layout: &[u32],
     fields: &[u32],
     message: &[u8],
     events: &mut [u64],
 ) -> usize
-    requires { Accepted dictionary.now layout.now fields.now message.now }
+    requires { Accepted layout.now fields.now message.now }
     ensures { Wrote events.old events.new 0 result
-        (walk_of dictionary.now layout.now fields.now message.now) }
+        (walk_of dictionary.entry.words.now layout.now fields.now message.now) }
 {
     let defined = defined_tags(dictionary);
     let mut seen = [0u64; 171];
@@ -51,17 +51,17 @@ fn walk_level(
 
 // The walk where the event space may be short: a pass that is lent no space counts the words that are needed.
 fn count_first(
-    dictionary: &[u32],
+    dictionary: Dictionary<'_>,
     layout: &[u32],
     fields: &[u32],
     message: &[u8],
     events: &mut [u64],
 ) -> Result<usize, Refusal>
-    requires { Accepted dictionary.now layout.now fields.now message.now }
+    requires { Accepted layout.now fields.now message.now }
     ensures outcome { result ≡ space_answer
-        (walk_of dictionary.now layout.now fields.now message.now) events.old }
+        (walk_of dictionary.entry.words.now layout.now fields.now message.now) events.old }
     ensures memory { events.new ≡ space_with
-        (walk_of dictionary.now layout.now fields.now message.now) events.old }
+        (walk_of dictionary.entry.words.now layout.now fields.now message.now) events.old }
 {
     let needed = walk_level(dictionary, layout, fields, message, &mut events[..0]);
     if events.len() < needed {
@@ -73,17 +73,17 @@ fn count_first(
 
 // The walk once the lent words are accepted: one pass where the event space holds whatever it may need.
 fn walk_accepted(
-    dictionary: &[u32],
+    dictionary: Dictionary<'_>,
     layout: &[u32],
     fields: &[u32],
     message: &[u8],
     events: &mut [u64],
 ) -> Result<usize, Refusal>
-    requires { Accepted dictionary.now layout.now fields.now message.now }
+    requires { Accepted layout.now fields.now message.now }
     ensures outcome { result ≡ space_answer
-        (walk_of dictionary.now layout.now fields.now message.now) events.old }
+        (walk_of dictionary.entry.words.now layout.now fields.now message.now) events.old }
     ensures memory { events.new ≡ space_with
-        (walk_of dictionary.now layout.now fields.now message.now) events.old }
+        (walk_of dictionary.entry.words.now layout.now fields.now message.now) events.old }
 {
     let most = most_words(layout, fields);
     if events.len() < most {
@@ -107,9 +107,9 @@ pub fn walk_message(
     ensures memory { events.new ≡ events_in
         dictionary.now layout.now fields.now message.now events.old }
 {
-    if !is_dictionary(dictionary) {
+    let Some(dictionary) = Dictionary::new(dictionary) else {
         return Err(Refusal::UnknownForm(0));
-    }
+    };
     if !is_layout(layout) {
         return Err(Refusal::RuleBroken(0, 0));
     }

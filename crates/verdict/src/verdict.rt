@@ -1,11 +1,11 @@
 // The verdict on a value. Ported from validator.rs, `check_value`; strict mode is document 01's.
-ghost use Rattle.std.specs.Prelude.{◌≡◌, true, ◌<◌, get_or};
-ghost use Rattle.dictionary.specs.DictionaryCheck.{is_dictionary};
+ghost use Rattle.std.specs.Prelude.{◌≡◌, ◌<◌, get_or};
 ghost use Rattle.definitions.specs.Definitions.{admits_value};
 ghost use Rattle.verdict.specs.Verdict.{verdict_word, has_format, admits_each, is_admitted};
 ghost use Rattle.verdict.specs.FieldRecords.{record_of, recorded_verdict};
 
 use definitions::definitions::{admits, definition_of, is_enumerated};
+use dictionary::dictionary::Dictionary;
 use field_types::field_type::{FieldType, type_numbered};
 use formats::field_value::{is_in_ranges, is_of_format};
 
@@ -46,9 +46,9 @@ fn has_format(field_type: FieldType, value: &[u8], strict: bool) -> bool
 }
 
 // Returns true if the definition with this record admits every token of a space-separated list.
-fn admits_each(dictionary: &[u32], number: usize, value: &[u8]) -> bool
-    requires { (is_dictionary dictionary.now ≡ true) × (number < get_or dictionary.now 0 0) }
-    ensures { result ≡ admits_each (admits_value dictionary.now number) value.now }
+fn admits_each(dictionary: Dictionary<'_>, number: usize, value: &[u8]) -> bool
+    requires { number < get_or dictionary.words.now 0 0 }
+    ensures { result ≡ admits_each (admits_value dictionary.entry.words.now number) value.now }
 {
     value
         .split(|byte| *byte == b' ')
@@ -56,9 +56,14 @@ fn admits_each(dictionary: &[u32], number: usize, value: &[u8]) -> bool
 }
 
 // Returns true if the definition with this record, of this type, admits the value: a multi-value type every token of it.
-fn is_admitted(dictionary: &[u32], number: usize, field_type: FieldType, value: &[u8]) -> bool
-    requires { (is_dictionary dictionary.now ≡ true) × (number < get_or dictionary.now 0 0) }
-    ensures { result ≡ is_admitted (admits_value dictionary.now number) field_type value.now }
+fn is_admitted(
+    dictionary: Dictionary<'_>,
+    number: usize,
+    field_type: FieldType,
+    value: &[u8],
+) -> bool
+    requires { number < get_or dictionary.words.now 0 0 }
+    ensures { result ≡ is_admitted (admits_value dictionary.entry.words.now number) field_type value.now }
 {
     if field_type.is_multi_value() {
         admits_each(dictionary, number, value)
@@ -68,27 +73,25 @@ fn is_admitted(dictionary: &[u32], number: usize, field_type: FieldType, value: 
 }
 
 // The number of the record that defines the tag, or for an undefined one the number of all records.
-pub fn record_of(dictionary: &[u32], tag: u32) -> usize
-    requires { is_dictionary dictionary.now ≡ true }
-    ensures { result ≡ record_of dictionary.now tag }
+pub fn record_of(dictionary: Dictionary<'_>, tag: u32) -> usize
+    ensures { result ≡ record_of dictionary.entry.words.now tag }
 {
     match definition_of(dictionary, tag) {
         Some(definition) => definition.number,
-        None => dictionary[0] as usize,
+        None => dictionary.words[0] as usize,
     }
 }
 
 // Checks that a field is defined, well-formed for its type, and — when enumerated — carries a defined value. The record of its tag was found before.
-pub fn check_value(dictionary: &[u32], number: usize, value: &[u8], strict: bool) -> Verdict
-    requires { is_dictionary dictionary.now ≡ true }
-    ensures { result ≡ recorded_verdict dictionary.now strict value.now number }
+pub fn check_value(dictionary: Dictionary<'_>, number: usize, value: &[u8], strict: bool) -> Verdict
+    ensures { result ≡ recorded_verdict dictionary.entry.words.now strict value.now number }
 {
-    let lines = dictionary[0] as usize;
+    let lines = dictionary.words[0] as usize;
     if lines <= number {
         return Verdict::Undefined;
     }
     let place = 4 + 10 * number + 2;
-    let Some(field_type) = type_numbered(dictionary[place] as usize) else {
+    let Some(field_type) = type_numbered(dictionary.words[place] as usize) else {
         return Verdict::Undefined;
     };
     if !has_format(field_type, value, strict) {

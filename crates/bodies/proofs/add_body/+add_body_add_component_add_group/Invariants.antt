@@ -16,7 +16,7 @@ abbrev pub decreases-add_group : goal.decreases-add_group
 decreases-add_group l = 2 * calls_left l.depth_left l.builder
 
 abbrev pub invariant-add_body-loop-tag : goal.invariant-add_body-loop-tag
-invariant-add_body-loop-tag l = BodySoFar l.words l.depth_left l.path l.collect l.place l.initial.so_far l.initial.trace l.at l.so_far l.trace
+invariant-add_body-loop-tag l = BodySoFar l.dictionary.words.now l.depth_left l.path l.collect l.place l.initial.so_far l.initial.trace l.at l.so_far l.trace
 
 abbrev pub decreases-add_body-loop-tag : goal.decreases-add_body-loop-tag
-decreases-add_body-loop-tag l = get_or l.words 0 0 - l.at
+decreases-add_body-loop-tag l = get_or l.dictionary.words.now 0 0 - l.at

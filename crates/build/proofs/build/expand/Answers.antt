@@ -4,11 +4,11 @@ use Rattle.build.specs.BuildPromisesLaws.{message-begins, traced_undefined, trac
 use Rattle.build.proofs.build.expand.Goals as goal
 
 pub build-requires : goal.build-requires
-build-requires c = (c.requires, message-begins c.args.words.now (λ place. (c.type_inv.words place).fits) c.requires c.args.value.now _ (sym c.in-Some.ensures.found))
+build-requires c = message-begins c.args.dictionary.words.now c.args.dictionary.words32 c.args.dictionary.accepted c.args.value.now _ (sym c.in-Some.ensures.found)
 
 -- pub fn expand(words: &[u32], value: &[u8], trace: &mut [u64]) -> Result<Builder, Stop>
 pub returns-in_default : goal.returns-in_default
-returns-in_default c = traced_undefined c.args.words.now (λ place. (c.type_inv.words place).fits) c.requires c.args.value.now _ (sym c.in_default.ensures.found)
+returns-in_default c = traced_undefined c.args.dictionary.words.now c.args.dictionary.words32 c.args.dictionary.accepted c.args.value.now _ (sym c.in_default.ensures.found)
 
 pub returns : goal.returns
-returns c = traced_built c.args.words.now (λ place. (c.type_inv.words place).fits) c.requires c.args.value.now _ _ _ (sym c.in-Some.ensures.found) c.build.ensures
+returns c = traced_built c.args.dictionary.words.now c.args.dictionary.words32 c.args.dictionary.accepted c.args.value.now _ _ _ (sym c.in-Some.ensures.found) c.build.ensures

@@ -5,7 +5,7 @@ use Rattle.build.specs.BuildPromisesLaws.{HeaderSoFar}
 use Rattle.build.proofs.build.header_of.Given as goal
 
 abbrev pub invariant-loop-first : goal.invariant-loop-first
-invariant-loop-first l = HeaderSoFar l.words l.first l.past
+invariant-loop-first l = HeaderSoFar l.dictionary.words.now l.first l.past
 
 abbrev pub decreases-loop-first : goal.decreases-loop-first
 decreases-loop-first l = l.past - l.first

@@ -6,7 +6,7 @@ use Rattle.build.specs.BuildPromisesLaws.{BlockSoFar}
 use Rattle.build.proofs.build.trailer_of.Given as goal
 
 abbrev pub invariant-loop-header : goal.invariant-loop-header
-invariant-loop-header l = BlockSoFar l.words 4 l.at
+invariant-loop-header l = BlockSoFar l.dictionary.words.now 4 l.at
 
 abbrev pub decreases-loop-header : goal.decreases-loop-header
-decreases-loop-header l = get_or l.words 0 0 - l.at
+decreases-loop-header l = get_or l.dictionary.words.now 0 0 - l.at

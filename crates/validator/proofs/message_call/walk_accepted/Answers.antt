@@ -7,8 +7,8 @@ use Rattle.validator.proofs.message_call.walk_accepted.Goals as goal
 
 pub returns : goal.returns
 returns c = record {
-  outcome = (walk_answers (walk_of c.args.dictionary.now c.args.layout.now c.args.fields.now c.args.message.now) c.args.events.now _ _ c.walk_level-words.ensures
-      (omega (arith, needs_few c.args.dictionary.now c.args.layout.now c.args.fields.now c.args.message.now c.requires, c.most_words-most.ensures, c.if-events-most.false))).0;
-  memory = (walk_answers (walk_of c.args.dictionary.now c.args.layout.now c.args.fields.now c.args.message.now) c.args.events.now _ _ c.walk_level-words.ensures
-      (omega (arith, needs_few c.args.dictionary.now c.args.layout.now c.args.fields.now c.args.message.now c.requires, c.most_words-most.ensures, c.if-events-most.false))).1;
+  outcome = (walk_answers (walk_of c.args.dictionary.words.now c.args.layout.now c.args.fields.now c.args.message.now) c.args.events.now _ _ c.walk_level-words.ensures
+      (omega (arith, needs_few c.args.dictionary.words.now c.args.layout.now c.args.fields.now c.args.message.now c.requires, c.most_words-most.ensures, c.if-events-most.false))).0;
+  memory = (walk_answers (walk_of c.args.dictionary.words.now c.args.layout.now c.args.fields.now c.args.message.now) c.args.events.now _ _ c.walk_level-words.ensures
+      (omega (arith, needs_few c.args.dictionary.words.now c.args.layout.now c.args.fields.now c.args.message.now c.requires, c.most_words-most.ensures, c.if-events-most.false))).1;
 }

@@ -11,7 +11,7 @@ use Rattle.verdict.proofs.verdict.admits_each.Goals as goal
 pub returns : goal.returns
 unfolding admits_each
 returns c =
-    all_from_yields_List (admits_value c.args.dictionary.now c.args.number) _ _ _ c.all.ensures.ran
+    all_from_yields_List (admits_value c.args.dictionary.words.now c.args.number) _ _ _ c.all.ensures.ran
     (YieldsList-from_slice_split _ (λ byte. eqb byte 32) c.args.value.now c.split.ensures.rest c.split.ensures.done c.split.ensures.closure (λ x b q k. search (rules, tests)))
     (λ x b q k. search (rules, tests))
-    ∙ every_part-split (admits_value c.args.dictionary.now c.args.number) 32 c.args.value.now
+    ∙ every_part-split (admits_value c.args.dictionary.words.now c.args.number) 32 c.args.value.now

@@ -6,17 +6,13 @@ use Rattle.definitions.specs.DefinitionsLaws.{is_dictionary-parts, line_numbered
 use Rattle.verdict.specs.FieldRecords.{recorded_verdict}
 use Rattle.verdict.proofs.verdict.check_value.Goals as goal
 
--- let lines = dictionary[0] as usize;
-pub bounds-dictionary-0 : goal.bounds-dictionary-0
-bounds-dictionary-0 c = omega (arith, (is_dictionary-parts c.args.dictionary.now c.requires).some_words)
-
 -- return Verdict::Undefined;
 pub returns-then-lines-number : goal.returns-then-lines-number
 unfolding recorded_verdict
 returns-then-lines-number c = rw (le-ltb _ _ c.if-lines-number.true)
 
 pub bounds-dictionary-place : goal.bounds-dictionary-place
-bounds-dictionary-place c = omega (arith, line_numbered-place c.args.dictionary.now c.args.number c.if-lines-number.false (is_dictionary-parts c.args.dictionary.now c.requires))
+bounds-dictionary-place c = omega (arith, line_numbered-place c.args.dictionary.words.now c.args.number c.if-lines-number.false (is_dictionary-parts _ c.args.dictionary.accepted))
 
 pub returns-in_default : goal.returns-in_default
 unfolding recorded_verdict

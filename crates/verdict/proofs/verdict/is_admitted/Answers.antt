@@ -6,4 +6,4 @@ use Rattle.verdict.proofs.verdict.is_admitted.Goals as goal
 pub returns-then-not-is_enumerated : goal.returns-then-not-is_enumerated
 returns-then-not-is_enumerated c =
     rw (sym c.is_multi_value.ensures ∙ c.if-is_multi_value.false, c.if-not-is_enumerated.true)
-    (sym (admits_value-any c.args.dictionary.now c.args.number c.args.value.now (sym c.is_enumerated.ensures ∙ c.if-not-is_enumerated.true)))
+    (sym (admits_value-any c.args.dictionary.words.now c.args.number c.args.value.now (sym c.is_enumerated.ensures ∙ c.if-not-is_enumerated.true)))

@@ -5,9 +5,6 @@ use Rattle.definitions.specs.DefinitionsLaws.{is_dictionary-parts}
 use Rattle.verdict.specs.FieldRecords.{record_of}
 use Rattle.verdict.proofs.verdict.record_of.Goals as goal
 
-pub bounds-dictionary-0 : goal.bounds-dictionary-0
-bounds-dictionary-0 c = omega (arith, (is_dictionary-parts c.args.dictionary.now c.requires).some_words)
-
 -- pub fn record_of(dictionary: &[u32], tag: u32) -> usize
 pub returns-in-Some : goal.returns-in-Some
 unfolding record_of

@@ -6,7 +6,6 @@ use Rattle.verdicts.proofs.verdicts_call.judge_values.Goals as goal
 -- let verdict = verdict_at(dictionary, fields, message, strict, index, number);
 pub verdict_at-verdict-requires : goal.verdict_at-verdict-requires
 verdict_at-verdict-requires c = record {
-  dictionary_value = c.requires.dictionary_value;
   accepted_table = c.requires.accepted_table;
   index_bound = omega (arith, c.loop-index-test.true);
   number_value = written-record _ _ _ _ _ _ _ c.loop-index.invariant c.requires.holds (omega (arith, c.loop-index-test.true));

@@ -7,4 +7,4 @@ use Rattle.verdicts.proofs.verdicts_call.verdict_at.Goals as goal
 
 -- fn verdict_at(
 pub returns : goal.returns
-returns c = c.check_value.ensures ∙ rw (c.requires.number_value, value_at_part c.args.fields.now c.args.message.now c.args.index _ _ c.first_at-first.ensures c.past_at-past.ensures) (recorded_verdict-of _ _ _ _ (λ place. omega (arith, c.shared_slice_known-1.given place)) c.requires.dictionary_value)
+returns c = c.check_value.ensures ∙ rw (c.requires.number_value, value_at_part c.args.fields.now c.args.message.now c.args.index _ _ c.first_at-first.ensures c.past_at-past.ensures) (recorded_verdict-of _ _ _ _ c.args.dictionary.words32 c.args.dictionary.accepted)
