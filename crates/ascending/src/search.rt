@@ -1,5 +1,5 @@
 // Searching words in strictly ascending order. The Rust's slice::binary_search.
-ghost use Rattle.std.specs.Prelude.{◌≡◌};
+ghost use Rattle.std.specs.Prelude.{◌≡◌, true};
 ghost use Rattle.ascending.specs.Search.{StrictlyAscending, is_strictly_ascending, rank_in, Holds};
 
 // Returns true where every word is above the one before it.
@@ -38,4 +38,20 @@ pub fn binary_search(words: &[u32], tag: u32) -> Option<usize>
         return Some(base);
     }
     None
+}
+
+// Words of which every one is above the one before it.
+#[derive(Clone, Copy)]
+pub struct Ascending<'a> {
+    pub words: &'a [u32],
+    pub ghost ascends: { is_strictly_ascending words.now ≡ true },
+}
+
+impl Ascending<'_> {
+    // The place of the tag among the words, if it is there.
+    pub fn binary_search(&self, tag: u32) -> Option<usize>
+        ensures { result ≡ rank_in self.now.words.now tag }
+    {
+        binary_search(self.words, tag)
+    }
 }

@@ -159,6 +159,9 @@ module _ (fields : List ℕ) (message_length : ℕ) where
           (accepts-bad_from fields message_length (row_count fields) 0
           (λ position from below. is_bad_field-good fields message_length position (table.ordered position (omega arith)) (table.inside position (omega arith))))
 
+pub accepted-few : (fields : List ℕ) (message_length : ℕ) → table_check_of fields message_length ≡ Ok tt → row_count fields ≤ 4096
+accepted-few fields message_length accepted = ((table_check_of-accepted fields message_length).0 accepted).few
+
 -- ---- fields_of
 
 -- the part of the message that code lends for the value at a position

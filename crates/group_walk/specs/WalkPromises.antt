@@ -29,9 +29,8 @@ pub record Accepted (words fields message : List ℕ) (group : ℕ) : Type 0 whe
   pub valid : group < group_count words
   pub table : AcceptedTable fields (length message)
 
-pub record WalkAsks (words fields message enclosing : List ℕ) (group index depth at : ℕ) : Type 0 where
-  pub lent : Accepted words fields message group
-  pub around : StrictlyAscending enclosing
+pub record WalkAsks (words : List ℕ) (group index depth at : ℕ) : Type 0 where
+  pub valid : group < group_count words
   pub shallow : depth ≤ 33
   pub room : at ≤ 25 * index
 
@@ -40,7 +39,7 @@ pub record Walks (words fields message enclosing : List ℕ) (group index depth 
   pub next_is : next ≡ (walk_group (input_of words fields message) group depth (among enclosing) index).next
 
 pub record ScanAsks (words fields message : List ℕ) (group start depth at limit : ℕ) : Type 0 where
-  pub lent : Accepted words fields message group
+  pub valid : group < group_count words
   pub few_members_lem : length (level_members words (1 + group)) ≤ limit
   pub taken : entry_stops (input_of words fields message) true group start ≡ false
   pub inside : start < row_count fields

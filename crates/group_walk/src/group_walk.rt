@@ -2,13 +2,14 @@
 // `walk_group` and `scan_entry`; the Visitor is the event space.
 ghost use Rattle.group_walk.specs.WalkPromises.{WalkAsks, Walks, ScanAsks, Scans};
 
+use ascending::search::Ascending;
 use entry_tags::entry_tags::{EntryTags, RankSet, WideEntryTags};
 use events::event::Kind;
-use field_table::field_table::count_at;
-use layouts::layout_words::{count_tag_at, count_tags_at, delimiter_at, members_at};
+use field_table::field_table::FieldTable;
+use layouts::layout_words::Layout;
 use walk_steps::group_events::{either, put_end, put_event, put_repeat, put_start, spoilt_by};
-use walk_steps::group_steps::{EntryStep, Turn, opening_at, row_count, step_at};
-use walk_steps::layout_input::first_group_of;
+use walk_steps::group_steps::{EntryStep, Turn, opening_at, step_at};
+use walk_steps::layout_input::entry_level;
 
 // The first field behind a group, and the place behind the events' words.
 #[derive(Clone, Copy)]
@@ -29,41 +30,37 @@ pub struct EntryEnd {
 // Walks one group instance, starting at its count field at `index`, and returns the index of the first field after the group. `enclosing` lists,
 // sorted, the tags the scope around the group accepts. The tags seen in an entry are kept in a set of the level's width.
 #[cycle(scan_entry_scan_wide_walk_group)]
-pub fn walk_group<'a>(
-    fields: &[u32],
-    message: &[u8],
-    words: &'a [u32],
-    enclosing: &'a [u32],
+pub fn walk_group(
+    table: &FieldTable<'_>,
+    layout: &Layout<'_>,
+    enclosing: &Ascending<'_>,
     group: usize,
     index: usize,
     depth: u32,
     events: &mut [u64],
     at: usize,
 ) -> GroupEnd
-    requires { WalkAsks words.now fields.now message.now enclosing.now group index depth at }
-    ensures { Walks words.now fields.now message.now enclosing.now group index depth
-        events.old events.new at result.at result.next }
+    requires { WalkAsks layout.now.words.now group index depth at }
+    ensures { Walks layout.now.words.now table.now.fields.now table.now.message.now
+        enclosing.now.words.now group index depth events.old events.new at result.at result.next }
 {
-    if row_count(fields) <= index {
+    if table.len() <= index {
         return GroupEnd { next: index, at };
     }
-    let tag = count_tag_at(words, group);
+    let tag = layout.count_tag_at(group);
     if 32 < depth {
         let deep = put_event(events, at, tag, depth, Kind::Deep);
         let next = index + 1;
         return GroupEnd { next, at: deep };
     }
-    let declared = count_at(fields, message, index);
-    let members = members_at(words, 1 + group);
-    let delimiter = delimiter_at(words, group);
+    let declared = table.count_at(index);
+    let level = entry_level(layout, group);
     let mut to = put_start(events, at, tag, depth, index, declared);
     let mut cursor = index + 1;
     let mut entries: u64 = 0;
     let mut unparseable = false;
     loop {
-        match opening_at(
-            fields, members, enclosing, delimiter, declared, entries, cursor,
-        ) {
+        match opening_at(table, &level, enclosing, declared, entries, cursor) {
             Turn::Over => break,
             Turn::Entry => {}
             Turn::Lead(member) => {
@@ -71,15 +68,15 @@ pub fn walk_group<'a>(
                 unparseable = true;
             }
         }
-        if members.len() <= 256 {
-            let entry = scan_entry(fields, message, words, group, cursor, depth, events, to);
+        if level.members.words.len() <= 256 {
+            let entry = scan_entry(table, layout, group, cursor, depth, events, to);
             let close = Kind::Close(entries, entry.seen);
             to = put_event(events, entry.at, tag, depth, close);
             cursor = entry.next;
             unparseable = either(unparseable, entry.unparseable); // by each entry
             entries += 1;
         } else {
-            let entry = scan_wide(fields, message, words, group, cursor, depth, events, to);
+            let entry = scan_wide(table, layout, group, cursor, depth, events, to);
             let close = Kind::Close(entries, entry.seen);
             to = put_event(events, entry.at, tag, depth, close);
             cursor = entry.next;
@@ -97,31 +94,29 @@ pub fn walk_group<'a>(
 // Consumes one entry starting at `start`: its own fields, and the runs of the groups nested in it. Stops at the next delimiter (the next entry) or
 // at the first field that is not a member (the end of the group). For a level of up to 256 members.
 #[cycle(scan_entry_scan_wide_walk_group)]
-fn scan_entry<'a>(
-    fields: &[u32],
-    message: &[u8],
-    words: &'a [u32],
+fn scan_entry(
+    table: &FieldTable<'_>,
+    layout: &Layout<'_>,
     group: usize,
     start: usize,
     depth: u32,
     events: &mut [u64],
     at: usize,
 ) -> EntryEnd
-    requires { ScanAsks words.now fields.now message.now group start depth at 256 }
-    ensures { Scans words.now fields.now message.now group start depth
-        events.old events.new at result.at result.next result.seen result.unparseable }
+    requires { ScanAsks layout.now.words.now table.now.fields.now table.now.message.now
+        group start depth at 256 }
+    ensures { Scans layout.now.words.now table.now.fields.now table.now.message.now
+        group start depth events.old events.new at result.at result.next result.seen
+        result.unparseable }
 {
-    let tag = count_tag_at(words, group);
-    let delimiter = delimiter_at(words, group);
-    let members = members_at(words, 1 + group);
-    let tags = count_tags_at(words, 1 + group); // of the groups nested in the entry
-    let first = first_group_of(words, 1 + group);
+    let tag = layout.count_tag_at(group);
+    let level = entry_level(layout, group); // with the groups nested in the entry
     let mut seen = EntryTags::new();
     let mut cursor = start;
     let mut unparseable = false;
     let mut to = at;
     loop {
-        match step_at(fields, members, tags, first, delimiter, start, cursor) {
+        match step_at(table, &level, start, cursor) {
             EntryStep::Stop => break,
             EntryStep::Plain(rank, member) => {
                 let (with, fresh) = seen.insert_rank(rank);
@@ -137,14 +132,21 @@ fn scan_entry<'a>(
                 unparseable = spoilt_by(unparseable, fresh); // by no nested fault
                 let below = depth + 1; // a nested group is one deeper
                 let nested = walk_group(
-                    fields, message, words, members, inner, cursor, below, events, to,
+                    table,
+                    layout,
+                    &level.members,
+                    inner,
+                    cursor,
+                    below,
+                    events,
+                    to,
                 );
                 to = nested.at;
                 cursor = nested.next;
             }
         }
     }
-    let count = seen.close(members.len());
+    let count = seen.close(level.members.words.len());
     EntryEnd {
         next: cursor,
         at: to,
@@ -156,31 +158,29 @@ fn scan_entry<'a>(
 // As `scan_entry`, for a wider level: only the set differs. It stays a function of its own, since the
 // three call each other, and a cycle of calls gets no proof where one of them is generic.
 #[cycle(scan_entry_scan_wide_walk_group)]
-fn scan_wide<'a>(
-    fields: &[u32],
-    message: &[u8],
-    words: &'a [u32],
+fn scan_wide(
+    table: &FieldTable<'_>,
+    layout: &Layout<'_>,
     group: usize,
     start: usize,
     depth: u32,
     events: &mut [u64],
     at: usize,
 ) -> EntryEnd
-    requires { ScanAsks words.now fields.now message.now group start depth at 8192 }
-    ensures { Scans words.now fields.now message.now group start depth
-        events.old events.new at result.at result.next result.seen result.unparseable }
+    requires { ScanAsks layout.now.words.now table.now.fields.now table.now.message.now
+        group start depth at 8192 }
+    ensures { Scans layout.now.words.now table.now.fields.now table.now.message.now
+        group start depth events.old events.new at result.at result.next result.seen
+        result.unparseable }
 {
-    let tag = count_tag_at(words, group);
-    let delimiter = delimiter_at(words, group);
-    let members = members_at(words, 1 + group);
-    let tags = count_tags_at(words, 1 + group);
-    let first = first_group_of(words, 1 + group);
+    let tag = layout.count_tag_at(group);
+    let level = entry_level(layout, group);
     let mut seen = WideEntryTags::new();
     let mut cursor = start;
     let mut unparseable = false;
     let mut to = at;
     loop {
-        match step_at(fields, members, tags, first, delimiter, start, cursor) {
+        match step_at(table, &level, start, cursor) {
             EntryStep::Stop => break,
             EntryStep::Plain(rank, member) => {
                 let (with, fresh) = seen.insert_rank(rank);
@@ -196,14 +196,21 @@ fn scan_wide<'a>(
                 unparseable = spoilt_by(unparseable, fresh);
                 let below = depth + 1;
                 let nested = walk_group(
-                    fields, message, words, members, inner, cursor, below, events, to,
+                    table,
+                    layout,
+                    &level.members,
+                    inner,
+                    cursor,
+                    below,
+                    events,
+                    to,
                 );
                 to = nested.at;
                 cursor = nested.next;
             }
         }
     }
-    let count = seen.close(members.len());
+    let count = seen.close(level.members.words.len());
     EntryEnd {
         next: cursor,
         at: to,

@@ -6,6 +6,8 @@ ghost use Rattle.layouts.specs.LayoutWords.{stretch, group_count, level_members,
 ghost use Rattle.layouts.specs.LayoutWordsLaws.{StretchInside};
 ghost use Rattle.layouts.specs.LayoutCheck.{is_layout};
 
+use ascending::search::Ascending;
+
 // A word as a number of words or a place among them.
 pub fn wide(word: u32) -> usize
     ensures { result ≡ word }
@@ -75,12 +77,14 @@ impl<'a> Layout<'a> {
         self.words[7 + 5 * groups + number] == 1
     }
 
-    // The members of a level, a part of the words.
-    pub fn members_at(&self, level: usize) -> &'a [u32]
+    // The members of a level, a part of the words, in strictly ascending order.
+    pub fn members_at(&self, level: usize) -> Ascending<'a>
         requires { level ≤ group_count self.now.words.now }
-        ensures { result.now ≡ level_members self.now.words.now level }
+        ensures { result.words.now ≡ level_members self.now.words.now level }
     {
-        stretch_at(self.words, 1 + level)
+        Ascending {
+            words: stretch_at(self.words, 1 + level),
+        }
     }
 
     // The required tags of a level, a part of the words.
@@ -92,13 +96,16 @@ impl<'a> Layout<'a> {
         stretch_at(self.words, 3 + groups + level)
     }
 
-    // The count tags of the groups that stand in a level, a part of the words.
-    pub fn count_tags_at(&self, level: usize) -> &'a [u32]
+    // The count tags of the groups that stand in a level, a part of the words, in strictly
+    // ascending order.
+    pub fn count_tags_at(&self, level: usize) -> Ascending<'a>
         requires { level ≤ group_count self.now.words.now }
-        ensures { result.now ≡ level_count_tags self.now.words.now level }
+        ensures { result.words.now ≡ level_count_tags self.now.words.now level }
     {
         let groups = self.group_count();
-        stretch_at(self.words, 5 + 2 * groups + level)
+        Ascending {
+            words: stretch_at(self.words, 5 + 2 * groups + level),
+        }
     }
 
     // The number of the first group that stands in a level.

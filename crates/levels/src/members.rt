@@ -5,7 +5,6 @@ ghost use Rattle.layouts.specs.Limits.{gate_limits};
 ghost use Rattle.layouts.specs.LayoutWords.{group_count};
 ghost use Rattle.levels.specs.Members.{nested_level, level_outcome, level_part};
 
-use ascending::search::binary_search;
 use layout_check::layout_check::layout_of;
 use layouts::layout_words::{Layout, stretch_at};
 use refusals::refusal::Refusal;
@@ -16,7 +15,7 @@ pub fn nested_level(layout: &Layout<'_>, level: usize, tag: u32) -> Option<usize
     requires { level ≤ group_count layout.now.words.now }
     ensures { result ≡ nested_level layout.now.words.now level tag }
 {
-    let rank = binary_search(layout.count_tags_at(level), tag)?;
+    let rank = layout.count_tags_at(level).binary_search(tag)?;
     let number = layout.first_group_of(level) + rank;
     Some(number + 1)
 }

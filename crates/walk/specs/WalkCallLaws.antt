@@ -42,6 +42,14 @@ module _ (words fields message : List ℕ) (position tag : ℕ) (space : List �
     unfolding walked_of events_in
     table-accepted walked after good answers left = rw (right, good) (answers, left)
 
+    -- with the words and the message as the types hold them
+    pub table-taken : (words' fields' message' : List ℕ) → words' ≡ words → fields' ≡ fields → message' ≡ message → table_check_of fields' (length message') ≡ Ok tt
+        → (walked : Result Walked Refusal) (after : List ℕ)
+        → walked ≡ group_answer words' fields' message' position tag space (group_of words' 0 tag) → after ≡ group_space words' fields' message' position tag space (group_of words' 0 tag)
+        → (walked ≡ walked_of words fields message position tag space) × (after ≡ events_in words fields message position tag space)
+    table-taken words' fields' message' is-words are-fields is-message good walked after answers left =
+        table-accepted walked after (rw (are-fields, is-message) at good) (rw (is-words, are-fields, is-message) at answers) (rw (is-words, are-fields, is-message) at left)
+
   module _ (found : Option ℕ) (found_is : number_found 0 found ≡ group_of words 0 tag) where
     pub refused-group : found ≡ None
         → (Err (NoSuchGroup tag) ≡ group_answer words fields message position tag space (group_of words 0 tag)) × (space ≡ group_space words fields message position tag space (group_of words 0 tag))

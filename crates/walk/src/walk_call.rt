@@ -1,20 +1,16 @@
 // The walk of a top group on lent words: a call that refuses what it cannot walk, and else writes the events of the walk. Ported from walk.rs,
 // `walk_group` with a recording visitor.
-ghost use Rattle.std.specs.Prelude.{◌≡◌, ◌≤◌, ◌<◌, length};
-ghost use Rattle.layouts.specs.Limits.{gate_limits};
-ghost use Rattle.layouts.specs.LayoutCheckFacts.{Passed};
+ghost use Rattle.std.specs.Prelude.{◌≡◌, ◌<◌};
+ghost use Rattle.layouts.specs.LayoutWords.{group_count};
 ghost use Rattle.field_table.specs.FieldTable.{row_count};
-ghost use Rattle.field_table.specs.FieldTableLaws.{AcceptedTable};
-ghost use Rattle.group_walk.specs.WalkPromises.{Accepted};
 ghost use Rattle.walk_steps.specs.WalkWords.{group_of};
 ghost use Rattle.walk.specs.WalkCall.{top_walk, space_answer, space_with, group_answer, group_space, walked_of, events_in};
 ghost use Rattle.group_walk.specs.WalkPromises.{most_words};
 
-use field_table::field_table::check_field_table;
-use layout_check::layout_check::is_layout;
-use layouts::layout_words::members_at;
+use field_table::field_table::FieldTable;
+use layout_check::layout_check::layout_of;
+use layouts::layout_words::Layout;
 use refusals::refusal::Refusal;
-use walk_steps::group_steps::row_count;
 use walk_steps::layout_input::top_group;
 
 // What the call answers.
@@ -25,11 +21,10 @@ pub struct Walked {
 }
 
 // As many words as a walk from the position on can need: five for each of 5 N - 2 events, where N fields are left.
-fn most_words(fields: &[u32], position: usize) -> usize
-    requires { row_count fields.now ≤ 4096 }
-    ensures { result ≡ most_words (row_count fields.now) position }
+fn most_words(table: &FieldTable<'_>, position: usize) -> usize
+    ensures { result ≡ most_words (row_count table.now.fields.now) position }
 {
-    let rows = row_count(fields);
+    let rows = table.len();
     if rows <= position {
         return 0;
     }
@@ -39,23 +34,23 @@ fn most_words(fields: &[u32], position: usize) -> usize
 
 // The walk where the event space may be short: a pass that is lent no space counts the words that are needed.
 fn count_first(
-    layout: &[u32],
-    fields: &[u32],
-    message: &[u8],
+    table: &FieldTable<'_>,
+    layout: &Layout<'_>,
     position: usize,
     group: usize,
     events: &mut [u64],
 ) -> Result<Walked, Refusal>
-    requires { Accepted layout.now fields.now message.now group }
-    ensures outcome { result ≡ space_answer (top_walk layout.now fields.now message.now group position) events.old }
-    ensures memory { events.new ≡ space_with (top_walk layout.now fields.now message.now group position) events.old }
+    requires { group < group_count layout.now.words.now }
+    ensures outcome { result ≡ space_answer (top_walk layout.now.words.now
+        table.now.fields.now table.now.message.now group position) events.old }
+    ensures memory { events.new ≡ space_with (top_walk layout.now.words.now
+        table.now.fields.now table.now.message.now group position) events.old }
 {
-    let top = members_at(layout, 0);
+    let top = layout.members_at(0);
     let counted = group_walk::group_walk::walk_group(
-        fields,
-        message,
+        table,
         layout,
-        top,
+        &top,
         group,
         position,
         0,
@@ -67,7 +62,7 @@ fn count_first(
         return Err(Refusal::SpaceShort(needed as u64));
     }
     let end = group_walk::group_walk::walk_group(
-        fields, message, layout, top, group, position, 0, events, 0,
+        table, layout, &top, group, position, 0, events, 0,
     );
     Ok(Walked {
         position: end.next,
@@ -77,28 +72,27 @@ fn count_first(
 
 // The walk of a top group, once the lent words are accepted: one pass where the event space holds whatever it may need.
 fn walk_top(
-    layout: &[u32],
-    fields: &[u32],
-    message: &[u8],
+    table: &FieldTable<'_>,
+    layout: &Layout<'_>,
     position: usize,
     tag: u32,
     events: &mut [u64],
 ) -> Result<Walked, Refusal>
-    requires passed { Passed gate_limits layout.now }
-    requires accepted_table { AcceptedTable fields.now (length message.now) }
-    ensures outcome { result ≡ group_answer layout.now fields.now message.now position tag events.old (group_of layout.now 0 tag) }
-    ensures memory { events.new ≡ group_space layout.now fields.now message.now position tag events.old (group_of layout.now 0 tag) }
+    ensures outcome { result ≡ group_answer layout.now.words.now table.now.fields.now
+        table.now.message.now position tag events.old (group_of layout.now.words.now 0 tag) }
+    ensures memory { events.new ≡ group_space layout.now.words.now table.now.fields.now
+        table.now.message.now position tag events.old (group_of layout.now.words.now 0 tag) }
 {
     let Some(group) = top_group(layout, tag) else {
         return Err(Refusal::NoSuchGroup(tag));
     };
-    let most = most_words(fields, position);
+    let most = most_words(table, position);
     if events.len() < most {
-        return count_first(layout, fields, message, position, group, events);
+        return count_first(table, layout, position, group, events);
     }
-    let top = members_at(layout, 0);
+    let top = layout.members_at(0);
     let end = group_walk::group_walk::walk_group(
-        fields, message, layout, top, group, position, 0, events, 0,
+        table, layout, &top, group, position, 0, events, 0,
     );
     Ok(Walked {
         position: end.next, // the first field after the group
@@ -119,9 +113,7 @@ pub fn walk_group(
     ensures outcome { result ≡ walked_of layout.now fields.now message.now position tag events.old }
     ensures memory { events.new ≡ events_in layout.now fields.now message.now position tag events.old }
 {
-    if !is_layout(layout) {
-        return Err(Refusal::RuleBroken(0, 0));
-    }
-    check_field_table(fields, message.len())?;
-    walk_top(layout, fields, message, position, tag, events)
+    let layout = layout_of(layout).ok_or(Refusal::RuleBroken(0, 0))?;
+    let table = FieldTable::new(fields, message)?;
+    walk_top(&table, &layout, position, tag, events)
 }

@@ -2,42 +2,34 @@
 -- `GroupWritten`, and the laws those of specs/WalkLoops.antt; `scan_wide` differs from `scan_entry` in the number of words of its set.
 use mathlib.Core.Path.{◌≡◌, sym, ap, ◌∙◌}
 use Prim.Native.Nat.{◌+◌, ◌-◌, ◌*◌, ◌≤◌}
-use mathlib.Core.List.{List}
-use native.Mathlib.Omega.{arith}
-use lib.ListN.{length}
-use Rattle.entry_tags.specs.EntryTags.{rank_count}
-use Rattle.events.specs.EventSpaceLaws.{wrote-length}
 use Rattle.field_table.specs.FieldTable.{row_count}
-use Rattle.walk_steps.specs.WalkWordsLaws.{level-searches, level-ascends, level-length, members-few_here}
-use Rattle.walk_steps.specs.WordStepsLaws.{level-step, level-turn, entry-stops, entry-plain, entry-nested, turn-over, turn-entry, turn-lead}
-use Rattle.group_walk.specs.WalkLoops.{EntryWritten, entry-starts, field_inside, rank_low, repeat_room, entry-adds_plain, inner-valid, nested-moves, entry-adds_nested, entry-stopped, GroupWritten, group-starts, entry-opens, lead-opens, one-opens, group-ended, walk_outside, walk_too_deep, begun-room}
-use borrow.Author.Rules.{rules}
+use Rattle.group_walk.specs.WalkLoops.{EntryWritten, GroupWritten}
 use Prim.Native.Nat.{ℕ, ◌<◌}
 use Rattle.group_walk.proofs.group_walk.+scan_entry_scan_wide_walk_group.Given as goal
 
 abbrev pub decreases-scan_entry : goal.decreases-scan_entry
-decreases-scan_entry l = (row_count l.fields.now - l.start) + (33 - l.depth)
+decreases-scan_entry l = (row_count l.table.now.fields.now - l.start) + (33 - l.depth)
 
 abbrev pub decreases-scan_wide : goal.decreases-scan_wide
-decreases-scan_wide l = (row_count l.fields.now - l.start) + (33 - l.depth)
+decreases-scan_wide l = (row_count l.table.now.fields.now - l.start) + (33 - l.depth)
 
 abbrev pub decreases-walk_group : goal.decreases-walk_group
-decreases-walk_group l = (row_count l.fields.now - l.index) + (33 - l.depth)
+decreases-walk_group l = (row_count l.table.now.fields.now - l.index) + (33 - l.depth)
 
 abbrev pub invariant-scan_entry-loop-rank : goal.invariant-scan_entry-loop-rank
-invariant-scan_entry-loop-rank l = EntryWritten l.words l.fields l.message l.group l.start l.depth l.initial.events l.at 4 l.events l.seen.words l.cursor l.unparseable l.to
+invariant-scan_entry-loop-rank l = EntryWritten l.layout.words.now l.table.fields.now l.table.message.now l.group l.start l.depth l.initial.events l.at 4 l.events l.seen.words l.cursor l.unparseable l.to
 
 abbrev pub decreases-scan_entry-loop-rank : goal.decreases-scan_entry-loop-rank
-decreases-scan_entry-loop-rank l = row_count l.fields - l.cursor
+decreases-scan_entry-loop-rank l = row_count l.table.fields.now - l.cursor
 
 abbrev pub invariant-scan_wide-loop-rank : goal.invariant-scan_wide-loop-rank
-invariant-scan_wide-loop-rank l = EntryWritten l.words l.fields l.message l.group l.start l.depth l.initial.events l.at 128 l.events l.seen.words l.cursor l.unparseable l.to
+invariant-scan_wide-loop-rank l = EntryWritten l.layout.words.now l.table.fields.now l.table.message.now l.group l.start l.depth l.initial.events l.at 128 l.events l.seen.words l.cursor l.unparseable l.to
 
 abbrev pub decreases-scan_wide-loop-rank : goal.decreases-scan_wide-loop-rank
-decreases-scan_wide-loop-rank l = row_count l.fields - l.cursor
+decreases-scan_wide-loop-rank l = row_count l.table.fields.now - l.cursor
 
 abbrev pub invariant-walk_group-loop-member : goal.invariant-walk_group-loop-member
-invariant-walk_group-loop-member l = GroupWritten l.words l.fields l.message l.enclosing l.group l.index l.depth l.initial.events l.initial.to l.events l.to l.cursor l.entries l.unparseable
+invariant-walk_group-loop-member l = GroupWritten l.layout.words.now l.table.fields.now l.table.message.now l.enclosing.words.now l.group l.index l.depth l.initial.events l.initial.to l.events l.to l.cursor l.entries l.unparseable
 
 abbrev pub decreases-walk_group-loop-member : goal.decreases-walk_group-loop-member
-decreases-walk_group-loop-member l = row_count l.fields - l.cursor
+decreases-walk_group-loop-member l = row_count l.table.fields.now - l.cursor

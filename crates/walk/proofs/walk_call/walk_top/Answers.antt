@@ -1,34 +1,35 @@
 -- `walk::walk_call::walk_top` meets its contract. The laws are those of specs/WalkCallLaws.antt.
 use native.Mathlib.Omega.{arith}
-use Rattle.walk_steps.specs.WalkWordsLaws.{top-ascends}
+use Rattle.layouts.specs.Limits.{gate_limits}
+use Rattle.layouts.specs.LayoutCheckFacts.{is_layout-passed}
 use Rattle.walk.specs.WalkCallLaws.{refused-group, group-valid, group-found, needs_few, walk_answers}
 use borrow.Author.Rules.{rules}
 use Rattle.walk.proofs.walk_call.walk_top.Goals as goal
 
 pub returns-in_default : goal.returns-in_default
 returns-in_default c = record {
-  outcome = (refused-group c.args.layout.now c.args.fields.now c.args.message.now c.args.position c.args.tag c.args.events.now _ c.top_group.ensures.0 c.in_default.is).0;
-  memory = (refused-group c.args.layout.now c.args.fields.now c.args.message.now c.args.position c.args.tag c.args.events.now _ c.top_group.ensures.0 c.in_default.is).1;
+  outcome = (refused-group c.args.layout.now.words.now c.args.table.now.fields.now c.args.table.now.message.now c.args.position c.args.tag c.args.events.now _ c.top_group.ensures c.in_default.is).0;
+  memory = (refused-group c.args.layout.now.words.now c.args.table.now.fields.now c.args.table.now.message.now c.args.position c.args.tag c.args.events.now _ c.top_group.ensures c.in_default.is).1;
 }
 
 -- return count_first(layout, fields, message, position, group, events);
 pub count_first-requires : goal.count_first-requires
-count_first-requires c = record { passed = c.requires.passed; few_groups_lem = c.top_group.ensures.1; valid = (group-valid c.args.layout.now c.args.fields.now c.args.message.now c.args.position c.args.tag c.args.events.now _ c.top_group.ensures.0 _ c.in-Some.is c.requires.passed); table = c.requires.accepted_table }
+count_first-requires c = (group-valid c.args.layout.now.words.now c.args.table.now.fields.now c.args.table.now.message.now c.args.position c.args.tag c.args.events.now _ c.top_group.ensures _ c.in-Some.is (is_layout-passed gate_limits _ c.args.layout.now.passed))
 
 pub returns-then-events-most : goal.returns-then-events-most
 returns-then-events-most c = record {
-  outcome = (group-found c.args.layout.now c.args.fields.now c.args.message.now c.args.position c.args.tag c.args.events.now _ c.top_group.ensures.0 _ c.in-Some.is _ _ c.count_first.ensures.outcome c.count_first.ensures.memory).0;
-  memory = (group-found c.args.layout.now c.args.fields.now c.args.message.now c.args.position c.args.tag c.args.events.now _ c.top_group.ensures.0 _ c.in-Some.is _ _ c.count_first.ensures.outcome c.count_first.ensures.memory).1;
+  outcome = (group-found c.args.layout.now.words.now c.args.table.now.fields.now c.args.table.now.message.now c.args.position c.args.tag c.args.events.now _ c.top_group.ensures _ c.in-Some.is _ _ c.count_first.ensures.outcome c.count_first.ensures.memory).0;
+  memory = (group-found c.args.layout.now.words.now c.args.table.now.fields.now c.args.table.now.message.now c.args.position c.args.tag c.args.events.now _ c.top_group.ensures _ c.in-Some.is _ _ c.count_first.ensures.outcome c.count_first.ensures.memory).1;
 }
 
 -- let end = group_walk::group_walk::walk_group(
 pub walk_group-end-requires : goal.walk_group-end-requires
-walk_group-end-requires c = record { lent = record { passed = c.requires.passed; few_groups_lem = c.top_group.ensures.1; valid = (group-valid c.args.layout.now c.args.fields.now c.args.message.now c.args.position c.args.tag c.args.events.now _ c.top_group.ensures.0 _ c.in-Some.is c.requires.passed); table = c.requires.accepted_table }; around = top-ascends c.args.layout.now c.requires.passed _ c.members_at-top.ensures; shallow = omega arith; room = omega arith }
+walk_group-end-requires c = record { valid = (group-valid c.args.layout.now.words.now c.args.table.now.fields.now c.args.table.now.message.now c.args.position c.args.tag c.args.events.now _ c.top_group.ensures _ c.in-Some.is (is_layout-passed gate_limits _ c.args.layout.now.passed)); shallow = omega arith; room = omega arith }
 
 pub returns : goal.returns
 returns c = record {
-  outcome = (let answers = walk_answers c.args.layout.now c.args.fields.now c.args.message.now c.requires.passed _ c.args.position (group-valid c.args.layout.now c.args.fields.now c.args.message.now c.args.position c.args.tag c.args.events.now _ c.top_group.ensures.0 _ c.in-Some.is c.requires.passed) _ c.members_at-top.ensures _ _ _ _ c.walk_group-end.ensures (omega (arith, needs_few c.args.layout.now c.args.fields.now c.args.message.now c.requires.passed _ c.args.position (group-valid c.args.layout.now c.args.fields.now c.args.message.now c.args.position c.args.tag c.args.events.now _ c.top_group.ensures.0 _ c.in-Some.is c.requires.passed), c.most_words-most.ensures, c.if-events-most.false)) in
-      group-found c.args.layout.now c.args.fields.now c.args.message.now c.args.position c.args.tag c.args.events.now _ c.top_group.ensures.0 _ c.in-Some.is _ _ answers.0 answers.1).0;
-  memory = (let answers = walk_answers c.args.layout.now c.args.fields.now c.args.message.now c.requires.passed _ c.args.position (group-valid c.args.layout.now c.args.fields.now c.args.message.now c.args.position c.args.tag c.args.events.now _ c.top_group.ensures.0 _ c.in-Some.is c.requires.passed) _ c.members_at-top.ensures _ _ _ _ c.walk_group-end.ensures (omega (arith, needs_few c.args.layout.now c.args.fields.now c.args.message.now c.requires.passed _ c.args.position (group-valid c.args.layout.now c.args.fields.now c.args.message.now c.args.position c.args.tag c.args.events.now _ c.top_group.ensures.0 _ c.in-Some.is c.requires.passed), c.most_words-most.ensures, c.if-events-most.false)) in
-      group-found c.args.layout.now c.args.fields.now c.args.message.now c.args.position c.args.tag c.args.events.now _ c.top_group.ensures.0 _ c.in-Some.is _ _ answers.0 answers.1).1;
+  outcome = (let answers = walk_answers c.args.layout.now.words.now c.args.table.now.fields.now c.args.table.now.message.now (is_layout-passed gate_limits _ c.args.layout.now.passed) _ c.args.position (group-valid c.args.layout.now.words.now c.args.table.now.fields.now c.args.table.now.message.now c.args.position c.args.tag c.args.events.now _ c.top_group.ensures _ c.in-Some.is (is_layout-passed gate_limits _ c.args.layout.now.passed)) _ c.members_at-top.ensures _ _ _ _ c.walk_group-end.ensures (omega (arith, needs_few c.args.layout.now.words.now c.args.table.now.fields.now c.args.table.now.message.now (is_layout-passed gate_limits _ c.args.layout.now.passed) _ c.args.position (group-valid c.args.layout.now.words.now c.args.table.now.fields.now c.args.table.now.message.now c.args.position c.args.tag c.args.events.now _ c.top_group.ensures _ c.in-Some.is (is_layout-passed gate_limits _ c.args.layout.now.passed)), c.most_words-most.ensures, c.if-events-most.false)) in
+      group-found c.args.layout.now.words.now c.args.table.now.fields.now c.args.table.now.message.now c.args.position c.args.tag c.args.events.now _ c.top_group.ensures _ c.in-Some.is _ _ answers.0 answers.1).0;
+  memory = (let answers = walk_answers c.args.layout.now.words.now c.args.table.now.fields.now c.args.table.now.message.now (is_layout-passed gate_limits _ c.args.layout.now.passed) _ c.args.position (group-valid c.args.layout.now.words.now c.args.table.now.fields.now c.args.table.now.message.now c.args.position c.args.tag c.args.events.now _ c.top_group.ensures _ c.in-Some.is (is_layout-passed gate_limits _ c.args.layout.now.passed)) _ c.members_at-top.ensures _ _ _ _ c.walk_group-end.ensures (omega (arith, needs_few c.args.layout.now.words.now c.args.table.now.fields.now c.args.table.now.message.now (is_layout-passed gate_limits _ c.args.layout.now.passed) _ c.args.position (group-valid c.args.layout.now.words.now c.args.table.now.fields.now c.args.table.now.message.now c.args.position c.args.tag c.args.events.now _ c.top_group.ensures _ c.in-Some.is (is_layout-passed gate_limits _ c.args.layout.now.passed)), c.most_words-most.ensures, c.if-events-most.false)) in
+      group-found c.args.layout.now.words.now c.args.table.now.fields.now c.args.table.now.message.now c.args.position c.args.tag c.args.events.now _ c.top_group.ensures _ c.in-Some.is _ _ answers.0 answers.1).1;
 }

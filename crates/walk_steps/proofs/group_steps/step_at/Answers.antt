@@ -6,22 +6,22 @@ use borrow.Author.Rules.{rules}
 use Rattle.walk_steps.proofs.group_steps.step_at.Goals as goal
 
 -- return EntryStep::Stop;
-pub returns-then-row_count-cursor : goal.returns-then-row_count-cursor
-returns-then-row_count-cursor c = step-outside _ _ _ _ _ _ _ (omega (arith, c.row_count.ensures, c.if-row_count-cursor.true))
+pub returns-then-len-cursor : goal.returns-then-len-cursor
+returns-then-len-cursor c = step-outside _ _ _ _ _ _ _ (omega (arith, c.len.ensures, c.if-len-cursor.true))
 
 pub returns-in_default : goal.returns-in_default
-returns-in_default c = step-foreign _ _ _ _ _ _ _ (omega (arith, c.row_count.ensures, c.if-row_count-cursor.false)) _ c.tag_at-tag.ensures (sym (c.binary_search.ensures.outcome c.requires.strictly_ascending) ∙ c.in_default.is)
+returns-in_default c = step-foreign _ _ _ _ _ _ _ (omega (arith, c.len.ensures, c.if-len-cursor.false)) _ c.tag_at-tag.ensures (sym c.binary_search.ensures ∙ c.in_default.is)
 
 pub returns-then-cursor-start : goal.returns-then-cursor-start
-returns-then-cursor-start c = step-taken _ _ _ _ _ _ _ (omega (arith, c.row_count.ensures, c.if-row_count-cursor.false)) _ c.tag_at-tag.ensures _ (sym (c.binary_search.ensures.outcome c.requires.strictly_ascending) ∙ c.in-Some.is)
-    (taken-first c.args.cursor c.args.start c.tag_at-tag.result c.args.delimiter c.if-cursor-start.true) _ c.taken_step.ensures
+returns-then-cursor-start c = step-taken _ _ _ _ _ _ _ (omega (arith, c.len.ensures, c.if-len-cursor.false)) _ c.tag_at-tag.ensures _ (sym c.binary_search.ensures ∙ c.in-Some.is)
+    (taken-first c.args.cursor c.args.start c.tag_at-tag.result c.args.level.now.delimiter c.if-cursor-start.true) _ c.taken_step.ensures
 
 -- return EntryStep::Stop;
-pub returns-then-tag-delimiter : goal.returns-then-tag-delimiter
-returns-then-tag-delimiter c = step-delimiter _ _ _ _ _ _ _ (omega (arith, c.row_count.ensures, c.if-row_count-cursor.false)) _ c.tag_at-tag.ensures _ (sym (c.binary_search.ensures.outcome c.requires.strictly_ascending) ∙ c.in-Some.is)
-    c.if-cursor-start.false c.if-tag-delimiter.true
+pub returns-then-tag-level : goal.returns-then-tag-level
+returns-then-tag-level c = step-delimiter _ _ _ _ _ _ _ (omega (arith, c.len.ensures, c.if-len-cursor.false)) _ c.tag_at-tag.ensures _ (sym c.binary_search.ensures ∙ c.in-Some.is)
+    c.if-cursor-start.false c.if-tag-level.true
 
 -- pub fn step_at(
 pub returns : goal.returns
-returns c = step-taken _ _ _ _ _ _ _ (omega (arith, c.row_count.ensures, c.if-row_count-cursor.false)) _ c.tag_at-tag.ensures _ (sym (c.binary_search.ensures.outcome c.requires.strictly_ascending) ∙ c.in-Some.is)
-    (taken-other c.args.cursor c.args.start c.tag_at-tag.result c.args.delimiter c.if-tag-delimiter.false) _ c.taken_step-2.ensures
+returns c = step-taken _ _ _ _ _ _ _ (omega (arith, c.len.ensures, c.if-len-cursor.false)) _ c.tag_at-tag.ensures _ (sym c.binary_search.ensures ∙ c.in-Some.is)
+    (taken-other c.args.cursor c.args.start c.tag_at-tag.result c.args.level.now.delimiter c.if-tag-level.false) _ c.taken_step-2.ensures
