@@ -1,7 +1,8 @@
 -- What the functions of a message walk ask and promise, in terms of the walk at the words' input (`MessageWords.antt`). The tags defined are given as a list
 -- of words. Assumes nothing.
 --
---   Lent defined words fields message   layout words that passed the check, an accepted field table, and the ascending tags of a dictionary
+--   Lent defined words fields message   layout words that passed the check, an accepted field table, and the ascending tags of a dictionary: what
+--                       the types `Layout`, `FieldTable` and `DefinedTags` hold of the lent words (`lent_of`)
 --   PlaceAsks, Placed   `walk_place`: the group that begins at a field, or foreign
 --   TurnAsks, Turned    `walk_field`: a turn of the loop
 --   Walked              `walk_fields`: the loop
@@ -28,9 +29,7 @@ pub record Lent (defined words fields message : List ℕ) : Type 0 where
   pub few_groups_lem : group_count words < 4294967296
   pub table : AcceptedTable fields (length message)
 
-pub record PlaceAsks (words fields message : List ℕ) (index tag at : ℕ) : Type 0 where
-  pub passed : Passed gate_limits words
-  pub table : AcceptedTable fields (length message)
+pub record PlaceAsks (fields : List ℕ) (index tag at : ℕ) : Type 0 where
   pub inside : index < row_count fields
   pub tag_is : tag ≡ tag_of fields index
   pub room : at ≤ 25 * index
@@ -40,8 +39,7 @@ pub record Placed (words fields message : List ℕ) (index tag : ℕ) (before af
   pub wrote : (defined : List ℕ) → Wrote before after at past (place_at (input_of words fields message) (level_of defined words) (group_of words 0 tag) index).events
   pub next_is : (defined : List ℕ) → next ≡ (place_at (input_of words fields message) (level_of defined words) (group_of words 0 tag) index).next
 
-pub record TurnAsks (defined words fields message seen : List ℕ) (index at : ℕ) : Type 0 where
-  pub lent : Lent defined words fields message
+pub record TurnAsks (fields seen : List ℕ) (index at : ℕ) : Type 0 where
   pub wide : length seen ≡ seen_words
   pub inside : index < row_count fields
   pub room : at ≤ 25 * index

@@ -2,16 +2,19 @@
 -- tags seen. Assumes nothing.
 --
 --   TurnsWritten ..   the loop of `walk_fields`: the turns before `index` are taken
-use Rattle.std.specs.Prelude.{◌≡◌, refl, ℕ, suc, ◌+◌, ◌*◌, ◌-◌, ◌/◌, ◌≤◌, ◌<◌, Bool, true, false, not, List, [], ◌∷◌, ◌++◌, length, Option, Some, None}
+use Rattle.std.specs.Prelude.{◌≡◌, refl, ℕ, suc, ◌+◌, ◌*◌, ◌-◌, ◌/◌, ◌≤◌, ◌<◌, Bool, true, false, not, List, [], ◌∷◌, ◌++◌, length, Option, Some, None, Ok}
 use Rattle.std.proofs.Common.{sym, ap, ◌∙◌, arith}
-use Rattle.ascending.specs.Search.{StrictlyAscending, rank_in}
+use Rattle.ascending.specs.Search.{StrictlyAscending, is_strictly_ascending, rank_in}
+use Rattle.ascending.specs.SearchLaws.{is_strictly_ascending-true}
 use Rattle.layouts.specs.Limits.{gate_limits}
 use Rattle.layouts.specs.LayoutWords.{group_count, level_members}
-use Rattle.layouts.specs.LayoutCheckFacts.{Passed}
+use Rattle.layouts.specs.LayoutCheck.{is_layout}
+use Rattle.layouts.specs.LayoutCheckFacts.{Passed, is_layout-passed}
 use Rattle.events.specs.declared.event.Kind.TheVariants.{Twice, Foreign}
 use Rattle.events.specs.declared.event.Event.{Event}
 use Rattle.ascii.specs.Membership.{◌∈ᵇ◌}
-use Rattle.field_table.specs.FieldTable.{row_count, tag_of}
+use Rattle.field_table.specs.FieldTable.{row_count, tag_of, table_check_of}
+use Rattle.field_table.specs.FieldTableLaws.{table_check_of-accepted}
 use Rattle.entry_tags.specs.EntryTags.{no_ranks, holds_rank, insert_rank}
 use Rattle.events.specs.EventSpaceLaws.{Wrote, wrote_none, wrote_then}
 use Rattle.group_reading.specs.GroupWalk.{walk_group}
@@ -26,6 +29,18 @@ use Rattle.message_level.specs.SeenTags.{seen_words, SeenTags}
 use Rattle.std.proofs.Math.Bool.{not-not}
 use Rattle.message_level.specs.SeenTagsLaws.{none-held, none_seen, not_defined, is-defined, rank_low, rank_held, rank_inserted}
 use Rattle.message_walk.specs.MessagePromises.{Lent, PlaceAsks, Placed, TurnAsks, Turned, Walked}
+
+-- ---- what the types hold of the lent words
+
+pub lent_of : {defined words fields message : List ℕ} → is_strictly_ascending defined ≡ true → length defined ≤ 10922 → is_layout gate_limits words ≡ true
+    → group_count words < 4294967296 → table_check_of fields (length message) ≡ Ok tt → Lent defined words fields message
+lent_of {defined} {words} {fields} {message} ascends few passed few_groups accepted = record {
+  ascends = is_strictly_ascending-true defined ascends;
+  few_tags_lem = few;
+  passed = is_layout-passed gate_limits words passed;
+  few_groups_lem = few_groups;
+  table = (table_check_of-accepted fields (length message)).0 accepted;
+}
 
 -- ---- twice and foreign, as code writes them
 
@@ -51,7 +66,7 @@ module _ (words : List ℕ) (passed : Passed gate_limits words) (top : List ℕ)
 
 -- ---- the field of a defined tag
 
-module _ (words fields message : List ℕ) (index tag at : ℕ) (asks : PlaceAsks words fields message index tag at) (found : Option ℕ)
+module _ (words fields message : List ℕ) (passed : Passed gate_limits words) (index tag at : ℕ) (asks : PlaceAsks fields index tag at) (found : Option ℕ)
     (found_is : number_found 0 found ≡ group_of words 0 tag) where
   pub place-plain : found ≡ None → (before after : List ℕ) (past : ℕ) → Wrote before after at past (foreign_unless (top_members words tag) tag)
       → Placed words fields message index tag before after at past (index + 1)
@@ -69,7 +84,7 @@ module _ (words fields message : List ℕ) (index tag at : ℕ) (asks : PlaceAsk
         sym found_is ∙ ap (number_found 0) there ∙ ap Some same
 
     pub group-valid : group < group_count words
-    group-valid = group_of_number words asks.passed 0 tag group (omega arith) number_there
+    group-valid = group_of_number words passed 0 tag group (omega arith) number_there
 
     pub place-group : (top : List ℕ) → top ≡ level_members words 0 → (before after : List ℕ) (past next : ℕ)
         → Walks words fields message top group index 0 before after at past next
@@ -81,13 +96,13 @@ module _ (words fields message : List ℕ) (index tag at : ℕ) (asks : PlaceAsk
 
 -- ---- a turn
 
-module _ (defined words fields message seen : List ℕ) (index at : ℕ) (asks : TurnAsks defined words fields message seen index at)
+module _ (defined words fields message : List ℕ) (lent : Lent defined words fields message) (seen : List ℕ) (index at : ℕ) (asks : TurnAsks fields seen index at)
     (tag : ℕ) (tag_is : tag ≡ tag_of fields index)
     (found : Option ℕ) (searched : StrictlyAscending defined → found ≡ rank_in defined tag) where
   pub turn-skips : found ≡ None → (space tags : List ℕ) → SeenTags defined seen tags
       → Turned defined words fields message tags index seen space space at at (index + 1)
   turn-skips nowhere space tags kept =
-      let unknown : among defined (tag_of fields index) ≡ false = rw (← tag_is) (not_defined defined asks.lent.ascends tag found searched nowhere) in
+      let unknown : among defined (tag_of fields index) ≡ false = rw (← tag_is) (not_defined defined lent.ascends tag found searched nowhere) in
       let turn = turn-undefined (input_of words fields message) (level_of defined words) tags index unknown in
       record {
         wrote = rw turn (wrote_none space at);
@@ -97,10 +112,10 @@ module _ (defined words fields message seen : List ℕ) (index at : ℕ) (asks :
 
   module _ (rank : ℕ) (there : found ≡ Some rank) where
     low : rank < length defined
-    low = rank_low defined asks.lent.ascends tag found searched rank there
+    low = rank_low defined lent.ascends tag found searched rank there
 
     pub rank_inside : rank / 64 < length seen
-    rank_inside = omega (arith, low, asks.lent.few_tags_lem, asks.wide)
+    rank_inside = omega (arith, low, lent.few_tags_lem, asks.wide)
 
     module _ (seen' : List ℕ) (fresh : Bool) (is-fresh : fresh ≡ not (holds_rank seen rank)) (inserted : seen' ≡ insert_rank seen rank)
         (before between : List ℕ) (to : ℕ) (wrote-twice : Wrote before between at to (twice_if (not fresh) tag)) where
@@ -111,7 +126,7 @@ module _ (defined words fields message seen : List ℕ) (index at : ℕ) (asks :
           go true held =
               let again : fresh ≡ false = is-fresh ∙ ap not held in
               let one : to ≡ at + 5 * 1 = wrote-twice.next_is ∙ rw again in
-              omega (arith, one, asks.again rank (omega (arith, low, asks.lent.few_tags_lem)) held)
+              omega (arith, one, asks.again rank (omega (arith, low, lent.few_tags_lem)) held)
           go false held =
               let new : fresh ≡ true = is-fresh ∙ ap not held in
               let none_written : to ≡ at + 5 * 0 = wrote-twice.next_is ∙ rw new in
@@ -120,13 +135,13 @@ module _ (defined words fields message seen : List ℕ) (index at : ℕ) (asks :
       pub turn-taken : (after : List ℕ) (past next : ℕ) → Placed words fields message index tag between after to past next → (tags : List ℕ) → SeenTags defined seen tags
           → Turned defined words fields message tags index seen' before after at past next
       turn-taken after past next placed tags kept =
-          let known : among defined (tag_of fields index) ≡ true = rw (← tag_is) (is-defined defined asks.lent.ascends tag found searched rank there) in
+          let known : among defined (tag_of fields index) ≡ true = rw (← tag_is) (is-defined defined lent.ascends tag found searched rank there) in
           let turn = turn-defined (input_of words fields message) (level_of defined words) tags index known in
           let repeats : not fresh ≡ tag ∈ᵇ tags =
-          ap not is-fresh ∙ not-not (holds_rank seen rank) ∙ rank_held defined asks.lent.ascends tag found searched rank there seen tags kept in
+          ap not is-fresh ∙ not-not (holds_rank seen rank) ∙ rank_held defined lent.ascends tag found searched rank there seen tags kept in
           record {
             wrote = rw (turn, ← tag_is, ← repeats) (wrote_then wrote-twice (placed.wrote defined));
-            kept = rw (turn, ← tag_is) (rank_inserted defined asks.lent.ascends tag found searched rank there seen tags kept seen' inserted);
+            kept = rw (turn, ← tag_is) (rank_inserted defined lent.ascends tag found searched rank there seen tags kept seen' inserted);
             next_is = rw (turn, ← tag_is) (placed.next_is defined);
           }
 
@@ -157,8 +172,8 @@ module _ (defined words fields message before : List ℕ) where
     }
 
     module _ (seen after : List ℕ) (index at : ℕ) (written : TurnsWritten seen after index at) where
-      pub turn-asks : index < row_count fields → TurnAsks defined words fields message seen index at
-      turn-asks inside = record { lent = lent; wide = written.kept.stands.wide; inside = inside; room = written.room; again = written.again }
+      pub turn-asks : index < row_count fields → TurnAsks fields seen index at
+      turn-asks inside = record { wide = written.kept.stands.wide; inside = inside; room = written.room; again = written.again }
 
       passes : index < row_count fields
           → Passes (row_count fields) index (turn_at (input_of words fields message) (level_of defined words) written.tags index).next

@@ -11,7 +11,7 @@ use borrow.Author.Rules.{rules}
 use Rattle.message_walk.proofs.message_walk.walk_fields.Given as goal
 
 abbrev pub invariant-loop-index : goal.invariant-loop-index
-invariant-loop-index l = TurnsWritten l.defined l.layout l.fields l.message l.initial.events l.seen l.events l.index l.at
+invariant-loop-index l = TurnsWritten l.defined.tags.words.now l.layout.words.now l.table.fields.now l.table.message.now l.initial.events l.seen l.events l.index l.at
 
 abbrev pub decreases-loop-index : goal.decreases-loop-index
-decreases-loop-index l = row_count l.fields - l.index
+decreases-loop-index l = row_count l.table.fields.now - l.index
