@@ -85,6 +85,20 @@ ascending-answer words false some_place = go (is_strictly_ascending words) refl
         absurd (omega (arith, above, not_above))
     go false ascends = refl
 
+pub ascends-empty : (words : List ℕ) → length words ≡ 0 → is_strictly_ascending words ≡ true
+unfolding is_strictly_ascending
+ascends-empty [] empty = refl
+ascends-empty (word ∷ rest) empty = absurd (omega arith)
+
+-- a word at any place that is not above the one before it
+pub ascends-stops : (words : List ℕ) (index : ℕ) → 0 < index → index < length words → get_or words index 0 ≤ get_or words (index - 1) 0
+    → is_strictly_ascending words ≡ false
+ascends-stops words index some_word inside not-above = go (is_strictly_ascending words) refl
+  where
+    go : (ascends : Bool) → is_strictly_ascending words ≡ ascends → is_strictly_ascending words ≡ false
+    go true ascends = absurd (omega (arith, strictly_places words (is_strictly_ascending-true words ascends) (index - 1) index (omega arith) inside))
+    go false ascends = ascends
+
 -- ---- rank_in
 
 rank_from-at : (index : ℕ) (words : List ℕ) (tag place : ℕ)

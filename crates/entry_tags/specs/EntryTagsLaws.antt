@@ -96,7 +96,7 @@ bit_cases bit word = go (word / 2 ^ bit % 2) refl (omega arith)
         let mask : bit_and word (2 ^ bit) ≡ 1 * 2 ^ bit = and-mask_is bit word ∙ ap (λ (number : ℕ). number * 2 ^ bit) one in
         rw (one, ne_eqb (bit_and word (2 ^ bit)) 0 (λ (none-set : bit_and word (2 ^ bit) ≡ 0). omega (arith, mask, none-set, pow_pos bit)))
 
--- ---- the test of a rank, as code makes it
+-- ---- the test of a rank, and the setting of its bit, as code makes them
 
 module _ (words : List ℕ) (rank : ℕ) where
   pub fresh_is : eqb (bit_and (get_or words (rank / 64) 0) (2 ^ (rank % 64))) 0 ≡ not (holds_rank words rank)
@@ -105,6 +105,10 @@ module _ (words : List ℕ) (rank : ℕ) where
 
   pub holds-is : not (eqb (bit_and (get_or words (rank / 64) 0) (2 ^ (rank % 64))) 0) ≡ holds_rank words rank
   holds-is = ap not fresh_is ∙ not-not (holds_rank words rank)
+
+  pub inserted-is : set words (rank / 64) (bit_or (get_or words (rank / 64) 0) (2 ^ (rank % 64))) ≡ insert_rank words rank
+  unfolding insert_rank
+  inserted-is = refl
 
 -- ---- the same by the words one by one, each with its mask
 

@@ -65,6 +65,28 @@ gather_room size trace members required tags rows small short few one two three 
   few = omega (arith, few);
 }
 
+-- the memory of a size that is small, and the most
+pub short-room : (size : ℕ) → size ≤ 1024 → (trace : List ℕ) → length trace ≤ size → (members required tags rows : List ℕ)
+    → length members ≡ size
+    → length required ≡ size
+    → length tags ≡ size
+    → length rows ≡ 6 * size + 6
+    → GatherRoom trace members required tags rows
+short-room size small trace short members required tags rows one two three four =
+    let few = short-levels size trace short in
+    gather_room size trace members required tags rows (omega arith) short (omega (arith, few)) one two three (omega (arith, few, four))
+
+pub long_room : (trace members required tags rows : List ℕ)
+    → length trace ≤ 14336
+    → level_count trace ≤ 4097
+    → length members ≡ 14336
+    → length required ≡ 14336
+    → length tags ≡ 14336
+    → length rows ≡ 24582
+    → GatherRoom trace members required tags rows
+long_room trace members required tags rows short few one two three four =
+    gather_room 14336 trace members required tags rows (omega arith) short few one two three (omega (arith, few, four))
+
 -- ---- arrange
 
 module _ (trace members required rows : List ℕ) (nodes : ℕ) (all : Gathering) (gathered : GatheredIn trace members required rows all)

@@ -552,3 +552,12 @@ module _ (text : List ℕ) (first : ℕ) (rows starts : List ℕ) (groups next d
         put = rw at (groups-more text rows starts groups so_far.done new_rows new_starts count so_far.put tag delimiter flag later after inside room put stored);
         rest = opened none ∙ sym (append_assoc so_far.done (start_of tag delimiter flag (lines_at text later) ∷ []) (blocks_in 1 (lines_at text later)));
       }
+
+-- ---- an accepted text has no other line
+
+pub counts-no_other : (text : List ℕ) (first members required groups : ℕ) → CountsSoFar text first members required groups → (line : LevelLine) (next : ℕ)
+    → lines_at text first ≡ line ∷ lines_at text next
+    → line ≡ OtherLine
+    → ⊥
+counts-no_other text first members required groups so_far line next reads is =
+    rw (reads ∙ ap {B = List LevelLine} (λ (each : LevelLine). each ∷ lines_at text next) is) at so_far.order

@@ -115,3 +115,9 @@ module _ (text : List ℕ) (first : ℕ) (state : LevelState) (lines : ℕ) (so_
             few_lines = omega (arith, bounds, so_far.few_lines);
             rest = so_far.rest ∙ levels_go_on state lines text first past so_far.within found before-end line reads next taken;
           }
+
+-- ---- close_open: at most 40 group blocks stay open
+
+close_open_depth : (state : LevelState) (number : ℕ) → state.depth ≤ 40 → (count : ℕ) → FewOpen (close_open count state number)
+close_open_depth state number within count =
+    few-either (eqb count (get_or state.counts (state.depth - 1) 0)) (Ok (level Blocks (state.depth - 1) state.counts)) (Err (NotAllowed number)) (omega arith) tt

@@ -3,7 +3,7 @@
 --   TagsWritten ..     the loop of `put_missing_tags`: the tags before `index` are looked at
 --   GroupsWritten ..   the loop of `put_missing_groups`: the groups before `number` are
 use Rattle.std.specs.Prelude.{◌≡◌, refl, ℕ, zero, suc, ◌+◌, ◌*◌, ◌≤◌, ◌<◌, Bool, true, false, not, ◌&&◌, List, [], ◌∷◌, ◌++◌, eqb, length, get_or, take, if◌then◌else◌}
-use Rattle.std.proofs.Common.{sym, ap, ◌∙◌, append_assoc, append-nil, arith, add-one, take-suc, eq-eqb, ne_eqb}
+use Rattle.std.proofs.Common.{sym, ap, ◌∙◌, append_assoc, append-nil, arith, add-one, take-suc, take_all, eq-eqb, ne_eqb}
 use Rattle.ascii.specs.Notation.{◌≡ᵇ◌}
 use Rattle.layouts.specs.Limits.{gate_limits}
 use Rattle.layouts.specs.LayoutWords.{required_places, group_count, level_required, level_count_tags, count_tag_at, flag_at}
@@ -171,3 +171,20 @@ module _ (words : List ℕ) (passed : Passed gate_limits words) where
 
   pub groups-part_few : (tags : List ℕ) → tags ≡ level_count_tags words 0 → length tags ≤ group_count words
   groups-part_few tags are-tags = rw are-tags (omega (arith, groups-few words passed 0 (omega arith)))
+
+-- ---- the ends of both loops
+
+module _ (defined seen required before : List ℕ) (at : ℕ) {after : List ℕ} {index to : ℕ} (written : TagsWritten defined seen required before at after index to) where
+  pub tags-over : length required ≤ index → (tags : List ℕ) → SeenTags defined seen tags → Wrote before after at to (missing_tags tags required)
+  tags-over over tags kept = rw (take_all index required over) at (written.wrote tags kept)
+
+  pub tags-near : index ≤ length required → to ≤ at + 5 * length required
+  tags-near within = omega (arith, written.near)
+
+pub groups-over : (defined seen words before : List ℕ) (at : ℕ) (groups : ℕ) {after : List ℕ} {number to : ℕ} → GroupsWritten defined seen words before at after number to
+    → number ≤ groups
+    → groups ≤ number
+    → (tags : List ℕ) → SeenTags defined seen tags → Wrote before after at to (missing_groups tags (required_from words 0 groups))
+groups-over defined seen words before at groups {number = number} written within over tags kept =
+    let all : number ≡ groups = omega arith in
+    rw all at (written.wrote tags kept)

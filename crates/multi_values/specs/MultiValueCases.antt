@@ -5,7 +5,7 @@ use Rattle.ascii.specs.Notation.{is_between}
 use Rattle.ascii.specs.Bytes.{ascii, non_empty}
 use Rattle.characters.specs.Characters.{expected_after, continues, characters_from, characters}
 use Rattle.ascii.specs.Split.{with_first, split, every_part}
-use Rattle.multi_values.specs.MultiValue.{is_token, is_multi_value_list}
+use Rattle.multi_values.specs.MultiValue.{is_multi_value_list}
 
 pub record MultiValueCases : Type 0 where
   pub two_tokens : is_multi_value_list (Some 1) (ascii "A B") ≡ true
