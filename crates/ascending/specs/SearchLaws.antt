@@ -90,6 +90,10 @@ unfolding is_strictly_ascending
 ascends-empty [] empty = refl
 ascends-empty (word ∷ rest) empty = absurd (omega arith)
 
+-- each word is above the one before it
+pub ascends-ends : (words : List ℕ) → ((place : ℕ) → suc place < length words → get_or words place 0 < get_or words (suc place) 0) → is_strictly_ascending words ≡ true
+ascends-ends words each = strictly_is_strictly_ascending words (strictly_by_places words each)
+
 -- a word at any place that is not above the one before it
 pub ascends-stops : (words : List ℕ) (index : ℕ) → 0 < index → index < length words → get_or words index 0 ≤ get_or words (index - 1) 0
     → is_strictly_ascending words ≡ false

@@ -1,5 +1,5 @@
 -- Laws of `Date.antt`, in its order. Assumes nothing.
-use Rattle.std.specs.Prelude.{◌≡◌, refl, ℕ, suc, ◌-◌, ◌≤◌, ◌<◌, true, false, ◌&&◌, List, [], ◌∷◌, eqb, length, get_or, take, drop}
+use Rattle.std.specs.Prelude.{◌≡◌, refl, ℕ, zero, suc, ◌-◌, ◌≤◌, ◌<◌, true, false, ◌&&◌, List, [], ◌∷◌, eqb, length, get_or, take, drop}
 use Rattle.std.proofs.Math.Path.{ap}
 use Rattle.std.proofs.Common.{◌∙◌, arith, take_all, length-drop}
 use Rattle.std.proofs.lemmas.Bool.{false≢true}
@@ -45,6 +45,27 @@ has_picture_length (letter ∷ letters) (byte ∷ rest) holds = ap suc (has_pict
 pub has_picture_short : (picture value : List ℕ) (len : ℕ) → length picture ≡ len → length value < len → has_picture picture (take len value) ≡ false
 has_picture_short picture value len long short =
     rw (take_all len value (omega arith), has_picture_other_length picture value (λ same. omega arith))
+
+-- a byte at any place that the picture's letter does not stand for
+pub picture_fails : (picture value : List ℕ) (index : ℕ) → index < length value → stands_for (get_or picture index 0) (get_or value index 0) ≡ false
+    → has_picture picture value ≡ false
+unfolding has_picture
+picture_fails [] [] index inside other = absurd (omega arith)
+picture_fails [] (byte ∷ rest) index inside other = refl
+picture_fails (letter ∷ letters) [] index inside other = refl
+picture_fails (letter ∷ letters) (byte ∷ rest) zero inside other = rw other
+picture_fails (letter ∷ letters) (byte ∷ rest) (suc index) inside other =
+    rw (picture_fails letters rest index (omega arith) other, and-false (stands_for letter byte))
+
+pub picture_holds : (picture value : List ℕ) → length value ≡ length picture
+    → ((index : ℕ) → index < length value → stands_for (get_or picture index 0) (get_or value index 0) ≡ true)
+    → has_picture picture value ≡ true
+unfolding has_picture
+picture_holds [] [] same stands = refl
+picture_holds [] (byte ∷ rest) same stands = absurd (omega arith)
+picture_holds (letter ∷ letters) [] same stands = absurd (omega arith)
+picture_holds (letter ∷ letters) (byte ∷ rest) same stands =
+    rw (stands 0 (omega arith)) (picture_holds letters rest (omega arith) (λ index inside. stands (suc index) (omega arith)))
 
 -- the picture and the value, byte by byte
 pub has_picture_zip : (picture value : List ℕ) → length value ≡ length picture

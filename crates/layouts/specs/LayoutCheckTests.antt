@@ -16,7 +16,9 @@ use Rattle.ascii.specs.NotationLaws.{and-false}
 use Rattle.ascii.specs.Bytes.{every}
 use Rattle.ascii.specs.BytesLaws.{non_empty-none, non_empty-some}
 use Rattle.layouts.specs.Limits.{Limits}
+use Rattle.ascending.specs.Sort.{is_in}
 use Rattle.layouts.specs.LayoutRules.{◌∈ᵇ◌}
+use Rattle.layouts.specs.LayoutRulesLaws.{member-later}
 use Rattle.layouts.specs.LayoutCheck.{never_falls, is_run, is_ahead, member_places_hold, required_places_hold, group_places_hold, is_flag, all_levels_hold, all_delimiters_hold, is_layout_of, is_layout}
 use Rattle.layouts.specs.LayoutCheckLaws.{is_in-any}
 
@@ -34,11 +36,17 @@ run-falls first [] index inside below = refl
 run-falls first (place ∷ rest) index inside below =
     rw (never_falls-falls place rest index (omega arith) (rw add-one at below), and-false (eqb place first))
 
--- ---- _∈ᵇ_: a member at any place
+-- ---- _∈ᵇ_: a member at any place, or at none
 
 pub member-found : (tag : ℕ) (members : List ℕ) (index : ℕ) → index < length members → get_or members index 0 ≡ tag → tag ∈ᵇ members ≡ true
 member-found tag members index inside same =
     sym (is_in-any tag members) ∙ list_any_at (λ member. eqb member tag) members index 0 inside (eq-eqb (get_or members index 0) tag same)
+
+pub member-ends : (tag : ℕ) (members : List ℕ) → ((index : ℕ) → index < length members → get_or members index 0 ≡ tag → ⊥) → tag ∈ᵇ members ≡ false
+unfolding is_in
+member-ends tag [] nowhere = refl
+member-ends tag (member ∷ rest) nowhere =
+    member-later tag member rest (nowhere 0 (omega arith)) ∙ member-ends tag rest (λ index inside. nowhere (suc index) (omega arith))
 
 -- ---- the three rows of places
 
