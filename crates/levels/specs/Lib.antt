@@ -4,3 +4,4 @@
 pub mod Members
 pub mod MembersLaws
 pub mod MembersLayout
+pub mod ReadLevelLaws
