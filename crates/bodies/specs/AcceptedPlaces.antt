@@ -11,18 +11,20 @@
 --   is_definition line         a line `def=TAG,TYPE` or `value=V`
 --   Parted lines header       the lines before this place are definitions, and no other
 --   accepted-parted           the definitions of accepted lines stand before their header, and none behind it
-use Rattle.std.specs.Prelude.{◌≡◌, Bool, true, false, ◌&&◌, ◌||◌, cond, leb, ltb, eqb, length, get_or, drop, Option, Some, None}
+use Rattle.std.specs.Prelude.{◌≡◌, Bool, true, false, ◌&&◌, ◌||◌, cond, leb, ltb, eqb, length, get_or, drop, Option, Some, None, Err}
 use Rattle.std.proofs.Math.Path.{refl}
 use Rattle.std.proofs.Common.{sym, ap, ◌∙◌, arith, add-one, leb-true, leb-false, ltb-true, ltb-false, eqb-true, ne_eqb}
 use Prim.Native.Nat.{ℕ, zero, suc, ◌+◌, ◌-◌, ◌≤◌, ◌<◌}
 use Rattle.std.proofs.lemmas.Bool.{false≢true}
 use mathlib.Core.List.{List, [], ◌∷◌}
-use Rattle.ascii.specs.Notation.{is_between}
 use Rattle.ascii.specs.NotationLaws.{and_left, and_right, is_between-range}
 use Rattle.line_forms.specs.declared.line.Line.{Line}
 use Rattle.line_forms.specs.declared.line.Line.TheVariants.{Def, Value, BeginHeader, BeginTrailer, EndHeader, EndTrailer, Component, Message, Field, Group, Use, End, Member, RequiredTag, Unknown}
+use Rattle.refusals.specs.declared.refusal.Refusal.TheVariants.{NotAllowed}
 use Rattle.dictionary_order.specs.declared.dictionary_order.State.{State}
-use Rattle.dictionary_order.specs.DictionaryOrder.{start, standing, taken, not_allowed, opened_block, closed_block, used_in, is_number, is_letters, open_group, end_step, step_of}
+use Rattle.dictionary_order.specs.declared.dictionary_order.Stage.TheVariants.{Beginning, Definitions, AfterHeader, AfterTrailer, AfterMessage, InHeader, InTrailer, InComponent, InMessage}
+use Rattle.dictionary_order.specs.declared.dictionary_order.Part.TheVariants.{Fields, Groups, Uses}
+use Rattle.dictionary_order.specs.DictionaryOrder.{stage_number, part_number, is_at, is_from, goes_on_with, start, standing, allowed_if, after, opened_block, closed_block, used_in, is_name, open_group, end_step, step_of}
 use Rattle.dictionary.specs.DictionaryWords.{is_of, name_of, place_of}
 use Rattle.dictionary.specs.DictionaryCheck.{is_taken, accepts}
 use Rattle.records.specs.LineLengths.{length_of}
@@ -33,38 +35,38 @@ use Rattle.bodies.specs.DictionaryPlaces.{SomeBody, OneBody, OnlyUses, InPlace, 
 -- ---- the state behind a line
 
 pub record Standing (state : State) : Type 0 where
-  pub known : state.stage ≤ 8
-  pub no_part : state.stage ≤ 4 → state.part ≡ 3
-  pub no_depth : state.stage ≤ 4 → state.depth ≡ 0
-  pub some_part : 5 ≤ state.stage → state.part ≤ 2
+  pub known : stage_number state.stage ≤ 8
+  pub no_part : stage_number state.stage ≤ 4 → part_number state.part ≡ 3
+  pub no_depth : stage_number state.stage ≤ 4 → state.depth ≡ 0
+  pub some_part : 5 ≤ stage_number state.stage → part_number state.part ≤ 2
 
 -- the line that ends a block
 data Closes (state next : State) : Type 0 where
-  group_ends_lem : 0 < state.depth → next.stage ≡ state.stage → next.part ≡ 1 → next.depth ≡ state.depth - 1 → Closes state next
-  block_ends : state.depth ≡ 0 → 7 ≤ state.stage → next.stage ≤ 4 → 3 ≤ next.stage → next.part ≡ 3 → next.depth ≡ 0 → Closes state next
+  group_ends_lem : 0 < state.depth → stage_number next.stage ≡ stage_number state.stage → part_number next.part ≡ 1 → next.depth ≡ state.depth - 1 → Closes state next
+  block_ends : state.depth ≡ 0 → 7 ≤ stage_number state.stage → stage_number next.stage ≤ 4 → 3 ≤ stage_number next.stage → part_number next.part ≡ 3 → next.depth ≡ 0 → Closes state next
 
 -- a block is open, its body before the first line
 abbrev Opens : ℕ → State → Type 0
-Opens stage next = (next.stage ≡ stage) × ((next.part ≡ 0) × (next.depth ≡ 0))
+Opens stage next = (stage_number next.stage ≡ stage) × ((part_number next.part ≡ 0) × (next.depth ≡ 0))
 
 -- no block is open
 abbrev Outside : ℕ → State → Type 0
-Outside stage next = (next.stage ≡ stage) × ((next.part ≡ 3) × (next.depth ≡ 0))
+Outside stage next = (stage_number next.stage ≡ stage) × ((part_number next.part ≡ 3) × (next.depth ≡ 0))
 
 abbrev Moves : Line → State → State → Type 0
-Moves (Def tag place) state next = (state.stage ≤ 1) × Outside 1 next
-Moves (Value admitted) state next = (state.stage ≡ 1) × (next ≡ state)
-Moves BeginHeader state next = (state.stage ≤ 1) × Opens 5 next
-Moves BeginTrailer state next = (state.stage ≡ 2) × Opens 6 next
-Moves EndHeader state next = ((state.stage ≡ 5) × (state.depth ≡ 0)) × Outside 2 next
-Moves EndTrailer state next = ((state.stage ≡ 6) × (state.depth ≡ 0)) × Outside 3 next
-Moves (Component name) state next = (state.stage ≡ 3) × Opens 7 next
-Moves (Message letters app) state next = ((3 ≤ state.stage) × (state.stage ≤ 4)) × Opens 8 next
-Moves (Field tag required) state next = (state.part ≡ 0) × (next ≡ state)
+Moves (Def tag place) state next = (stage_number state.stage ≤ 1) × Outside 1 next
+Moves (Value admitted) state next = (stage_number state.stage ≡ 1) × (next ≡ state)
+Moves BeginHeader state next = (stage_number state.stage ≤ 1) × Opens 5 next
+Moves BeginTrailer state next = (stage_number state.stage ≡ 2) × Opens 6 next
+Moves EndHeader state next = ((stage_number state.stage ≡ 5) × (state.depth ≡ 0)) × Outside 2 next
+Moves EndTrailer state next = ((stage_number state.stage ≡ 6) × (state.depth ≡ 0)) × Outside 3 next
+Moves (Component name) state next = (stage_number state.stage ≡ 3) × Opens 7 next
+Moves (Message letters app) state next = ((3 ≤ stage_number state.stage) × (stage_number state.stage ≤ 4)) × Opens 8 next
+Moves (Field tag required) state next = (part_number state.part ≡ 0) × (next ≡ state)
 Moves (Group count delimiter required) state next =
-    (state.part ≤ 1) × ((next.stage ≡ state.stage) × ((next.part ≡ 0) × (next.depth ≡ suc state.depth)))
+    (part_number state.part ≤ 1) × ((stage_number next.stage ≡ stage_number state.stage) × ((part_number next.part ≡ 0) × (next.depth ≡ suc state.depth)))
 Moves (Use name required) state next =
-    ((state.part ≤ 2) × (state.depth ≡ 0 → 7 ≤ state.stage)) × ((next.stage ≡ state.stage) × ((next.part ≡ 2) × (next.depth ≡ state.depth)))
+    ((part_number state.part ≤ 2) × (state.depth ≡ 0 → 7 ≤ stage_number state.stage)) × ((stage_number next.stage ≡ stage_number state.stage) × ((part_number next.part ≡ 2) × (next.depth ≡ state.depth)))
 Moves (End read_number read_letters) state next = Closes state next
 Moves (Member tag) state next = ⊥
 Moves (RequiredTag tag) state next = ⊥
@@ -72,97 +74,99 @@ Moves Unknown state next = ⊥
 
 module _ (state : State) (number : ℕ) where
   allowed : (test : Bool) (next : State)
-      → is_taken (cond test (taken next) (not_allowed state number)).fault ≡ true
-      → (test ≡ true) × ((cond test (taken next) (not_allowed state number)).next ≡ next)
+      → is_taken (allowed_if test next number) ≡ true
+      → (test ≡ true) × (after state (allowed_if test next number) ≡ next)
   allowed true next passes = (refl, refl)
   allowed false next passes = absurd (false≢true passes)
 
   group-moves : (count : ℕ) (room : Bool)
       → ltb state.depth 40 ≡ room
-      → is_taken (open_group count state number).fault ≡ true
-      → ((open_group count state number).next.stage ≡ state.stage)
-      × (((open_group count state number).next.part ≡ 0) × ((open_group count state number).next.depth ≡ suc state.depth))
+      → is_taken (open_group count state number) ≡ true
+      → (stage_number (after state (open_group count state number)).stage ≡ stage_number state.stage)
+      × ((part_number (after state (open_group count state number)).part ≡ 0) × ((after state (open_group count state number)).depth ≡ suc state.depth))
   group-moves count true test passes = rw test (refl, (refl, rw add-one refl))
   group-moves count false test passes = absurd (false≢true (rw test at passes))
 
   group-allowed : (count : ℕ) (test : Bool)
-      → leb state.part 1 ≡ test
-      → is_taken (cond test (open_group count state number) (not_allowed state number)).fault ≡ true
-      → Moves (Group count 0 true) state (cond test (open_group count state number) (not_allowed state number)).next
-  group-allowed count true test passes = (leb-true state.part 1 test, group-moves count (ltb state.depth 40) refl passes)
+      → goes_on_with Groups state.part ≡ test
+      → is_taken (cond test (open_group count state number) (Err (NotAllowed number))) ≡ true
+      → Moves (Group count 0 true) state (after state (cond test (open_group count state number) (Err (NotAllowed number))))
+  group-allowed count true test passes = (leb-true (part_number state.part) 1 test, group-moves count (ltb state.depth 40) refl passes)
   group-allowed count false test passes = absurd (false≢true passes)
 
-  use_where : (deep inside : Bool) → ltb 0 state.depth ≡ deep → leb 7 state.stage ≡ inside → deep || inside ≡ true → state.depth ≡ 0 → 7 ≤ state.stage
+  use_where : (deep inside : Bool) → ltb 0 state.depth ≡ deep → is_from InComponent InMessage state.stage ≡ inside → deep || inside ≡ true
+      → state.depth ≡ 0 → 7 ≤ stage_number state.stage
   use_where true inside test other holds none = absurd (omega (arith, ltb-true 0 state.depth test))
-  use_where false inside test other holds none = leb-true 7 state.stage (other ∙ holds)
+  use_where false inside test other holds none = (is_between-range 7 8 (stage_number state.stage) (other ∙ holds)).0
 
   end-moves : (name : Option ℕ) (letters : Option ℕ) (deep component message : Bool)
       → ltb 0 state.depth ≡ deep
-      → eqb state.stage 7 ≡ component
-      → eqb state.stage 8 ≡ message
-      → is_taken (end_step name letters state number).fault ≡ true
-      → Closes state (end_step name letters state number).next
+      → is_at InComponent state.stage ≡ component
+      → is_at InMessage state.stage ≡ message
+      → is_taken (end_step name letters state number) ≡ true
+      → Closes state (after state (end_step name letters state number))
   end-moves name read_letters true component message test in-component in-message passes =
       let closed =
-      allowed (is_number (get_or state.counts (state.depth - 1) 0) name) (standing state.stage 1 state.name (state.depth - 1) state.counts)
+      allowed (is_name (get_or state.counts (state.depth - 1) 0) name) (standing state.stage Groups state.name (state.depth - 1) state.counts)
       (rw test at passes) in
       rw test (rw closed.1 (group_ends_lem (ltb-true 0 state.depth test) refl refl refl))
   end-moves name read_letters false true message test in-component in-message passes =
-      let closed = allowed (is_number state.name name) (closed_block 3 state) (rw (test, in-component) at passes) in
+      let closed = allowed (is_name state.name name) (closed_block AfterTrailer state) (rw (test, in-component) at passes) in
       let shallow = ltb-false 0 state.depth test in
-      let stage = eqb-true state.stage 7 in-component in
+      let stage = eqb-true (stage_number state.stage) 7 in-component in
       rw (test, in-component) (rw closed.1 (block_ends (omega arith) (omega arith) (omega arith) (omega arith) refl refl))
   end-moves name letters false false true test in-component in-message passes =
-      let closed = allowed (is_letters state.name letters) (closed_block 4 state) (rw (test, in-component, in-message) at passes) in
+      let closed = allowed (is_name state.name letters) (closed_block AfterMessage state) (rw (test, in-component, in-message) at passes) in
       let shallow = ltb-false 0 state.depth test in
-      let stage = eqb-true state.stage 8 in-message in
+      let stage = eqb-true (stage_number state.stage) 8 in-message in
       rw (test, in-component, in-message) (rw closed.1 (block_ends (omega arith) (omega arith) (omega arith) (omega arith) refl refl))
   end-moves name read_letters false false false test in-component in-message passes = absurd (false≢true (rw (test, in-component, in-message) at passes))
 
-moves : (line : Line) (state : State) (number : ℕ) → is_taken (step_of state number line).fault ≡ true → Moves line state (step_of state number line).next
+moves : (line : Line) (state : State) (number : ℕ) → is_taken (step_of state number line) ≡ true → Moves line state (after state (step_of state number line))
 unfolding step_of
 moves (Def tag place) state number passes =
-    let step = allowed state number (leb state.stage 1) (closed_block 1 state) passes in
-    (leb-true state.stage 1 step.0, rw step.1 (refl, (refl, refl)))
+    let step = allowed state number (is_from Beginning Definitions state.stage) (closed_block Definitions state) passes in
+    ((is_between-range 0 1 (stage_number state.stage) step.0).1, rw step.1 (refl, (refl, refl)))
 moves (Value admitted) state number passes =
-    let step = allowed state number (eqb state.stage 1) state passes in
-    (eqb-true state.stage 1 step.0, step.1)
+    let step = allowed state number (is_at Definitions state.stage) state passes in
+    (eqb-true (stage_number state.stage) 1 step.0, step.1)
 moves BeginHeader state number passes =
-    let step = allowed state number (is_between 0 1 state.stage) (opened_block 5 0 state) passes in
-    ((is_between-range 0 1 state.stage step.0).1, rw step.1 (refl, (refl, refl)))
+    let step = allowed state number (is_from Beginning Definitions state.stage) (opened_block InHeader 0 state) passes in
+    ((is_between-range 0 1 (stage_number state.stage) step.0).1, rw step.1 (refl, (refl, refl)))
 moves BeginTrailer state number passes =
-    let step = allowed state number (is_between 2 2 state.stage) (opened_block 6 0 state) passes in
-    let range = is_between-range 2 2 state.stage step.0 in
-    (omega (arith, range.0, range.1), rw step.1 (refl, (refl, refl)))
+    let step = allowed state number (is_at AfterHeader state.stage) (opened_block InTrailer 0 state) passes in
+    (eqb-true (stage_number state.stage) 2 step.0, rw step.1 (refl, (refl, refl)))
 moves EndHeader state number passes =
-    let step = allowed state number (eqb state.stage 5 && eqb state.depth 0) (closed_block 2 state) passes in (
-      (eqb-true _ _ (and_left (eqb state.stage 5) _ step.0), eqb-true _ _ (and_right (eqb state.stage 5) _ step.0)),
+    let step = allowed state number (is_at InHeader state.stage && eqb state.depth 0) (closed_block AfterHeader state) passes in (
+      (eqb-true (stage_number state.stage) 5 (and_left (is_at InHeader state.stage) _ step.0), eqb-true _ _ (and_right (is_at InHeader state.stage) _ step.0)),
       rw step.1 (refl, (refl, refl)),
     )
 moves EndTrailer state number passes =
-    let step = allowed state number (eqb state.stage 6 && eqb state.depth 0) (closed_block 3 state) passes in (
-      (eqb-true _ _ (and_left (eqb state.stage 6) _ step.0), eqb-true _ _ (and_right (eqb state.stage 6) _ step.0)),
+    let step = allowed state number (is_at InTrailer state.stage && eqb state.depth 0) (closed_block AfterTrailer state) passes in (
+      (eqb-true (stage_number state.stage) 6 (and_left (is_at InTrailer state.stage) _ step.0), eqb-true _ _ (and_right (is_at InTrailer state.stage) _ step.0)),
       rw step.1 (refl, (refl, refl)),
     )
 moves (Component name) state number passes =
-    let step = allowed state number (is_between 3 3 state.stage) (opened_block 7 name state) passes in
-    let range = is_between-range 3 3 state.stage step.0 in
-    (omega (arith, range.0, range.1), rw step.1 (refl, (refl, refl)))
+    let step = allowed state number (is_at AfterTrailer state.stage) (opened_block InComponent name state) passes in
+    (eqb-true (stage_number state.stage) 3 step.0, rw step.1 (refl, (refl, refl)))
 moves (Message letters app) state number passes =
-    let step = allowed state number (is_between 3 4 state.stage) (opened_block 8 letters state) passes in
-    (is_between-range 3 4 state.stage step.0, rw step.1 (refl, (refl, refl)))
+    let step = allowed state number (is_from AfterTrailer AfterMessage state.stage) (opened_block InMessage letters state) passes in
+    (is_between-range 3 4 (stage_number state.stage) step.0, rw step.1 (refl, (refl, refl)))
 moves (Field tag required) state number passes =
-    let step = allowed state number (eqb state.part 0) state passes in
-    (eqb-true state.part 0 step.0, step.1)
-moves (Group count delimiter required) state number passes = group-allowed state number count (leb state.part 1) refl passes
+    let step = allowed state number (goes_on_with Fields state.part) state passes in
+    (omega (arith, leb-true (part_number state.part) 0 step.0), step.1)
+moves (Group count delimiter required) state number passes = group-allowed state number count (goes_on_with Groups state.part) refl passes
 moves (Use name required) state number passes =
-    let step = allowed state number (leb state.part 2 && (ltb 0 state.depth || leb 7 state.stage)) (used_in state) passes in
-    let where-used = and_right (leb state.part 2) _ step.0 in (
-      (leb-true _ _ (and_left (leb state.part 2) _ step.0), use_where state number (ltb 0 state.depth) (leb 7 state.stage) refl refl where-used),
+    let step = allowed state number (goes_on_with Uses state.part && (ltb 0 state.depth || is_from InComponent InMessage state.stage)) (used_in state) passes in
+    let where-used = and_right (goes_on_with Uses state.part) _ step.0 in (
+      (
+        leb-true (part_number state.part) 2 (and_left (goes_on_with Uses state.part) _ step.0),
+        use_where state number (ltb 0 state.depth) (is_from InComponent InMessage state.stage) refl refl where-used,
+      ),
       rw step.1 (refl, (refl, refl)),
     )
 moves (End name letters) state number passes =
-    end-moves state number name letters (ltb 0 state.depth) (eqb state.stage 7) (eqb state.stage 8) refl refl refl passes
+    end-moves state number name letters (ltb 0 state.depth) (is_at InComponent state.stage) (is_at InMessage state.stage) refl refl refl passes
 moves (Member tag) state number passes = false≢true passes
 moves (RequiredTag tag) state number passes = false≢true passes
 moves Unknown state number passes = false≢true passes
@@ -188,7 +192,7 @@ standing-open stage next high low opens = record {
 standing-same : (state next : State) → Standing state → next ≡ state → Standing next
 standing-same state next Standing-here same = rw same Standing-here
 
-standing-inside : (state next : State) → Standing state → state.part ≤ 2 → next.stage ≡ state.stage → next.part ≤ 2 → Standing next
+standing-inside : (state next : State) → Standing state → part_number state.part ≤ 2 → stage_number next.stage ≡ stage_number state.stage → part_number next.part ≤ 2 → Standing next
 standing-inside state next here part same few = record {
   known = omega (arith, here.known);
   no_part = λ low. absurd (omega (arith, here.no_part (omega arith)));
@@ -242,13 +246,13 @@ Bodies stage zero part opened = (body : Body) × ((opened ≡ body ∷ []) × (L
 Bodies stage (suc depth) part opened = (body : Body) × ((around : List Body) × ((opened ≡ body ∷ around) × (LeftOf part body × Bodies stage depth 1 around)))
 
 record OpenIn (state : State) (opened : List Body) : Type 0 where
-  none : state.stage ≤ 4 → opened ≡ []
-  some : 5 ≤ state.stage → Bodies state.stage state.depth state.part opened
+  none : stage_number state.stage ≤ 4 → opened ≡ []
+  some : 5 ≤ stage_number state.stage → Bodies (stage_number state.stage) state.depth (part_number state.part) opened
 
-open_outside : (state : State) (opened : List Body) → state.stage ≤ 4 → opened ≡ [] → OpenIn state opened
+open_outside : (state : State) (opened : List Body) → stage_number state.stage ≤ 4 → opened ≡ [] → OpenIn state opened
 open_outside state opened low closed = record { none = λ here. closed; some = λ high. absurd (omega arith) }
 
-open_inside : (state : State) (opened : List Body) → 5 ≤ state.stage → Bodies state.stage state.depth state.part opened → OpenIn state opened
+open_inside : (state : State) (opened : List Body) → 5 ≤ stage_number state.stage → Bodies (stage_number state.stage) state.depth (part_number state.part) opened → OpenIn state opened
 open_inside state opened high bodies = record { none = λ low. absurd (omega arith); some = λ here. bodies }
 
 -- a block that was just opened
@@ -265,21 +269,21 @@ none_open stage next opened low outside there = there.none (omega (arith, outsid
 empty_left : (part : ℕ) → LeftOf part empty_body
 empty_left part = record { no_fields = λ some. refl; no_groups = λ some. refl }
 
-inside-by : (state : State) (low : Bool) → leb state.stage 4 ≡ low → Standing state → state.part ≤ 2 → 5 ≤ state.stage
-inside-by state true test here part = absurd (omega (arith, here.no_part (leb-true state.stage 4 test)))
-inside-by state false test here part = omega (arith, leb-false state.stage 4 test)
+inside-by : (state : State) (low : Bool) → leb (stage_number state.stage) 4 ≡ low → Standing state → part_number state.part ≤ 2 → 5 ≤ stage_number state.stage
+inside-by state true test here part = absurd (omega (arith, here.no_part (leb-true (stage_number state.stage) 4 test)))
+inside-by state false test here part = omega (arith, leb-false (stage_number state.stage) 4 test)
 
-deep-by : (state : State) (low : Bool) → leb state.stage 4 ≡ low → Standing state → 0 < state.depth → 5 ≤ state.stage
-deep-by state true test here deep = absurd (omega (arith, here.no_depth (leb-true state.stage 4 test)))
-deep-by state false test here deep = omega (arith, leb-false state.stage 4 test)
+deep-by : (state : State) (low : Bool) → leb (stage_number state.stage) 4 ≡ low → Standing state → 0 < state.depth → 5 ≤ stage_number state.stage
+deep-by state true test here deep = absurd (omega (arith, here.no_depth (leb-true (stage_number state.stage) 4 test)))
+deep-by state false test here deep = omega (arith, leb-false (stage_number state.stage) 4 test)
 
 -- a group is open in an open block
-deep-inside : (state : State) → Standing state → 0 < state.depth → 5 ≤ state.stage
-deep-inside state here deep = deep-by state (leb state.stage 4) refl here deep
+deep-inside : (state : State) → Standing state → 0 < state.depth → 5 ≤ stage_number state.stage
+deep-inside state here deep = deep-by state (leb (stage_number state.stage) 4) refl here deep
 
 -- a part of a body stands in one too
-inside : (state : State) → Standing state → state.part ≤ 2 → 5 ≤ state.stage
-inside state here part = inside-by state (leb state.stage 4) refl here part
+inside : (state : State) → Standing state → part_number state.part ≤ 2 → 5 ≤ stage_number state.stage
+inside state here part = inside-by state (leb (stage_number state.stage) 4) refl here part
 
 uses-with_field : (field : FieldRef) (body : Body) → uses_of (with_field field body) ≡ uses_of body
 uses-with_field field (body_of fields groups uses) = refl
@@ -410,7 +414,7 @@ module _ (state next : State) (blocks : Blocks) (here : Standing state) (there :
   Placed line = OpenIn state (before line blocks).opened × InPlace line blocks.opened
 
   -- a line outside of the blocks
-  placed-outside : (stage : ℕ) → stage ≤ 4 → Outside stage next → state.stage ≤ 4 → OpenIn state blocks.opened × (blocks.opened ≡ [])
+  placed-outside : (stage : ℕ) → stage ≤ 4 → Outside stage next → stage_number state.stage ≤ 4 → OpenIn state blocks.opened × (blocks.opened ≡ [])
   placed-outside stage low outside before_it =
       let closed = none_open stage next blocks.opened low outside there in
       (open_outside state blocks.opened before_it closed, closed)
@@ -419,7 +423,7 @@ module _ (state next : State) (blocks : Blocks) (here : Standing state) (there :
   placed-open : (stage : ℕ)
       → 5 ≤ stage
       → Opens stage next
-      → state.stage ≤ 4
+      → stage_number state.stage ≤ 4
       → OpenIn state (around_it blocks.opened) × (OneBody blocks.opened × (stage ≤ 6 → uses_of (innermost blocks.opened) ≡ []))
   placed-open stage high opens before_it =
       let one = one-open stage next blocks.opened high opens there in (
@@ -428,47 +432,47 @@ module _ (state next : State) (blocks : Blocks) (here : Standing state) (there :
       )
 
   -- a line that ends a block, behind which none is open
-  ended : blocks.opened ≡ [] → 5 ≤ state.stage → state.depth ≡ 0 → OpenIn state (empty_body ∷ blocks.opened)
+  ended : blocks.opened ≡ [] → 5 ≤ stage_number state.stage → state.depth ≡ 0 → OpenIn state (empty_body ∷ blocks.opened)
   ended closed high shallow =
-      let bodies : Bodies state.stage 0 state.part (empty_body ∷ blocks.opened) =
-      (empty_body, (ap {B = List Body} (λ (each : List Body). empty_body ∷ each) closed, (empty_left state.part, λ envelope. refl))) in
+      let bodies : Bodies (stage_number state.stage) 0 (part_number state.part) (empty_body ∷ blocks.opened) =
+      (empty_body, (ap {B = List Body} (λ (each : List Body). empty_body ∷ each) closed, (empty_left (part_number state.part), λ envelope. refl))) in
       open_inside state (empty_body ∷ blocks.opened) high (rw shallow bodies)
 
-  placed_end : (stage : ℕ) → stage ≤ 4 → Outside stage next → 5 ≤ state.stage → state.depth ≡ 0 → OpenIn state (empty_body ∷ blocks.opened) × (blocks.opened ≡ [])
+  placed_end : (stage : ℕ) → stage ≤ 4 → Outside stage next → 5 ≤ stage_number state.stage → state.depth ≡ 0 → OpenIn state (empty_body ∷ blocks.opened) × (blocks.opened ≡ [])
   placed_end stage low outside high shallow =
       let closed = none_open stage next blocks.opened low outside there in
       (ended closed high shallow, closed)
 
   placed-close : Closes state next → OpenIn state (empty_body ∷ blocks.opened)
   placed-close (group_ends_lem deep stage part depth) =
-      let high : 5 ≤ state.stage = deep-inside state here deep in
-      let bodies : Bodies state.stage (state.depth - 1) 1 blocks.opened = rw (stage, part, depth) at (there.some (omega arith)) in
+      let high : 5 ≤ stage_number state.stage = deep-inside state here deep in
+      let bodies : Bodies (stage_number state.stage) (state.depth - 1) 1 blocks.opened = rw (stage, part, depth) at (there.some (omega arith)) in
       let one_more : state.depth ≡ suc (state.depth - 1) = omega arith in
-      let all : Bodies state.stage (suc (state.depth - 1)) state.part (empty_body ∷ blocks.opened) =
-      (empty_body, (blocks.opened, (refl, (empty_left state.part, bodies)))) in
+      let all : Bodies (stage_number state.stage) (suc (state.depth - 1)) (part_number state.part) (empty_body ∷ blocks.opened) =
+      (empty_body, (blocks.opened, (refl, (empty_left (part_number state.part), bodies)))) in
       open_inside state (empty_body ∷ blocks.opened) high (rw one_more all)
   placed-close (block_ends shallow high low from part depth) = ended (there.none low) (omega arith) shallow
 
-  placed-field : (field : FieldRef) → state.part ≡ 0 → next ≡ state → OpenIn state (changed (with_field field) blocks).opened × SomeBody blocks.opened
+  placed-field : (field : FieldRef) → part_number state.part ≡ 0 → next ≡ state → OpenIn state (changed (with_field field) blocks).opened × SomeBody blocks.opened
   placed-field field first same =
       let high = inside state here (omega arith) in
-      let bodies : Bodies state.stage state.depth state.part blocks.opened = (rw same at there).some high in
-      let body = some-body state.stage state.depth state.part blocks.opened bodies in (
+      let bodies : Bodies (stage_number state.stage) state.depth (part_number state.part) blocks.opened = (rw same at there).some high in
+      let body = some-body (stage_number state.stage) state.depth (part_number state.part) blocks.opened bodies in (
         open_inside state (changed (with_field field) blocks).opened high
-            (bodies_field state.stage state.depth state.part field blocks.opened first bodies),
+            (bodies_field (stage_number state.stage) state.depth (part_number state.part) field blocks.opened first bodies),
         (body.0, (body.1.0, body.1.1.0)),
       )
 
   placed-use : (component : ComponentRef)
-      → (state.part ≤ 2) × (state.depth ≡ 0 → 7 ≤ state.stage)
-      → (next.stage ≡ state.stage) × ((next.part ≡ 2) × (next.depth ≡ state.depth))
+      → (part_number state.part ≤ 2) × (state.depth ≡ 0 → 7 ≤ stage_number state.stage)
+      → (stage_number next.stage ≡ stage_number state.stage) × ((part_number next.part ≡ 2) × (next.depth ≡ state.depth))
       → OpenIn state (changed (with_use component) blocks).opened × (SomeBody blocks.opened × OnlyUses (innermost blocks.opened))
   placed-use component may same =
       let high = inside state here may.0 in
-      let bodies : Bodies state.stage state.depth 2 blocks.opened = rw (same.0, same.1.0, same.1.1) at (there.some (omega (arith, same.0))) in
-      let body = some-body state.stage state.depth 2 blocks.opened bodies in (
+      let bodies : Bodies (stage_number state.stage) state.depth 2 blocks.opened = rw (same.0, same.1.0, same.1.1) at (there.some (omega (arith, same.0))) in
+      let body = some-body (stage_number state.stage) state.depth 2 blocks.opened bodies in (
         open_inside state (changed (with_use component) blocks).opened high
-            (bodies_use state.stage state.depth state.part component blocks.opened may.0 may.1 bodies),
+            (bodies_use (stage_number state.stage) state.depth (part_number state.part) component blocks.opened may.0 may.1 bodies),
         (
           (body.0, (body.1.0, body.1.1.0)),
           (
@@ -479,17 +483,17 @@ module _ (state next : State) (blocks : Blocks) (here : Standing state) (there :
       )
 
   placed-group : (count delimiter : ℕ) (required : Bool)
-      → state.part ≤ 1
-      → (next.stage ≡ state.stage) × ((next.part ≡ 0) × (next.depth ≡ suc state.depth))
+      → part_number state.part ≤ 1
+      → (stage_number next.stage ≡ stage_number state.stage) × ((part_number next.part ≡ 0) × (next.depth ≡ suc state.depth))
       → OpenIn state (group_closed count delimiter required blocks.opened) × InPlace (Group count delimiter required) blocks.opened
   placed-group count delimiter required few same =
       let high = inside state here (omega arith) in
-      let bodies : Bodies state.stage (suc state.depth) 0 blocks.opened = rw (same.0, same.1.0, same.1.1) at (there.some (omega (arith, same.0))) in
+      let bodies : Bodies (stage_number state.stage) (suc state.depth) 0 blocks.opened = rw (same.0, same.1.0, same.1.1) at (there.some (omega (arith, same.0))) in
       let around = bodies.1.0 in
-      let body = some-body state.stage state.depth 1 around bodies.1.1.1.1 in
+      let body = some-body (stage_number state.stage) state.depth 1 around bodies.1.1.1.1 in
       let behind : around_it blocks.opened ≡ around = ap around_it bodies.1.1.0 in (
         open_inside state (group_closed count delimiter required blocks.opened) high
-            (bodies_group state.stage state.depth state.part count delimiter required blocks.opened few bodies),
+            (bodies_group (stage_number state.stage) state.depth (part_number state.part) count delimiter required blocks.opened few bodies),
         (
           (bodies.0, (around, bodies.1.1.0)),
           (
@@ -502,7 +506,7 @@ module _ (state next : State) (blocks : Blocks) (here : Standing state) (there :
   placed : (line : Line) → Moves line state next → Placed line
   placed (Def tag place) step = placed-outside 1 (omega arith) step.1 (omega (arith, step.0))
   placed (Value admitted) step =
-      let low : state.stage ≤ 4 = omega (arith, step.0) in
+      let low : stage_number state.stage ≤ 4 = omega (arith, step.0) in
       let closed : blocks.opened ≡ [] = (rw step.1 at there).none low in
       (open_outside state blocks.opened low closed, closed)
   placed BeginHeader step =
@@ -532,15 +536,15 @@ module _ (state next : State) (blocks : Blocks) (here : Standing state) (there :
 -- the first line is taken, and the others are accepted behind it
 module _ (state : State) (number total : ℕ) (line : Line) (rest : List Line) (passes : accepts state number total (line ∷ rest) ≡ true) where
   abbrev behind_line : State
-  behind_line = (step_of state number line).next
+  behind_line = (after state (step_of state number line))
 
   first-moves : Moves line state behind_line
   unfolding accepts
-  first-moves = moves line state number (and_left (is_taken (step_of state number line).fault) _ passes)
+  first-moves = moves line state number (and_left (is_taken (step_of state number line)) _ passes)
 
   rest-accepted : accepts behind_line (number + 1) (total + (length_of line + 1)) rest ≡ true
   unfolding accepts
-  rest-accepted = and_right (leb (total + (length_of line + 1)) 65536) _ (and_right (is_taken (step_of state number line).fault) _ passes)
+  rest-accepted = and_right (leb (total + (length_of line + 1)) 65536) _ (and_right (is_taken (step_of state number line)) _ passes)
 
 accepted-from : (state : State) (number total : ℕ) (lines : List Line)
     → Standing state
@@ -548,11 +552,11 @@ accepted-from : (state : State) (number total : ℕ) (lines : List Line)
     → OpenIn state (blocks_of lines).opened × InOrder lines
 unfolding blocks_of
 accepted-from state number total [] here passes =
-    let range = is_between-range 3 4 state.stage (unfold accepts in passes) in
+    let range = is_between-range 3 4 (stage_number state.stage) (unfold accepts in passes) in
     (open_outside state [] range.1 refl, tt)
 accepted-from state number total (line ∷ rest) here passes =
     let step = first-moves state number total line rest passes in
-    let next = (step_of state number line).next in
+    let next = (after state (step_of state number line)) in
     let behind =
     accepted-from next (number + 1) (total + (length_of line + 1)) rest (standing-next line state next here step) (rest-accepted state number total line rest passes) in
     let this = placed state next (blocks_of rest) here behind.0 line step in
@@ -589,15 +593,15 @@ trailer-first rest = omega arith
 
 -- what is still to come in a state: the header before its first line, the trailer up to its first line
 abbrev HeaderComes : State → Type 0
-HeaderComes state = state.stage ≤ 1
+HeaderComes state = stage_number state.stage ≤ 1
 
 record TrailerComes (state : State) : Type 0 where
-  early : state.stage ≤ 5
-  no_trailer : state.stage ≡ 3 → ⊥
-  no_message : state.stage ≡ 4 → ⊥
+  early : stage_number state.stage ≤ 5
+  no_trailer : stage_number state.stage ≡ 3 → ⊥
+  no_message : stage_number state.stage ≡ 4 → ⊥
 
 -- outside of the blocks nothing ends
-no_close : (state next : State) → Standing state → Closes state next → state.stage ≤ 4 → ⊥
+no_close : (state next : State) → Standing state → Closes state next → stage_number state.stage ≤ 4 → ⊥
 no_close state next here (group_ends_lem deep stage part depth) low = omega (arith, here.no_depth low)
 no_close state next here (block_ends shallow high closed from part depth) low = omega arith
 
@@ -610,7 +614,7 @@ header-later : (line : Line) (state next : State) (rest : List Line)
 header-later BeginHeader state next rest here step behind comes = header-first rest
 header-later (Def tag place) state next rest here step behind comes = place-further 3 0 (Def tag place) rest (behind (omega (arith, step.1.0)))
 header-later (Value admitted) state next rest here step behind comes =
-    place-further 3 0 (Value admitted) rest (behind (omega (arith, step.0, ap (λ (each : State). each.stage) step.1)))
+    place-further 3 0 (Value admitted) rest (behind (omega (arith, step.0, ap (λ (each : State). stage_number each.stage) step.1)))
 header-later BeginTrailer state next rest here step behind comes = absurd (omega (arith, step.0))
 header-later EndHeader state next rest here step behind comes = absurd (omega (arith, step.0.0))
 header-later EndTrailer state next rest here step behind comes = absurd (omega (arith, step.0.0))
@@ -624,17 +628,17 @@ header-later (Member tag) state next rest here step behind comes = absurd step
 header-later (RequiredTag tag) state next rest here step behind comes = absurd step
 header-later Unknown state next rest here step behind comes = absurd step
 
-no_range : (state : State) → 3 ≤ state.stage → state.stage ≤ 4 → (state.stage ≡ 3 → ⊥) → (state.stage ≡ 4 → ⊥) → ⊥
+no_range : (state : State) → 3 ≤ stage_number state.stage → stage_number state.stage ≤ 4 → (stage_number state.stage ≡ 3 → ⊥) → (stage_number state.stage ≡ 4 → ⊥) → ⊥
 no_range state from to no_trailer no_message = no_message (omega (arith, no_trailer))
 
-trailer-same : (state next : State) → next.stage ≡ state.stage → TrailerComes state → TrailerComes next
+trailer-same : (state next : State) → stage_number next.stage ≡ stage_number state.stage → TrailerComes state → TrailerComes next
 trailer-same state next same comes = record {
   early = omega (arith, comes.early);
   no_trailer = λ there. comes.no_trailer (sym same ∙ there);
   no_message = λ there. comes.no_message (sym same ∙ there);
 }
 
-trailer-at : (stage : ℕ) (next : State) → next.stage ≡ stage → stage ≤ 5 → (stage ≡ 3 → ⊥) → (stage ≡ 4 → ⊥) → TrailerComes next
+trailer-at : (stage : ℕ) (next : State) → stage_number next.stage ≡ stage → stage ≤ 5 → (stage ≡ 3 → ⊥) → (stage ≡ 4 → ⊥) → TrailerComes next
 trailer-at stage next same early no_trailer no_message = record {
   early = omega arith;
   no_trailer = λ there. no_trailer (sym same ∙ there);
@@ -659,7 +663,7 @@ trailer-later BeginTrailer state next rest step behind comes = trailer-first res
 trailer-later (Def tag place) state next rest step behind comes =
     place-further 4 0 (Def tag place) rest (behind (trailer-at 1 next step.1.0 (omega arith) (λ there. omega arith) (λ there. omega arith)))
 trailer-later (Value admitted) state next rest step behind comes =
-    place-further 4 0 (Value admitted) rest (behind (trailer-same state next (ap (λ (each : State). each.stage) step.1) comes))
+    place-further 4 0 (Value admitted) rest (behind (trailer-same state next (ap (λ (each : State). stage_number each.stage) step.1) comes))
 trailer-later BeginHeader state next rest step behind comes =
     place-further 4 0 BeginHeader rest (behind (trailer-at 5 next step.1.0 (omega arith) (λ there. omega arith) (λ there. omega arith)))
 trailer-later EndHeader state next rest step behind comes =
@@ -668,7 +672,7 @@ trailer-later EndTrailer state next rest step behind comes = absurd (omega (arit
 trailer-later (Component name) state next rest step behind comes = absurd (comes.no_trailer step.0)
 trailer-later (Message letters app) state next rest step behind comes = absurd (no_range state step.0.0 step.0.1 comes.no_trailer comes.no_message)
 trailer-later (Field tag required) state next rest step behind comes =
-    place-further 4 0 (Field tag required) rest (behind (trailer-same state next (ap (λ (each : State). each.stage) step.1) comes))
+    place-further 4 0 (Field tag required) rest (behind (trailer-same state next (ap (λ (each : State). stage_number each.stage) step.1) comes))
 trailer-later (Group count delimiter required) state next rest step behind comes =
     place-further 4 0 (Group count delimiter required) rest (behind (trailer-same state next step.1.0 comes))
 trailer-later (Use name required) state next rest step behind comes =
@@ -683,13 +687,13 @@ blocks_from : (state : State) (number total : ℕ) (lines : List Line)
     → accepts state number total lines ≡ true
     → (HeaderComes state → place_of 3 0 lines < length lines) × (TrailerComes state → place_of 4 0 lines < length lines)
 blocks_from state number total [] here passes =
-    let range = is_between-range 3 4 state.stage (unfold accepts in passes) in (
+    let range = is_between-range 3 4 (stage_number state.stage) (unfold accepts in passes) in (
       λ comes. absurd (omega (arith, range.0)),
       λ comes. absurd (no_range state range.0 range.1 comes.no_trailer comes.no_message),
     )
 blocks_from state number total (line ∷ rest) here passes =
     let step = first-moves state number total line rest passes in
-    let next = (step_of state number line).next in
+    let next = (after state (step_of state number line)) in
     let behind =
     blocks_from next (number + 1) (total + (length_of line + 1)) rest (standing-next line state next here step) (rest-accepted state number total line rest passes) in (
       λ comes. header-later line state next rest here step behind.0 comes,
@@ -711,12 +715,12 @@ end-other read_number (Some letters) = refl
 end-other (Some number) None = refl
 end-other None None = refl
 
-end-late : (state next : State) → Closes state next → 2 ≤ state.stage → 2 ≤ next.stage
+end-late : (state next : State) → Closes state next → 2 ≤ stage_number state.stage → 2 ≤ stage_number next.stage
 end-late state next (group_ends_lem deep stage part depth) late = omega arith
 end-late state next (block_ends shallow high low from part depth) late = omega arith
 
 -- behind the first line of the header no line is a definition
-late_line : (line : Line) (state next : State) → Moves line state next → 2 ≤ state.stage → (is_definition line ≡ false) × (2 ≤ next.stage)
+late_line : (line : Line) (state next : State) → Moves line state next → 2 ≤ stage_number state.stage → (is_definition line ≡ false) × (2 ≤ stage_number next.stage)
 unfolding is_of record_of
 late_line (Def tag place) state next step late = absurd (omega (arith, step.0))
 late_line (Value admitted) state next step late = absurd (omega (arith, step.0))
@@ -726,7 +730,7 @@ late_line EndHeader state next step late = (refl, omega (arith, step.1.0))
 late_line EndTrailer state next step late = (refl, omega (arith, step.1.0))
 late_line (Component name) state next step late = (refl, omega (arith, step.1.0))
 late_line (Message letters app) state next step late = (refl, omega (arith, step.1.0))
-late_line (Field tag required) state next step late = (refl, omega (arith, ap (λ (each : State). each.stage) step.1))
+late_line (Field tag required) state next step late = (refl, omega (arith, ap (λ (each : State). stage_number each.stage) step.1))
 late_line (Group count delimiter required) state next step late = (refl, omega (arith, step.1.0))
 late_line (Use name required) state next step late = (refl, omega (arith, step.1.0))
 late_line (End number letters) state next step late = (end-other number letters, end-late state next step late)
@@ -736,13 +740,13 @@ late_line Unknown state next step late = absurd step
 
 late_lines : (state : State) (number total : ℕ) (lines : List Line)
     → accepts state number total lines ≡ true
-    → 2 ≤ state.stage
+    → 2 ≤ stage_number state.stage
     → (place : ℕ) → place < length lines → is_definition (get_or lines place Unknown) ≡ false
 late_lines state number total [] passes late place inside = absurd (omega arith)
-late_lines state number total (line ∷ rest) passes late zero inside = (late_line line state (step_of state number line).next (first-moves state number total line rest passes) late).0
+late_lines state number total (line ∷ rest) passes late zero inside = (late_line line state (after state (step_of state number line)) (first-moves state number total line rest passes) late).0
 late_lines state number total (line ∷ rest) passes late (suc place) inside =
-    late_lines (step_of state number line).next (number + 1) (total + (length_of line + 1)) rest (rest-accepted state number total line rest passes)
-    (late_line line state (step_of state number line).next (first-moves state number total line rest passes) late).1
+    late_lines (after state (step_of state number line)) (number + 1) (total + (length_of line + 1)) rest (rest-accepted state number total line rest passes)
+    (late_line line state (after state (step_of state number line)) (first-moves state number total line rest passes) late).1
     place
     (omega arith)
 
@@ -776,14 +780,14 @@ parted-later : (line : Line) (state next : State) (rest : List Line)
     → Standing state
     → Moves line state next
     → (HeaderComes next → Parted rest (place_of 3 0 rest))
-    → (2 ≤ next.stage → (place : ℕ) → place < length rest → is_definition (get_or rest place Unknown) ≡ false)
+    → (2 ≤ stage_number next.stage → (place : ℕ) → place < length rest → is_definition (get_or rest place Unknown) ≡ false)
     → HeaderComes state
     → Parted (line ∷ rest) (place_of 3 0 (line ∷ rest))
 unfolding place_of is_of name_of record_of
 parted-later BeginHeader state next rest here step behind none comes = parted-here rest (none (omega (arith, step.1.0)))
 parted-later (Def tag place) state next rest here step behind none comes = parted-next rest (Def tag place) (place_of 3 0 rest) refl (behind (omega (arith, step.1.0)))
 parted-later (Value admitted) state next rest here step behind none comes =
-    parted-next rest (Value admitted) (place_of 3 0 rest) refl (behind (omega (arith, step.0, ap (λ (each : State). each.stage) step.1)))
+    parted-next rest (Value admitted) (place_of 3 0 rest) refl (behind (omega (arith, step.0, ap (λ (each : State). stage_number each.stage) step.1)))
 parted-later BeginTrailer state next rest here step behind none comes = absurd (omega (arith, step.0))
 parted-later EndHeader state next rest here step behind none comes = absurd (omega (arith, step.0.0))
 parted-later EndTrailer state next rest here step behind none comes = absurd (omega (arith, step.0.0))
@@ -802,10 +806,10 @@ parted-from : (state : State) (number total : ℕ) (lines : List Line)
     → accepts state number total lines ≡ true
     → HeaderComes state
     → Parted lines (place_of 3 0 lines)
-parted-from state number total [] here passes comes = absurd (omega (arith, (is_between-range 3 4 state.stage (unfold accepts in passes)).0))
+parted-from state number total [] here passes comes = absurd (omega (arith, (is_between-range 3 4 (stage_number state.stage) (unfold accepts in passes)).0))
 parted-from state number total (line ∷ rest) here passes comes =
     let step = first-moves state number total line rest passes in
-    let next = (step_of state number line).next in
+    let next = (after state (step_of state number line)) in
     let accepted = rest-accepted state number total line rest passes in
     parted-later line state next rest here step
     (parted-from next (number + 1) (total + (length_of line + 1)) rest (standing-next line state next here step) accepted)

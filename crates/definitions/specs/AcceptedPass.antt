@@ -26,13 +26,13 @@ use Rattle.line_forms.specs.declared.line.Line.TheVariants.{Def, Value, BeginHea
 use Rattle.dictionary_order.specs.declared.dictionary_order.State.{State}
 use Rattle.texts.specs.declared.dictionary_text.Counts.{Counts}
 use Rattle.texts.specs.declared.dictionary_text.Defined.{Defined}
-use Rattle.texts.specs.declared.dictionary_text.Defined.TheVariants.{Tag, ComponentName, MessageName, Nothing}
+use Rattle.texts.specs.declared.dictionary_text.Defined.TheVariants.{Tag, ComponentName, MessageName}
 use Rattle.refusals.specs.declared.refusal.Refusal.TheVariants.{TextTooLong, UnknownForm, NotAllowed, DefinedAgain}
 use Rattle.refusals.specs.Refusal.{refusal_place}
 use Rattle.lines.specs.Lines.{Pieces, last, piece, longer, cut, lines_of, line_feed}
 use Rattle.line_forms.specs.LineForms.{line_of}
-use Rattle.dictionary_order.specs.DictionaryOrder.{start, step_of, behind_trailer, behind_message}
-use Rattle.texts.specs.DictionaryText.{counted, counts, defined_by, order_from, order_of, on_fault, key_of, is_in, on_key, again_from, again_of, first_of, dictionary_text_of}
+use Rattle.dictionary_order.specs.DictionaryOrder.{start, step_of, after, may_end}
+use Rattle.texts.specs.DictionaryText.{counted, counts, defined_by, order_from, order_of, on_taken, key_of, is_in, on_key, again_from, again_of, first_of, dictionary_text_of}
 use Rattle.records.specs.Records.{record_of, lines_from}
 use Rattle.records.specs.RecordsLaws.{Held, HeldEnd, line_from-record_of, record_of-length}
 use Rattle.records.specs.LineLengths.{digit_count_from, digit_count, end_length, length_of}
@@ -66,7 +66,7 @@ cut-bytes byte (first ∷ rest) = cut-bytes_by (eqb first byte) first (cut byte 
 
 -- ---- rows 1 to 4: an accepted text's lines can be held, and are accepted
 
-pub usable_held : (state : State) (number : ℕ) (line : Line) → is_taken (step_of state number line).fault ≡ true → Usable line → Held line
+pub usable_held : (state : State) (number : ℕ) (line : Line) → is_taken (step_of state number line) ≡ true → Usable line → Held line
 unfolding step_of
 usable_held state number (Def tag place) taken usable = usable
 usable_held state number (Value value) taken usable = usable
@@ -92,9 +92,10 @@ end_by true ends read outcome one two same = refused-never one outcome same
 end_by false true read outcome one two same = refl
 end_by false false read outcome one two same = refused-never two outcome same
 
-pub fault_by : (fault : Option Refusal) (goes_on : Result Counts Refusal) (outcome : Counts) → on_fault fault goes_on ≡ Ok outcome → (is_taken fault ≡ true) × (goes_on ≡ Ok outcome)
-fault_by None goes_on outcome same = (refl, same)
-fault_by (Some refusal) goes_on outcome same = refused-never refusal outcome same
+pub fault_by : (state : State) (step : Result State Refusal) (goes_on : State → Result Counts Refusal) (outcome : Counts) → on_taken step goes_on ≡ Ok outcome
+    → (is_taken step ≡ true) × (goes_on (after state step) ≡ Ok outcome)
+fault_by state (Ok next) goes_on outcome same = (refl, same)
+fault_by state (Err refusal) goes_on outcome same = refused-never refusal outcome same
 
 order-accepts : (state : State) (read : Counts) (number total : ℕ) (pieces : Pieces) (outcome : Counts)
     → number ≡ read.lines + 1
@@ -103,18 +104,18 @@ order-accepts : (state : State) (read : Counts) (number total : ℕ) (pieces : P
     → AllHeld (lines_in pieces) × (accepts state number total (lines_in pieces) ≡ true)
 unfolding order_from lines_in accepts
 order-accepts state read number total (last bytes) outcome same order few =
-    (tt, end_by (non_empty bytes) (is_between behind_trailer behind_message state.stage) read outcome (UnknownForm (read.lines + 1)) (NotAllowed (read.lines + 1)) order)
+    (tt, end_by (non_empty bytes) (may_end state) read outcome (UnknownForm (read.lines + 1)) (NotAllowed (read.lines + 1)) order)
 order-accepts state read number total (piece bytes others) outcome same order few =
     let line = line_of bytes in
     let step = step_of state number line in
-    let parts = fault_by step.fault (order_from step.next (counted read (defined_by line)) others) outcome (rw (← same) at order) in
+    let parts = fault_by state step (λ next. order_from next (counted read (defined_by line)) others) outcome (rw (← same) at order) in
     let fits = line_of_fits bytes in
     let held = usable_held state number line parts.0 fits.0 in
     let deeper =
-    order-accepts step.next (counted read (defined_by line)) (number + 1) (total + (length_of line + 1)) others outcome (counted-lines read line number same) parts.1
+    order-accepts (after state step) (counted read (defined_by line)) (number + 1) (total + (length_of line + 1)) others outcome (counted-lines read line number same) parts.1
     (omega (arith, fits.1)) in (
       (held, deeper.0),
-      and_both (is_taken step.fault) _ parts.0
+      and_both (is_taken step) _ parts.0
           (and_both (leb (total + (length_of line + 1)) 65536) _ (le-leb (total + (length_of line + 1)) 65536 (omega (arith, fits.1))) deeper.1),
     )
 
@@ -188,19 +189,19 @@ nowhere-once seen number (piece bytes others) nowhere few each =
     (λ more none small. nowhere-once more (number + 1) others none small)
     each
 
-large_tag : (name : ℕ) (defined : Defined) (names : List ℕ) → SmallNames defined → 4294967296 ≤ name → how_often name names ≡ 0 → how_often name (tag_in defined ++ names) ≡ 0
+large_tag : (name : ℕ) (defined : Option Defined) (names : List ℕ) → SmallNames defined → 4294967296 ≤ name → how_often name names ≡ 0 → how_often name (tag_in defined ++ names) ≡ 0
 unfolding how_often
-large_tag name (Tag tag) names small large none = omega (arith, once-other name tag (λ same. omega arith))
-large_tag name (ComponentName other) names small large none = none
-large_tag name (MessageName letters) names small large none = none
-large_tag name Nothing names small large none = none
+large_tag name (Some (Tag tag)) names small large none = omega (arith, once-other name tag (λ same. omega arith))
+large_tag name (Some (ComponentName other)) names small large none = none
+large_tag name (Some (MessageName letters)) names small large none = none
+large_tag name None names small large none = none
 
-large_component : (name : ℕ) (defined : Defined) (names : List ℕ) → SmallNames defined → 4294967296 ≤ name → how_often name names ≡ 0 → how_often name (component_in defined ++ names) ≡ 0
+large_component : (name : ℕ) (defined : Option Defined) (names : List ℕ) → SmallNames defined → 4294967296 ≤ name → how_often name names ≡ 0 → how_often name (component_in defined ++ names) ≡ 0
 unfolding how_often
-large_component name (Tag tag) names small large none = none
-large_component name (ComponentName other) names small large none = omega (arith, once-other name other (λ same. omega arith))
-large_component name (MessageName letters) names small large none = none
-large_component name Nothing names small large none = none
+large_component name (Some (Tag tag)) names small large none = none
+large_component name (Some (ComponentName other)) names small large none = omega (arith, once-other name other (λ same. omega arith))
+large_component name (Some (MessageName letters)) names small large none = none
+large_component name None names small large none = none
 
 tags-large : (name : ℕ) (lines : List Line) → AllHeld lines → 4294967296 ≤ name → how_often name (names_of 1 lines) ≡ 0
 tags-large name [] held large = unfold names_of how_often in refl
@@ -542,11 +543,11 @@ unfolding lines_in
 lines-few (last bytes) held = omega arith
 lines-few (piece bytes others) held = omega (arith, held-long (line_of bytes) held.0, (line_of_fits bytes).1, lines-few others held.1)
 
-names-by : (defined : Defined) → length (tag_in defined) + length (component_in defined) + length (message_in defined) ≤ 1
-names-by (Tag tag) = omega arith
-names-by (ComponentName name) = omega arith
-names-by (MessageName letters) = omega arith
-names-by Nothing = omega arith
+names-by : (defined : Option Defined) → length (tag_in defined) + length (component_in defined) + length (message_in defined) ≤ 1
+names-by (Some (Tag tag)) = omega arith
+names-by (Some (ComponentName name)) = omega arith
+names-by (Some (MessageName letters)) = omega arith
+names-by None = omega arith
 
 -- a line defines at most one thing
 names-few : (lines : List Line) → length (names_of 1 lines) + length (names_of 5 lines) + length (names_of 6 lines) ≤ length lines

@@ -6,7 +6,7 @@
 --   AllHeld lines          a record can hold each of the lines
 --   keys_of lines           what the lines define, as the numbers that row 5 compares
 --   AcceptedWords words    some text is accepted, and the words begin with the arrangement of its lines
-use Rattle.std.specs.Prelude.{◌≡◌, ℕ, zero, suc, ◌+◌, ◌*◌, ◌-◌, ◌≤◌, ◌<◌, Bool, true, false, ◌||◌, cond, leb, ltb, eqb, length, take, drop, Option, Some, None, Ok}
+use Rattle.std.specs.Prelude.{◌≡◌, ℕ, zero, suc, ◌+◌, ◌*◌, ◌-◌, ◌≤◌, ◌<◌, Bool, true, false, ◌||◌, cond, leb, ltb, eqb, length, take, drop, Option, Some, None, Result, Ok, Err}
 use Rattle.std.proofs.Math.Path.{refl, sym}
 use Rattle.std.proofs.Common.{ap, ◌∙◌, length-append, get_or-drop, length-take-le, le-ltb, leb-true, ltb-true, ltb-false, eqb-true, eq-eqb, ne_eqb}
 use Rattle.std.proofs.lemmas.Bool.{false≢true, eqb-false}
@@ -22,12 +22,12 @@ use Rattle.line_forms.specs.declared.line.Line.TheVariants.{Def, Value, BeginHea
 use Rattle.dictionary_order.specs.declared.dictionary_order.State.{State}
 use Rattle.texts.specs.declared.dictionary_text.Counts.{Counts}
 use Rattle.texts.specs.declared.dictionary_text.Defined.{Defined}
-use Rattle.texts.specs.declared.dictionary_text.Defined.TheVariants.{Tag, ComponentName, MessageName, Nothing}
+use Rattle.texts.specs.declared.dictionary_text.Defined.TheVariants.{Tag, ComponentName, MessageName}
 use Rattle.lines.specs.Lines.{Pieces, last, piece, cut, lines_of, line_feed}
 use Rattle.lines.specs.LinesLaws.{cut-first_piece}
 use Rattle.lines.specs.LineParts.{is_visible}
 use Rattle.line_forms.specs.LineForms.{line_of}
-use Rattle.dictionary_order.specs.DictionaryOrder.{start, step_of}
+use Rattle.dictionary_order.specs.DictionaryOrder.{start, step_of, after}
 use Rattle.texts.specs.DictionaryText.{counted, counts, defined_by, order_from, key_of, is_in, on_key, again_from, again_of, order_of, dictionary_text_of}
 use Rattle.records.specs.Records.{record_of, line_from, letters_text, lines_from, Words32}
 use Rattle.records.specs.RecordsLaws.{Held, HeldEnd, record_of-line_from, line_from-held}
@@ -126,20 +126,20 @@ lines_in-texts_of (line ∷ rest) held =
 
 -- ---- rows 2 to 4: what passes is in order
 
-taken-by : (fault : Option Refusal) → is_taken fault ≡ true → fault ≡ None
-taken-by None taken = refl
-taken-by (Some refusal) taken = absurd (false≢true taken)
+taken-by : (state : State) (step : Result State Refusal) → is_taken step ≡ true → step ≡ Ok (after state step)
+taken-by state (Ok next) taken = refl
+taken-by state (Err refusal) taken = absurd (false≢true taken)
 
 -- what the check counts along the lines
 abbrev pub counts_of : Counts → List Line → Counts
 counts_of read [] = read
 counts_of read (line ∷ rest) = counts_of (counted read (defined_by line)) rest
 
-counted-by : (read : Counts) (defined : Defined) (number : ℕ) → number ≡ read.lines + 1 → number + 1 ≡ (counted read defined).lines + 1
-counted-by read (Tag tag) number same = omega arith
-counted-by read (ComponentName name) number same = omega arith
-counted-by read (MessageName letters) number same = omega arith
-counted-by read Nothing number same = omega arith
+counted-by : (read : Counts) (defined : Option Defined) (number : ℕ) → number ≡ read.lines + 1 → number + 1 ≡ (counted read defined).lines + 1
+counted-by read (Some (Tag tag)) number same = omega arith
+counted-by read (Some (ComponentName name)) number same = omega arith
+counted-by read (Some (MessageName letters)) number same = omega arith
+counted-by read None number same = omega arith
 
 pub counted-lines : (read : Counts) (line : Line) (number : ℕ) → number ≡ read.lines + 1 → number + 1 ≡ (counted read (defined_by line)).lines + 1
 counted-lines read line number same = counted-by read (defined_by line) number same
@@ -152,10 +152,10 @@ unfolding accepts order_from texts_of
 accepts-order state read number total [] same held passes = unfold cut non_empty in rw passes
 accepts-order state read number total (line ∷ rest) same held passes =
     let step = step_of state number line in
-    let fault = taken-by step.fault (and_left (is_taken step.fault) _ passes) in
-    let behind = and_right (leb (total + (length_of line + 1)) 65536) _ (and_right (is_taken step.fault) _ passes) in
-    rw (cut_line (text_of line) (texts_of rest) (text_of_low line held.0), line_of_text_of line held.0, ← same, fault)
-    (accepts-order step.next (counted read (defined_by line)) (number + 1) (total + (length_of line + 1)) rest (counted-lines read line number same) held.1 behind)
+    let taken = taken-by state step (and_left (is_taken step) _ passes) in
+    let behind = and_right (leb (total + (length_of line + 1)) 65536) _ (and_right (is_taken step) _ passes) in
+    rw (cut_line (text_of line) (texts_of rest) (text_of_low line held.0), line_of_text_of line held.0, ← same, taken)
+    (accepts-order (after state step) (counted read (defined_by line)) (number + 1) (total + (length_of line + 1)) rest (counted-lines read line number same) held.1 behind)
 
 -- ---- row 1: what passes is short enough
 
@@ -168,9 +168,9 @@ unfolding accepts texts_of
 accepts-length state number total [] held few passes = omega arith
 accepts-length state number total (line ∷ rest) held few passes =
     let step = step_of state number line in
-    let both = and_right (is_taken step.fault) _ passes in
+    let both = and_right (is_taken step) _ passes in
     let more = leb-true (total + (length_of line + 1)) 65536 (and_left (leb (total + (length_of line + 1)) 65536) _ both) in
-    let behind = accepts-length step.next (number + 1) (total + (length_of line + 1)) rest held.1 more (and_right (leb (total + (length_of line + 1)) 65536) _ both) in
+    let behind = accepts-length (after state step) (number + 1) (total + (length_of line + 1)) rest held.1 more (and_right (leb (total + (length_of line + 1)) 65536) _ both) in
     omega (arith, length-append (text_of line) (line_feed ∷ texts_of rest), text_of_length line held.0)
 
 -- ---- the records that pass are those of their lines
@@ -185,7 +185,7 @@ drop-small : (count : ℕ) (words : List ℕ) → Words32 words → Words32 (dro
 drop-small count words small place = rw (get_or-drop count words place 0) (small (count + place))
 
 -- a line of no form is not taken
-known-line : (state : State) (number : ℕ) (line : Line) → is_taken (step_of state number line).fault ≡ true → line ≡ Unknown → ⊥
+known-line : (state : State) (number : ℕ) (line : Line) → is_taken (step_of state number line) ≡ true → line ≡ Unknown → ⊥
 unfolding step_of
 known-line state number line taken unknown = let never : false ≡ true = rw unknown at taken in false≢true never
 
@@ -199,11 +199,11 @@ accepts-records state number total zero words fits small passes = (tt, refl)
 accepts-records state number total (suc count) words fits small passes =
     let line = line_from (take 10 words) in
     let step = step_of state number line in
-    let taken = and_left (is_taken step.fault) _ passes in
-    let behind = and_right (leb (total + (length_of line + 1)) 65536) _ (and_right (is_taken step.fault) _ passes) in
+    let taken = and_left (is_taken step) _ passes in
+    let behind = and_right (leb (total + (length_of line + 1)) 65536) _ (and_right (is_taken step) _ passes) in
     let ten : length (take 10 words) ≡ 10 = length-take-le 10 words (omega arith) in
     let known = known-line state number line taken in
-    let others = accepts-records step.next (number + 1) (total + (length_of line + 1)) count (drop 10 words) (omega (arith, length-drop 10 words)) (drop-small 10 words small) behind in
+    let others = accepts-records (after state step) (number + 1) (total + (length_of line + 1)) count (drop 10 words) (omega (arith, length-drop 10 words)) (drop-small 10 words small) behind in
     let more : 10 * suc count ≡ 10 + 10 * count = omega arith in (
       (line_from-held (take 10 words) ten (take-small 10 words small) known, others.0),
       rw (record_of-line_from (take 10 words) ten (take-small 10 words small) known, others.1, more) (sym (take-add 10 (10 * count) words)),
@@ -211,29 +211,29 @@ accepts-records state number total (suc count) words fits small passes =
 
 -- ---- row 5: nothing that passes is defined again
 
-abbrev pub tag_in : Defined → List ℕ
-tag_in (Tag tag) = tag ∷ []
-tag_in (ComponentName name) = []
-tag_in (MessageName letters) = []
-tag_in Nothing = []
+abbrev pub tag_in : Option Defined → List ℕ
+tag_in (Some (Tag tag)) = tag ∷ []
+tag_in (Some (ComponentName name)) = []
+tag_in (Some (MessageName letters)) = []
+tag_in None = []
 
-abbrev pub component_in : Defined → List ℕ
-component_in (Tag tag) = []
-component_in (ComponentName name) = name ∷ []
-component_in (MessageName letters) = []
-component_in Nothing = []
+abbrev pub component_in : Option Defined → List ℕ
+component_in (Some (Tag tag)) = []
+component_in (Some (ComponentName name)) = name ∷ []
+component_in (Some (MessageName letters)) = []
+component_in None = []
 
-abbrev pub message_in : Defined → List ℕ
-message_in (Tag tag) = []
-message_in (ComponentName name) = []
-message_in (MessageName letters) = letters ∷ []
-message_in Nothing = []
+abbrev pub message_in : Option Defined → List ℕ
+message_in (Some (Tag tag)) = []
+message_in (Some (ComponentName name)) = []
+message_in (Some (MessageName letters)) = letters ∷ []
+message_in None = []
 
-abbrev pub SmallNames : Defined → Type 0
-SmallNames (Tag tag) = tag < 4294967296
-SmallNames (ComponentName name) = name < 4294967296
-SmallNames (MessageName letters) = Unit
-SmallNames Nothing = Unit
+abbrev pub SmallNames : Option Defined → Type 0
+SmallNames (Some (Tag tag)) = tag < 4294967296
+SmallNames (Some (ComponentName name)) = name < 4294967296
+SmallNames (Some (MessageName letters)) = Unit
+SmallNames None = Unit
 
 tags-step_end : (number : Option ℕ) (letters : Option ℕ) (rest : List Line) → names_of 1 (End number letters ∷ rest) ≡ names_of 1 rest
 unfolding names_of is_of name_of record_of
@@ -346,32 +346,32 @@ keys_of [] = []
 keys_of (line ∷ rest) = key_in (key_of (defined_by line)) ++ keys_of rest
 
 module _ (key : ℕ) (keys names : List ℕ) (same : how_often key keys ≡ how_often key names) where
-  tag-key : (defined : Defined) → key < 4294967296 → how_often key (key_in (key_of defined) ++ keys) ≡ how_often key (tag_in defined ++ names)
+  tag-key : (defined : Option Defined) → key < 4294967296 → how_often key (key_in (key_of defined) ++ keys) ≡ how_often key (tag_in defined ++ names)
   unfolding how_often
-  tag-key (Tag tag) low = omega arith
-  tag-key (ComponentName name) low = omega (arith, once-other key (4294967296 + name) (λ equal. omega arith))
-  tag-key (MessageName letters) low = omega (arith, once-other key (8589934592 + letters) (λ equal. omega arith))
-  tag-key Nothing low = same
+  tag-key (Some (Tag tag)) low = omega arith
+  tag-key (Some (ComponentName name)) low = omega (arith, once-other key (4294967296 + name) (λ equal. omega arith))
+  tag-key (Some (MessageName letters)) low = omega (arith, once-other key (8589934592 + letters) (λ equal. omega arith))
+  tag-key None low = same
 
 module _ (name : ℕ) (keys names : List ℕ) where
-  component-key : (defined : Defined) → SmallNames defined
+  component-key : (defined : Option Defined) → SmallNames defined
       → name < 4294967296
       → how_often (4294967296 + name) keys ≡ how_often name names
       → how_often (4294967296 + name) (key_in (key_of defined) ++ keys) ≡ how_often name (component_in defined ++ names)
   unfolding how_often
-  component-key (Tag tag) small low same = omega (arith, once-other (4294967296 + name) tag (λ equal. omega arith))
-  component-key (ComponentName other) small low same = omega (arith, once-shifted 4294967296 name other)
-  component-key (MessageName letters) small low same = omega (arith, once-other (4294967296 + name) (8589934592 + letters) (λ equal. omega arith))
-  component-key Nothing small low same = same
+  component-key (Some (Tag tag)) small low same = omega (arith, once-other (4294967296 + name) tag (λ equal. omega arith))
+  component-key (Some (ComponentName other)) small low same = omega (arith, once-shifted 4294967296 name other)
+  component-key (Some (MessageName letters)) small low same = omega (arith, once-other (4294967296 + name) (8589934592 + letters) (λ equal. omega arith))
+  component-key None small low same = same
 
-  message-key : (defined : Defined) → SmallNames defined
+  message-key : (defined : Option Defined) → SmallNames defined
       → how_often (8589934592 + name) keys ≡ how_often name names
       → how_often (8589934592 + name) (key_in (key_of defined) ++ keys) ≡ how_often name (message_in defined ++ names)
   unfolding how_often
-  message-key (Tag tag) small same = omega (arith, once-other (8589934592 + name) tag (λ equal. omega arith))
-  message-key (ComponentName other) small same = omega (arith, once-other (8589934592 + name) (4294967296 + other) (λ equal. omega arith))
-  message-key (MessageName letters) small same = omega (arith, once-shifted 8589934592 name letters)
-  message-key Nothing small same = same
+  message-key (Some (Tag tag)) small same = omega (arith, once-other (8589934592 + name) tag (λ equal. omega arith))
+  message-key (Some (ComponentName other)) small same = omega (arith, once-other (8589934592 + name) (4294967296 + other) (λ equal. omega arith))
+  message-key (Some (MessageName letters)) small same = omega (arith, once-shifted 8589934592 name letters)
+  message-key None small same = same
 
 pub tag-keys : (key : ℕ) (lines : List Line) → key < 4294967296 → how_often key (keys_of lines) ≡ how_often key (names_of 1 lines)
 unfolding keys_of

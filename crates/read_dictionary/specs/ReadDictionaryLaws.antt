@@ -1,7 +1,7 @@
 -- Laws of `ReadDictionary.antt`: the counts of an accepted text are those of its lines; the loop of `put_records`, turn by turn; the parts of a dictionary,
 -- written one behind the other; and what the call answers. `written-passes`: what `read_dictionary` wrote passes the check of lent words. `written-size`: it
 -- wrote at most 131,068 words. Assumes nothing.
-use Rattle.std.specs.Prelude.{◌≡◌, refl, ℕ, ◌+◌, ◌*◌, ◌-◌, ◌≤◌, ◌<◌, Bool, true, false, cond, leb, take, drop, Result, Ok, Err}
+use Rattle.std.specs.Prelude.{◌≡◌, refl, ℕ, ◌+◌, ◌*◌, ◌-◌, ◌≤◌, ◌<◌, Bool, true, false, cond, leb, take, drop, Result, Ok, Err, Option, Some, None}
 use Rattle.std.proofs.Math.Path.{sym}
 use Rattle.std.proofs.Common.{ap, ◌∙◌, take_at, le-leb}
 use mathlib.Core.List.{List, [], ◌∷◌, ◌++◌, append_assoc}
@@ -19,11 +19,11 @@ use Rattle.line_forms.specs.declared.line.Line.{Line}
 use Rattle.dictionary_order.specs.declared.dictionary_order.State.{State}
 use Rattle.texts.specs.declared.dictionary_text.Counts.{Counts}
 use Rattle.texts.specs.declared.dictionary_text.Defined.{Defined}
-use Rattle.texts.specs.declared.dictionary_text.Defined.TheVariants.{Tag, ComponentName, MessageName, Nothing}
+use Rattle.texts.specs.declared.dictionary_text.Defined.TheVariants.{Tag, ComponentName, MessageName}
 use Rattle.lines.specs.Lines.{Pieces, last, piece, position_of, lines_of, line_feed}
 use Rattle.lines.specs.LinesLaws.{found_within, cut-at_piece, cut-at_last, cut-nothing}
 use Rattle.line_forms.specs.LineForms.{line_of}
-use Rattle.dictionary_order.specs.DictionaryOrder.{start, step_of, behind_trailer, behind_message}
+use Rattle.dictionary_order.specs.DictionaryOrder.{start, step_of, after, may_end}
 use Rattle.texts.specs.DictionaryText.{counts, counted, defined_by, order_from, order_of, dictionary_text_of}
 use Rattle.records.specs.Records.{record_of}
 use Rattle.records.specs.RecordsLaws.{record_of-length}
@@ -44,14 +44,14 @@ pub record CountsBehind (before after : Counts) (lines : List Line) : Type 0 whe
   pub components_more : after.components ≡ before.components + length (names_of 5 lines)
   pub messages_more : after.messages ≡ before.messages + length (names_of 6 lines)
 
-pub counted-more : (before : Counts) (defined : Defined) → ((counted before defined).lines ≡ before.lines + 1)
+pub counted-more : (before : Counts) (defined : Option Defined) → ((counted before defined).lines ≡ before.lines + 1)
     × (((counted before defined).tags ≡ before.tags + length (tag_in defined))
     × (((counted before defined).components ≡ before.components + length (component_in defined))
     × ((counted before defined).messages ≡ before.messages + length (message_in defined))))
-counted-more before (Tag tag) = (omega arith, (omega arith, (omega arith, omega arith)))
-counted-more before (ComponentName name) = (omega arith, (omega arith, (omega arith, omega arith)))
-counted-more before (MessageName letters) = (omega arith, (omega arith, (omega arith, omega arith)))
-counted-more before Nothing = (omega arith, (omega arith, (omega arith, omega arith)))
+counted-more before (Some (Tag tag)) = (omega arith, (omega arith, (omega arith, omega arith)))
+counted-more before (Some (ComponentName name)) = (omega arith, (omega arith, (omega arith, omega arith)))
+counted-more before (Some (MessageName letters)) = (omega arith, (omega arith, (omega arith, omega arith)))
+counted-more before None = (omega arith, (omega arith, (omega arith, omega arith)))
 
 counts-end_by : (some ends : Bool) (read outcome : Counts) (one two : Refusal)
     → cond some (Err one) (cond ends (Ok read) (Err two)) ≡ Ok outcome
@@ -64,13 +64,13 @@ order-counts : (state : State) (read : Counts) (pieces : Pieces) (outcome : Coun
 unfolding order_from lines_in
 order-counts state read (last bytes) outcome accepted =
     let same =
-    counts-end_by (non_empty bytes) (is_between behind_trailer behind_message state.stage) read outcome (UnknownForm (read.lines + 1)) (NotAllowed (read.lines + 1)) accepted in
+    counts-end_by (non_empty bytes) (may_end state) read outcome (UnknownForm (read.lines + 1)) (NotAllowed (read.lines + 1)) accepted in
     unfold names_of in rw same record { lines_more = omega arith; tags_more = omega arith; components_more = omega arith; messages_more = omega arith }
 order-counts state read (piece bytes others) outcome accepted =
     let line = line_of bytes in
     let step = step_of state (read.lines + 1) line in
-    let going_on = (fault_by step.fault (order_from step.next (counted read (defined_by line)) others) outcome accepted).1 in
-    let deeper = order-counts step.next (counted read (defined_by line)) others outcome going_on in
+    let going_on = (fault_by state step (λ next. order_from next (counted read (defined_by line)) others) outcome accepted).1 in
+    let deeper = order-counts (after state step) (counted read (defined_by line)) others outcome going_on in
     let more = counted-more read (defined_by line) in
     record {
       lines_more = omega (arith, deeper.lines_more, more.0);

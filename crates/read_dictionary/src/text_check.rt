@@ -4,29 +4,22 @@ ghost use Rattle.std.specs.Prelude.{◌≡◌, ◌≤◌, length};
 ghost use Rattle.std.proofs.lemmas.List.Edits.{sets};
 ghost use Rattle.ascending.specs.Search.{is_strictly_ascending};
 ghost use Rattle.ascending.specs.Sort.{sorted};
-ghost use Rattle.texts.specs.DictionaryText.{counted, order_of, dictionary_text_of};
+ghost use Rattle.texts.specs.DictionaryText.{counts, counted, order_of, dictionary_text_of};
 ghost use Rattle.definitions.specs.PassAccepted.{tag_in, component_in, message_in};
 ghost use Rattle.read_dictionary.specs.TextCheck.{NamesRoom, NamesRead};
 
 use ascending::search::is_strictly_ascending;
-use dictionary_order::dictionary_order::{BEGINNING, NO_BODY, State, take_line};
+use dictionary_order::dictionary_order::{Part, Stage, State, take_line};
 use line_forms::line::line_of;
-use lines::lines::position_of;
+use lines::text_lines::TextLines;
 use refusals::refusal::Refusal;
 use sorting::sort::sort_unstable;
 use texts::dictionary_text::{Counts, Defined, at_end, check_dictionary_text, defined_by};
 
-// What reading the lines in order gives, and what was counted up to the end or to the line that is refused.
-#[derive(Clone, Copy)]
-pub struct LinesRead {
-    pub outcome: Result<Counts, Refusal>,
-    pub counts: Counts,
-}
-
 // Counts a line, and keeps the name that it defines after those of its kind.
 fn keep_name(
     counts: Counts,
-    defined: Defined,
+    defined: Option<Defined>,
     tags: &mut [u32],
     components: &mut [u32],
     messages: &mut [u32],
@@ -42,82 +35,59 @@ fn keep_name(
         ..counts
     };
     match defined {
-        Defined::Tag(tag) => {
+        Some(Defined::Tag(tag)) => {
             tags[counts.tags as usize] = tag;
             Counts {
                 tags: counts.tags + 1,
                 ..counts
             }
         }
-        Defined::ComponentName(name) => {
+        Some(Defined::ComponentName(name)) => {
             components[counts.components as usize] = name;
             Counts {
                 components: counts.components + 1,
                 ..counts
             }
         }
-        Defined::MessageName(letters) => {
+        Some(Defined::MessageName(letters)) => {
             messages[counts.messages as usize] = letters;
             Counts {
                 messages: counts.messages + 1,
                 ..counts
             }
         }
-        Defined::Nothing => counts,
+        None => counts,
     }
 }
 
-// Reads the text from the top, refusals 2 to 4, and keeps the names that its lines define.
+// Reads the text from the top, refusals 2 to 4, and keeps the names that its lines define. `read` is what was counted up to the end or to the line that is refused.
 fn read_lines(
     text: &[u8],
+    read: &mut Counts,
     tags: &mut [u32],
     components: &mut [u32],
     messages: &mut [u32],
-) -> LinesRead
+) -> Result<Counts, Refusal>
     requires text_len_bound { length text.now ≤ 65536 }
+    requires none_counted { read.old ≡ counts 0 0 0 0 }
     requires tags_len { (length tags.old ≡ 13108) × ((length components.old ≡ 13108) × (length messages.old ≡ 13108)) }
-    ensures outcome { result.outcome ≡ order_of text.now }
-    ensures names { NamesRead text.now result.counts tags.new components.new messages.new }
+    ensures outcome { result ≡ order_of text.now }
+    ensures names { NamesRead text.now read.new tags.new components.new messages.new }
 {
     let mut state = State {
-        stage: BEGINNING,
-        part: NO_BODY,
+        stage: Stage::Beginning,
+        part: Part::NoBody,
         name: 0,
         depth: 0,
-        counts: [0u32; 40],
+        counts: [0; 40],
     };
-    let mut counts = Counts {
-        lines: 0,
-        tags: 0,
-        components: 0,
-        messages: 0,
-    };
-    let mut first = 0;
-    while first < text.len() {
-        let past = position_of(text, first, 10);
-        let number = counts.lines + 1;
-        if past == text.len() {
-            return LinesRead {
-                outcome: Err(Refusal::UnknownForm(number)),
-                counts,
-            };
-        }
-        let line = line_of(&text[first..past]);
-        let step = take_line(state, number, line);
-        if let Some(refusal) = step.fault {
-            return LinesRead {
-                outcome: Err(refusal),
-                counts,
-            };
-        }
-        state = step.next;
-        counts = keep_name(counts, defined_by(line), tags, components, messages);
-        first = past + 1;
+    for line in TextLines::new(text) {
+        let number = read.lines + 1;
+        let line = line_of(line.ok_or(Refusal::UnknownForm(number))?);
+        state = take_line(state, number, line)?;
+        *read = keep_name(*read, defined_by(line), tags, components, messages);
     }
-    LinesRead {
-        outcome: at_end(state, counts),
-        counts,
-    }
+    at_end(state, *read)
 }
 
 // Sorts the names: whether no two are the same.
@@ -138,13 +108,13 @@ pub fn check_text(text: &[u8]) -> Result<Counts, Refusal>
     let mut tags = [0u32; 13108];
     let mut components = [0u32; 13108];
     let mut messages = [0u32; 13108];
-    let read = read_lines(text, &mut tags, &mut components, &mut messages);
-    let counts = read.counts;
+    let mut counts = Counts::default();
+    let outcome = read_lines(text, &mut counts, &mut tags, &mut components, &mut messages);
     if !are_once_each(&mut tags[..counts.tags as usize])
         || !are_once_each(&mut components[..counts.components as usize])
         || !are_once_each(&mut messages[..counts.messages as usize])
     {
         return check_dictionary_text(text);
     }
-    read.outcome
+    outcome
 }

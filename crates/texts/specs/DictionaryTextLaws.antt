@@ -40,7 +40,7 @@ few-up_to read first bytes within few_bytes few = record { few_lines = omega ari
 
 -- ---- a line longer: how many bytes are left
 
-line-length : (rest bytes left : List ℕ) → IsFirstLine rest bytes left → length rest ≡ length bytes + (length left + 1)
+pub line-length : (rest bytes left : List ℕ) → IsFirstLine rest bytes left → length rest ≡ length bytes + (length left + 1)
 line-length rest bytes left first = ap length first.bytes ∙ length-append bytes (line_feed ∷ left) ∙ search rules
 
 -- ---- order_from

@@ -14,7 +14,7 @@ use Rattle.ascending.specs.Search.{is_strictly_ascending, rank_in}
 use Rattle.line_forms.specs.declared.line.Line.{Line}
 use Rattle.line_forms.specs.declared.line.Line.TheVariants.{Unknown}
 use Rattle.dictionary_order.specs.declared.dictionary_order.State.{State}
-use Rattle.dictionary_order.specs.DictionaryOrder.{start, step_of}
+use Rattle.dictionary_order.specs.DictionaryOrder.{start, step_of, after}
 use Rattle.records.specs.Records.{line_from, outer_from, lines_from}
 use Rattle.records.specs.LineLengths.{length_of}
 use Rattle.dictionary.specs.DictionaryCheck.{is_taken, accepts, count_of, stands_at, stands_each, is_index, tags_at, is_dictionary}
@@ -25,7 +25,7 @@ use Rattle.ascending.specs.SearchLaws.{rank_in-inside}
 -- ---- the lines of an accepted dictionary
 
 -- a line that is taken has a form
-taken-known : (state : State) (number : ℕ) (line : Line) → is_taken (step_of state number line).fault ≡ true → line ≡ Unknown → ⊥
+taken-known : (state : State) (number : ℕ) (line : Line) → is_taken (step_of state number line) ≡ true → line ≡ Unknown → ⊥
 unfolding step_of
 taken-known state number line taken unknown = let never : false ≡ true = rw unknown at taken in false≢true never
 
@@ -38,14 +38,14 @@ unfolding accepts lines_from
 accepted-known state number total zero words place passes inside unknown = absurd (omega arith)
 accepted-known state number total (suc count) words zero passes inside unknown =
     let line = line_from (take 10 words) in
-    taken-known state number line (and_left (is_taken (step_of state number line).fault) _ passes) unknown
+    taken-known state number line (and_left (is_taken (step_of state number line)) _ passes) unknown
 accepted-known state number total (suc count) words (suc place) passes inside unknown =
     let line = line_from (take 10 words) in
     let step = step_of state number line in
-    let behind = and_right (leb (total + (length_of line + 1)) 65536) _ (and_right (is_taken step.fault) _ passes) in
+    let behind = and_right (leb (total + (length_of line + 1)) 65536) _ (and_right (is_taken step) _ passes) in
     let further : 10 * suc place ≡ 10 + 10 * place = omega arith in
     let same : drop (10 * suc place) words ≡ drop (10 * place) (drop 10 words) = rw further (sym (drop-drop (10 * place) 10 words)) in
-    accepted-known step.next (number + 1) (total + (length_of line + 1)) count (drop 10 words) place behind (omega arith) (rw same at unknown)
+    accepted-known (after state step) (number + 1) (total + (length_of line + 1)) count (drop 10 words) place behind (omega arith) (rw same at unknown)
 
 -- the third word of a definition's record is the number of a type
 typed_record : (words : List ℕ) → get_or words 0 0 ≡ 1 → (line_from words ≡ Unknown → ⊥) → get_or words 2 0 < 34

@@ -13,4 +13,4 @@ returns-then-text-gt65536 c = record { outcome = rw (lt-ltb _ _ c.if-text-gt6553
 -- pub fn check_text(text: &[u8]) -> Result<Counts, Refusal>
 pub returns : goal.returns
 unfolding dictionary_text_of
-returns c = record { outcome = rw (le-ltb _ _ c.if-text-gt65536.false) (c.read_lines-read.ensures.outcome ∙ sym (c.read_lines-read.ensures.names.unrepeated (ascending_once _ (sym c.are_once_each.ensures.outcome ∙ c.if-not-are_once_each.false)) (ascending_once _ (sym c.are_once_each-else-not-are_once_each.ensures.outcome ∙ c.if-not-are_once_each-2.false)) (ascending_once _ (sym c.are_once_each-else-not-are_once_each-2.ensures.outcome ∙ c.if-not-are_once_each-3.false)))) }
+returns c = record { outcome = rw (le-ltb _ _ c.if-text-gt65536.false) (c.read_lines-outcome.ensures.outcome ∙ sym (c.read_lines-outcome.ensures.names.unrepeated (ascending_once _ (sym c.are_once_each.ensures.outcome ∙ c.if-not-are_once_each.false)) (ascending_once _ (sym c.are_once_each-else-not-are_once_each.ensures.outcome ∙ c.if-not-are_once_each-2.false)) (ascending_once _ (sym c.are_once_each-else-not-are_once_each-2.ensures.outcome ∙ c.if-not-are_once_each-3.false)))) }
