@@ -1,19 +1,20 @@
--- Laws of `LayoutText.antt`: what a step keeps, and the loop over the lines of a text, turn by turn. The lines still to be read are those of
--- `drop first text`; a search for the line feed from `first` on stopped at `past`. Assumes nothing.
-use Rattle.std.specs.Prelude.{◌≡◌, ℕ, ◌+◌, ◌-◌, ◌≤◌, ◌<◌, Bool, true, false, cond, List, eqb, ltb, length, get_or, take, drop, Option, Some, None, Result, Ok, Err, IfOk}
+-- Laws of `LayoutText.antt`: what a step keeps, and the loop over the lines of a text, turn by turn. The lines still to be read are those of the
+-- bytes that are left. Assumes nothing.
+use Rattle.std.specs.Prelude.{◌≡◌, ℕ, ◌+◌, ◌-◌, ◌≤◌, Bool, true, false, cond, List, [], ◌∷◌, eqb, ltb, length, get_or, Option, Some, None, Result, Ok, Err, IfOk}
 use Rattle.std.proofs.Math.Path.{refl}
-use Rattle.std.proofs.Common.{◌∙◌, arith, ltb-true}
-use Rattle.std.proofs.Math.ListN.{length-drop}
+use Rattle.std.proofs.Common.{◌∙◌, ap, arith, ltb-true, length-append}
+use denote.Ref.{Bor}
 use Rattle.ascii.specs.Bytes.{non_empty}
-use Rattle.ascii.specs.BytesLaws.{non_empty-some}
 use Rattle.refusals.specs.declared.refusal.Refusal.{Refusal}
 use Rattle.refusals.specs.declared.refusal.Refusal.TheVariants.{UnknownForm, NotAllowed}
 use Rattle.line_forms.specs.declared.line.Line.{Line}
 use Rattle.line_forms.specs.declared.line.Line.TheVariants.{Def, Value, BeginHeader, BeginTrailer, EndHeader, EndTrailer, Component, Message, Field, Group, Use, End, Member, RequiredTag, Unknown}
 use Rattle.layout_text.specs.declared.layout_text.LevelState.{LevelState}
 use Rattle.layout_text.specs.declared.layout_text.Part.TheVariants.{Required, Blocks}
-use Rattle.lines.specs.Lines.{position_of, lines_of, line_feed}
-use Rattle.lines.specs.LinesLaws.{found_within, cut-at_piece, cut-at_last, cut-nothing}
+use Rattle.lines.specs.Lines.{cut, lines_of, line_feed}
+use Rattle.lines.specs.TextLinesLaws.{given_unended, given_line}
+use Rattle.std.specs.Option.{ok_or}
+use Rattle.lines.specs.TextLines.{GivesLine, IsFirstLine, IsUnended}
 use Rattle.line_forms.specs.LineForms.{line_of}
 use Rattle.layout_text.specs.LayoutText.{takes_member, takes_required, level, top, in_part, open_level, close_open, close_level, numbered_end, level_step_of, layout_end, layout_order_from, layout_order_of}
 
@@ -63,58 +64,58 @@ module _ (state : LevelState) (number : ℕ) (within : state.depth ≤ 40) where
 
 -- ---- layout_order_from
 
-module _ (state : LevelState) (lines : ℕ) (text : List ℕ) (first : ℕ) where
-  levels_end : length text ≤ first → layout_order_from state lines (lines_of (drop first text)) ≡ layout_end state lines
-  unfolding layout_order_from non_empty
-  levels_end over = rw (cut-nothing line_feed text first over)
+module _ (state : LevelState) (lines : ℕ) (left : List ℕ) where
+  levels_end : left ≡ [] → layout_order_from state lines (lines_of left) ≡ layout_end state lines
+  unfolding layout_order_from non_empty cut
+  levels_end none = rw none refl
 
-  module _ (past : ℕ) (within : first ≤ length text) (found : past ≡ first + position_of line_feed (drop first text)) where
-    levels_unended : first < length text → past ≡ length text → layout_order_from state lines (lines_of (drop first text)) ≡ Err (UnknownForm (lines + 1))
+  levels_unended : IsUnended left → layout_order_from state lines (lines_of left) ≡ Err (UnknownForm (lines + 1))
+  unfolding layout_order_from
+  levels_unended is = rw (is.uncut, is.some_byte)
+
+  module _ (bytes left' : List ℕ) (is : IsFirstLine left bytes left') where
+    levels_go_on : (next : LevelState) → level_step_of state (lines + 1) (line_of bytes) ≡ Ok next
+        → layout_order_from state lines (lines_of left) ≡ layout_order_from next (lines + 1) (lines_of left')
     unfolding layout_order_from
-    levels_unended inside at-end = rw (cut-at_last line_feed text first past within found at-end, non_empty-some (drop first text) (λ empty. omega (arith, length-drop first text)))
+    levels_go_on next taken = rw (is.cut_off, taken)
 
-    module _ (before-end : past ≡ length text → ⊥) (line : Line) (reads : line ≡ line_of (take (past - first) (drop first text))) where
-      levels_go_on : (next : LevelState) → level_step_of state (lines + 1) line ≡ Ok next
-          → layout_order_from state lines (lines_of (drop first text)) ≡ layout_order_from next (lines + 1) (lines_of (drop (past + 1) text))
-      unfolding layout_order_from
-      levels_go_on next taken = rw (cut-at_piece line_feed text first past within found before-end, ← reads, taken)
+    levels_refuse : (refusal : Refusal) → level_step_of state (lines + 1) (line_of bytes) ≡ Err refusal → layout_order_from state lines (lines_of left) ≡ Err refusal
+    unfolding layout_order_from
+    levels_refuse refusal faulty = rw (is.cut_off, faulty)
 
-      levels_refuse : (refusal : Refusal) → level_step_of state (lines + 1) line ≡ Err refusal → layout_order_from state lines (lines_of (drop first text)) ≡ Err refusal
-      unfolding layout_order_from
-      levels_refuse refusal faulty = rw (cut-at_piece line_feed text first past within found before-end, ← reads, faulty)
-
--- the loop of `read_levels`: the lines before `first` were taken
-pub record LevelsSoFar (text : List ℕ) (first : ℕ) (state : LevelState) (lines : ℕ) : Type 0 where
-  pub within : first ≤ length text
+-- the loop of `read_levels`: the lines before those that are left were taken
+pub record LevelsSoFar (text : List ℕ) (left : List ℕ) (state : LevelState) (lines : ℕ) : Type 0 where
   pub few_open : state.depth ≤ 40
-  pub few_lines : lines ≤ first
-  pub rest : layout_order_of text ≡ layout_order_from state lines (lines_of (drop first text))
+  pub few_lines : lines + length left ≤ length text
+  pub rest : layout_order_of text ≡ layout_order_from state lines (lines_of left)
 
-pub levels_begin : (text : List ℕ) → LevelsSoFar text 0 top 0
+pub levels_begin : (text : List ℕ) → LevelsSoFar text text top 0
 unfolding layout_order_of
-levels_begin text = record { within = omega arith; few_open = omega arith; few_lines = omega arith; rest = refl }
+levels_begin text = record { few_open = omega arith; few_lines = omega arith; rest = refl }
 
-module _ (text : List ℕ) (first : ℕ) (state : LevelState) (lines : ℕ) (so_far : LevelsSoFar text first state lines) where
-  pub levels_stop : length text ≤ first → layout_order_of text ≡ layout_end state lines
-  levels_stop over = so_far.rest ∙ levels_end state lines text first over
+module _ (text : List ℕ) (left : List ℕ) (state : LevelState) (lines : ℕ) (so_far : LevelsSoFar text left state lines) where
+  pub levels_stop : left ≡ [] → layout_order_of text ≡ layout_end state lines
+  levels_stop none = so_far.rest ∙ levels_end state lines left none
 
-  module _ (past : ℕ) (found : past ≡ first + position_of line_feed (drop first text)) where
-    pub levels_break : first < length text → past ≡ length text → layout_order_of text ≡ Err (UnknownForm (lines + 1))
-    levels_break inside at-end = so_far.rest ∙ levels_unended state lines text first past so_far.within found inside at-end
+  module _ (given : Option (Bor (List ℕ))) (left' : List ℕ) (gives : GivesLine left (Some given) left') where
+    pub levels_break : (refusal : Refusal) → ok_or given (UnknownForm (lines + 1)) ≡ Err refusal → layout_order_of text ≡ Err refusal
+    levels_break refusal refused =
+        let unended = given_unended (UnknownForm (lines + 1)) left left' given gives refusal refused in
+        so_far.rest ∙ levels_unended state lines left unended.0 ∙ ap Err unended.1
 
-    module _ (before-end : past ≡ length text → ⊥) (line : Line) (reads : line ≡ line_of (take (past - first) (drop first text))) where
+    module _ (bytes : Bor (List ℕ)) (given_bytes : ok_or given (UnknownForm (lines + 1)) ≡ Ok bytes) (line : Line) (reads : line ≡ line_of bytes.now) where
+      first : IsFirstLine left bytes.now left'
+      first = given_line (UnknownForm (lines + 1)) left left' given gives bytes given_bytes
+
       pub levels_faulty : (refusal : Refusal) → level_step_of state (lines + 1) line ≡ Err refusal → layout_order_of text ≡ Err refusal
-      levels_faulty refusal faulty = so_far.rest ∙ levels_refuse state lines text first past so_far.within found before-end line reads refusal faulty
+      levels_faulty refusal faulty = so_far.rest ∙ levels_refuse state lines left bytes.now left' first refusal (rw reads at faulty)
 
-      pub levels_turn : (next : LevelState) → level_step_of state (lines + 1) line ≡ Ok next → LevelsSoFar text (past + 1) next (lines + 1)
-      levels_turn next taken =
-          let bounds = found_within line_feed text first past so_far.within found in
-          record {
-            within = omega (arith, bounds, before-end);
-            few_open = taken-depth state (lines + 1) so_far.few_open line next taken;
-            few_lines = omega (arith, bounds, so_far.few_lines);
-            rest = so_far.rest ∙ levels_go_on state lines text first past so_far.within found before-end line reads next taken;
-          }
+      pub levels_turn : (next : LevelState) → level_step_of state (lines + 1) line ≡ Ok next → LevelsSoFar text left' next (lines + 1)
+      levels_turn next taken = record {
+        few_open = taken-depth state (lines + 1) so_far.few_open line next taken;
+        few_lines = omega (arith, so_far.few_lines, ap length first.bytes, length-append bytes.now (line_feed ∷ left'));
+        rest = so_far.rest ∙ levels_go_on state lines left bytes.now left' first next (rw reads at taken);
+      }
 
 -- ---- close_open: at most 40 group blocks stay open
 

@@ -6,7 +6,9 @@
 --   lines_in pieces         the lines of a text that is cut at its line feeds
 --   lines_at text first     the lines of the text from the byte `first` on
 --   least_bytes line        how many bytes such a line has at least, with its line feed
-use Rattle.std.specs.Prelude.{ℕ, List, [], ◌∷◌, drop, if◌then◌else◌, Option, Some, None}
+--   IsNextLine text first line next     the line begins at `first`, the one after it at `next`
+--   GivesLevelLine text first given next     what a call of `next` gives where the lines from `first` on are left, and `next` is what it leaves
+use Rattle.std.specs.Prelude.{◌≡◌, ℕ, ◌+◌, ◌≤◌, ◌<◌, List, [], ◌∷◌, length, drop, MatchOption, if◌then◌else◌, Option, Some, None}
 use Rattle.ascii.specs.Bytes.{non_empty}
 use Rattle.line_forms.specs.declared.line.Line.{Line}
 use Rattle.line_forms.specs.declared.line.Line.TheVariants.{Def, Value, BeginHeader, BeginTrailer, EndHeader, EndTrailer, Component, Message, Field, Group, Use, End, Member, RequiredTag, Unknown}
@@ -51,3 +53,12 @@ least_bytes (RequiredLine tag) = 10
 least_bytes (GroupLine count delimiter flag) = 7
 least_bytes EndLine = 5
 least_bytes OtherLine = 1
+
+-- the line that begins at `first`, and where the next one begins
+pub record IsNextLine (text : List ℕ) (first : ℕ) (line : LevelLine) (next : ℕ) : Type 0 where
+  pub reads : lines_at text first ≡ line ∷ lines_at text next
+  pub bounds : (first < next) × (next ≤ length text) × (first + least_bytes line ≤ next)
+
+-- what a call of `next` gives where the next line begins at `first`, and where the one after it begins
+abbrev pub GivesLevelLine : List ℕ → ℕ → Option LevelLine → ℕ → Type 0
+GivesLevelLine text first given next = MatchOption given ((length text ≤ first) × (next ≡ first)) (λ line. IsNextLine text first line next)

@@ -1,18 +1,21 @@
 -- Laws of `LevelLines.antt`: the next line of a text, and how many bytes a line has at least. Assumes nothing.
-use Rattle.std.specs.Prelude.{◌≡◌, refl, ℕ, ◌+◌, ◌-◌, ◌≤◌, ◌<◌, Bool, true, false, cond, List, [], ◌∷◌, length, take, Option, Some, None}
-use Rattle.std.proofs.Common.{ap, ◌∙◌, arith, length-take-le}
+use Rattle.std.specs.Prelude.{◌≡◌, refl, ℕ, zero, suc, ◌+◌, ◌-◌, ◌≤◌, ◌<◌, Bool, true, false, cond, List, [], ◌∷◌, length, take, Option, Some, None}
+use Rattle.std.proofs.Common.{ap, sym, ◌∙◌, arith, length-append, length-take-le, drop-drop}
+use Rattle.std.proofs.Math.Seq.{drop-append-add}
+use Rattle.std.proofs.lemmas.Bool.{false≢true}
 use Rattle.std.proofs.Math.ListN.{drop, length-drop}
 use Rattle.ascii.specs.Bytes.{ascii, non_empty}
-use Rattle.ascii.specs.BytesLaws.{non_empty-some}
+use Rattle.ascii.specs.BytesLaws.{non_empty-none, non_empty-some}
 use Rattle.line_forms.specs.declared.line.Line.{Line}
 use Rattle.line_forms.specs.declared.line.Line.TheVariants.{EndHeader, EndTrailer, BeginHeader, BeginTrailer, Unknown}
 use Rattle.lines.specs.Lines.{position_of, before, behind, starts_with, is_same, line_feed, comma}
 use Rattle.lines.specs.LinesLaws.{starts_with_length, found_within, cut-at_piece, cut-at_last, cut-nothing}
+use Rattle.lines.specs.TextLines.{IsFirstLine, IsUnended}
 use Rattle.lines.specs.LineParts.{number_of, flag_of, type_of, message_type_of, value_of}
 use Rattle.line_forms.specs.LineForms.{def_with, def_of, value_with, begin_of, component_with, message_with, message_of, field_with, field_of, group_with, group_rest, group_of, use_with, use_of, end_with, end_of, member_with, required_with, block_line_of, definition_line_of, line_of}
 use Rattle.layout_text.specs.declared.level_line.LevelLine.{LevelLine}
 use Rattle.layout_text.specs.declared.level_line.LevelLine.TheVariants.{OtherLine}
-use Rattle.layout_text.specs.LevelLines.{level_line_of, lines_in, lines_at, least_bytes}
+use Rattle.layout_text.specs.LevelLines.{level_line_of, lines_in, lines_at, least_bytes, IsNextLine}
 use Rattle.lines.specs.declared.line_parts.Admitted.{Admitted}
 
 -- ---- least_bytes: a line has its key, and its line feed
@@ -181,3 +184,34 @@ module _ (text : List ℕ) (first past : ℕ) (inside : first < length text) (fo
 pub least_other : least_bytes OtherLine ≡ 1
 unfolding least_bytes
 least_other = refl
+
+-- ---- IsNextLine: the first line of the text from `first` on, where `left` is left of it
+
+module _ (text : List ℕ) (first : ℕ) (within : first ≤ length text) (left : List ℕ) where
+  pub next_first : (bytes : List ℕ) → IsFirstLine (drop first text) bytes left → (level : LevelLine) → level ≡ level_line_of (line_of bytes)
+      → IsNextLine text first level (length text - length left)
+  unfolding lines_in
+  next_first bytes is level level_is =
+      let sizes : length text ≡ first + length bytes + 1 + length left = omega (arith, ap length is.bytes, length-drop first text, within, length-append bytes (line_feed ∷ left)) in
+      let next : length text - length left ≡ first + (length bytes + 1) = omega (arith, sizes) in
+      let behind : drop (first + (length bytes + 1)) text ≡ left =
+      sym (drop-drop (length bytes + 1) first text) ∙ ap (drop (length bytes + 1)) is.bytes ∙ drop-append-add bytes (line_feed ∷ left) 1 in
+      record {
+        reads = rw (is.cut_off, next, behind, level_is);
+        bounds = (omega (arith, sizes), omega arith, omega (arith, sizes, ap least_bytes level_is, least_bytes-line bytes));
+      }
+
+  pub next_other : IsUnended (drop first text) → left ≡ [] → IsNextLine text first OtherLine (length text - length left)
+  unfolding lines_in
+  next_other is none =
+      let next : length text - length left ≡ length text = omega (arith, ap length none) in
+      let some : length (drop first text) ≡ 0 → ⊥ = λ empty. false≢true (sym (non_empty-none (drop first text) empty) ∙ is.some_byte) in
+      let inside : first < length text = omega (arith, some_more (length (drop first text)) some, length-drop first text) in
+      record {
+        reads = rw (next, lines_none text (length text) (omega arith), is.uncut, is.some_byte);
+        bounds = (omega (arith, inside, next), omega (arith, next), omega (arith, inside, next, least_other));
+      }
+    where
+      some_more : (many : ℕ) → (many ≡ 0 → ⊥) → 0 < many
+      some_more zero none' = absurd (none' refl)
+      some_more (suc many) none' = omega arith

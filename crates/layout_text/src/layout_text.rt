@@ -3,7 +3,7 @@ ghost use Rattle.std.specs.Prelude.{◌≡◌, ◌≤◌, ◌<◌, length};
 ghost use Rattle.layout_text.specs.LayoutText.{member_step, required_step, open_level, close_level, level_step_of, layout_end, layout_order_of, layout_text_of};
 
 use line_forms::line::{Line, line_of};
-use lines::lines::position_of;
+use lines::text_lines::TextLines;
 use refusals::refusal::Refusal;
 
 // Which lines of the innermost open level were read last.
@@ -117,17 +117,11 @@ fn read_levels(text: &[u8]) -> Result<u64, Refusal>
         counts: [0; 40],
     };
     let mut lines = 0;
-    let mut first = 0;
-    while first < text.len() {
-        let past = position_of(text, first, b'\n');
+    for line in TextLines::new(text) {
         let number = lines + 1;
-        if past == text.len() {
-            return Err(Refusal::UnknownForm(number));
-        }
-        let line = line_of(&text[first..past]);
-        state = take_level_line(state, number, line)?;
+        let line = line.ok_or(Refusal::UnknownForm(number))?;
+        state = take_level_line(state, number, line_of(line))?;
         lines = number;
-        first = past + 1;
     }
     at_layout_end(state, lines)
 }

@@ -1,9 +1,10 @@
 // The lines of a layout text, one at a time.
-ghost use Rattle.std.specs.Prelude.{◌≡◌, ◌∷◌, ◌+◌, ◌<◌, ◌≤◌, length};
-ghost use Rattle.layout_text.specs.LevelLines.{level_line_of, lines_at, least_bytes};
+ghost use Rattle.std.specs.Prelude.{◌≡◌, ◌-◌, length};
+ghost use Rattle.std.specs.Iterator.{at_most};
+ghost use Rattle.layout_text.specs.LevelLines.{level_line_of, GivesLevelLine};
 
 use line_forms::line::{Line, line_of};
-use lines::lines::position_of;
+use lines::text_lines::TextLines;
 
 // A line of a layout text: what it adds to the innermost open level, opens or closes.
 #[derive(Clone, Copy)]
@@ -18,13 +19,6 @@ pub enum LevelLine {
     EndLine,
     // a line of no form known to a layout text
     OtherLine,
-}
-
-// A line, and where the next one begins.
-#[derive(Clone, Copy)]
-pub struct NextLine {
-    pub line: LevelLine,
-    pub next: usize,
 }
 
 // What a line is to a layout text. Of the end lines it knows only end=COUNT.
@@ -46,22 +40,43 @@ fn level_line(line: Line) -> LevelLine
     }
 }
 
-// The line that begins at `first`.
-pub fn line_at(text: &[u8], first: usize) -> NextLine
-    requires { first < length text.now }
-    ensures line { lines_at text.now first ≡ result.line ∷ lines_at text.now result.next }
-    ensures bounds { (first < result.next) × (result.next ≤ length text.now) × (first + least_bytes result.line ≤ result.next) }
-{
-    let past = position_of(text, first, b'\n');
-    if past == text.len() {
-        return NextLine {
-            line: LevelLine::OtherLine,
-            next: past,
-        };
+// An iterator over the lines of a layout text from the byte `first` on.
+#[derive(Clone, Copy)]
+pub struct LevelLines<'a> {
+    text: &'a [u8],
+    first: usize,
+}
+
+impl<'a> LevelLines<'a> {
+    pub fn new(text: &'a [u8], first: usize) -> LevelLines<'a>
+        ensures text { result.text.now ≡ text.now }
+        ensures first { result.first ≡ first }
+    {
+        LevelLines { text, first }
     }
-    let line = level_line(line_of(&text[first..past]));
-    NextLine {
-        line,
-        next: past + 1,
+
+    // Where the next line begins.
+    pub fn place(&self) -> usize
+        ensures { result ≡ self.now.first }
+    {
+        self.first
+    }
+}
+
+impl<'a> Iterator for LevelLines<'a> {
+    type Item = LevelLine;
+
+    ghost next_gives = { λ lines given left. (left.text.now ≡ lines.text.now) × GivesLevelLine lines.text.now lines.first given left.first };
+
+    ghost remaining = { λ lines. at_most (length lines.text.now - lines.first) };
+
+    fn next(&mut self) -> Option<LevelLine> {
+        let mut lines = TextLines::new(self.text.get(self.first..)?);
+        let given = lines.next()?;
+        self.first = self.text.len() - lines.rest().len();
+        match given {
+            Some(bytes) => Some(level_line(line_of(bytes))),
+            None => Some(LevelLine::OtherLine),
+        }
     }
 }

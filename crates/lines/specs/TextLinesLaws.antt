@@ -1,7 +1,8 @@
 -- Laws of `TextLines.antt`: what the library's search for the line feed cuts off is the first line, and the lines that the iterator gives are those of
 -- `lines_of`. Assumes nothing.
-use Rattle.std.specs.Prelude.{◌≡◌, refl, ℕ, suc, ◌+◌, ◌-◌, ◌≤◌, ◌<◌, List, [], ◌∷◌, length, take, drop, eqb, Option, Some, None}
+use Rattle.std.specs.Prelude.{◌≡◌, refl, ℕ, suc, ◌+◌, ◌-◌, ◌≤◌, ◌<◌, List, [], ◌∷◌, length, take, drop, eqb, Option, Some, None, Ok, Err}
 use Rattle.std.specs.List.{position}
+use Rattle.std.specs.Option.{ok_or}
 use Rattle.std.proofs.Common.{◌∙◌, arith, rules}
 use Rattle.std.proofs.lemmas.Bool.{false≢true}
 use Rattle.std.specs.Iterator.{YieldsFirstBy}
@@ -54,3 +55,14 @@ unfolding listed cut
 gives_listed text left None empty = rw (empty.0, empty.1) (refl, refl)
 gives_listed text left (Some None) bytes = rw bytes.1 (listed_unended text bytes.0)
 gives_listed text left (Some (Some line)) first = listed_line text line.now left first
+
+-- ---- a caller that refuses the bytes after the last line feed, with `ok_or`
+
+module _ {E : Type 0} (refusal : E) (text left : List ℕ) where
+  pub given_unended : (given : Option (Bor (List ℕ))) → GivesLine text (Some given) left → (error : E) → ok_or given refusal ≡ Err error → IsUnended text × (refusal ≡ error)
+  given_unended None gives error refused = (gives.0, cc)
+  given_unended (Some line) gives error other = cc
+
+  pub given_line : (given : Option (Bor (List ℕ))) → GivesLine text (Some given) left → (line : Bor (List ℕ)) → ok_or given refusal ≡ Ok line → IsFirstLine text line.now left
+  given_line None gives line other = cc
+  given_line (Some own) gives line taken = let same : own ≡ line = cc in rw same at gives
