@@ -1,6 +1,6 @@
 -- Laws of the lengths of records' lines: a line of a known form is given by its kind, no line has more than 38 bytes (`line_from-few`), and the loop of
 -- `text_length`. Assumes nothing.
-use Rattle.std.specs.Prelude.{◌≡◌, refl, ℕ, zero, suc, ◌+◌, ◌*◌, ◌-◌, ◌≤◌, ◌<◌, Bool, true, false, cond, List, eqb, leb, ltb, length, take, drop, Some, None}
+use Rattle.std.specs.Prelude.{◌≡◌, refl, ℕ, zero, suc, ◌+◌, ◌*◌, ◌-◌, ◌≤◌, ◌<◌, Bool, true, false, cond, List, eqb, leb, ltb, length, take, drop, Some, None, Ok, Err}
 use Rattle.std.proofs.Common.{sym, ap, ◌∙◌, length-take, length-drop, drop-drop}
 use Rattle.std.proofs.lemmas.Bool.{false≢true}
 use native.Mathlib.Omega.{arith}
@@ -10,7 +10,11 @@ use Rattle.line_forms.specs.declared.line.Line.TheVariants.{Def, Value, BeginHea
 use Rattle.lines.specs.LineParts.{number_of}
 use Rattle.records.specs.Records.{letters_text, holds_letters, holds_value, is_unused, admitted_from, def_from, value_from, message_from, field_from, group_from, use_from, end_of_letters, end_of_number, outer_from, body_from, line_from, lines_from}
 use Rattle.records.specs.KnownLines.{is_known, AreKnown}
-use Rattle.records.specs.RecordsLaws.{line_from-kind, line_from-part}
+use Rattle.records.specs.declared.record_kind.RecordKind.{RecordKind}
+use Rattle.records.specs.declared.record_kind.UnknownKind.{UnknownKind}
+use Rattle.records.specs.RecordKind.{kind_number, kind_numbered}
+use Rattle.records.specs.RecordKindLaws.{number-kind_numbered}
+use Rattle.records.specs.RecordsLaws.{line_from-kind, line_from-unknown, line_from-part}
 use Rattle.records.specs.WordTextLaws.{letters_length-range, holds_value-length}
 use Rattle.records.specs.LineLengths.{app_length, length_of, text_length}
 use Rattle.records.specs.TypeTextLaws.{type_lengths-few}
@@ -93,6 +97,14 @@ module _ (words : List ℕ) (known : is_known (line_from words) ≡ true) where
   pub other_unknown : Unknown ≡ line_from words → 0 ≡ length_of (line_from words) + 1
   unfolding is_known
   other_unknown none = absurd (false≢true (rw (← none) at known))
+
+  -- the kind of the record, by its number
+  pub known-numbered : (kind : RecordKind) → Ok kind ≡ kind_numbered (get_or words 0 0) → get_or words 0 0 ≡ kind_number kind
+  known-numbered kind numbered = number-kind_numbered (get_or words 0 0) kind (sym numbered)
+
+  pub known-kind : (unknown : UnknownKind) → Err unknown ≡ kind_numbered (get_or words 0 0) → ⊥
+  unfolding is_known
+  known-kind unknown numbered = false≢true (rw (← line_from-unknown words unknown numbered) at known)
 
 -- ---- no line has more than 38 bytes
 

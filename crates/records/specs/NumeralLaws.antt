@@ -1,12 +1,13 @@
 -- Laws of the numerals of `LineTexts.antt`: a number of 32 bits is read from its numeral, and `digit_count` is the numeral's length. First what is
 -- known of bytes that all pass a test, and of a comma behind them. Assumes nothing.
-use Rattle.std.specs.Prelude.{◌≡◌, ℕ, zero, suc, ◌+◌, ◌*◌, ◌-◌, ◌/◌, ◌%◌, ◌^◌, ◌≤◌, ◌<◌, Bool, true, false, ◌||◌, cond, List, [], ◌∷◌, ◌++◌, ltb, length, get_or, drop, Some}
+use Rattle.std.specs.Prelude.{◌≡◌, ℕ, zero, suc, ◌+◌, ◌*◌, ◌-◌, ◌/◌, ◌%◌, ◌^◌, ◌≤◌, ◌<◌, Bool, true, false, ◌||◌, cond, List, [], ◌∷◌, ◌++◌, leb, ltb, length, get_or, drop, Some}
+use Rattle.std.specs.List.{count_by}
 use Rattle.std.proofs.Math.Path.{refl}
-use Rattle.std.proofs.Common.{sym, ap, ◌∙◌, length-append}
+use Rattle.std.proofs.Common.{sym, ap, ◌∙◌, length-append, zero-add}
 use Rattle.std.proofs.lemmas.Bool.{false≢true}
 use native.Mathlib.Omega.{arith}
 use Rattle.std.proofs.Math.Seq.{take-append_seam}
-use borrow.Author.Tests.{lt-ltb, le-ltb, ltb-true, ltb-false, eq-eqb, ne_eqb}
+use borrow.Author.Tests.{lt-ltb, le-ltb, lt-leb, le-leb, ltb-true, ltb-false, eq-eqb, ne_eqb}
 use Rattle.ascii.specs.Notation.{is_between}
 use Rattle.ascii.specs.NotationLaws.{and_left, and_right, is_between-range}
 use Rattle.ascii.specs.Bytes.{non_empty, every}
@@ -245,6 +246,53 @@ module _ (n : ℕ) where
       let last : digit_count_from 1 10000000000 n ≡ 1 = rw (lt-ltb n 10000000000 (omega arith)) in
       rw (le-ltb n 10 (omega arith), le-ltb n 100 (omega arith), le-ltb n 1000 (omega arith), le-ltb n 10000 (omega arith))
       (omega (arith, count-more 4 100000 n, count-more 3 1000000 n, count-more 2 10000000 n, count-more 1 100000000 n, count-more 0 1000000000 n))
+
+-- a digit more for each power of ten that is reached
+
+abbrev pub powers_of_ten : List ℕ
+powers_of_ten = 10 ∷ 100 ∷ 1000 ∷ 10000 ∷ 100000 ∷ 1000000 ∷ 10000000 ∷ 100000000 ∷ 1000000000 ∷ []
+
+module _ (n : ℕ) where
+  abbrev reached : ℕ → ℕ
+  reached power = cond (leb power n) 1 0
+
+  reached-by : (power : ℕ) (below : Bool) → ltb n power ≡ below → reached power ≡ reaches power n
+  reached-by power true below = rw (below, lt-leb power n (ltb-true n power below))
+  reached-by power false from = rw (from, le-leb power n (ltb-false n power from))
+
+  reached-is : (power : ℕ) → reached power ≡ reaches power n
+  reached-is power = reached-by power (ltb n power) refl
+
+  none-reached : (power : ℕ) → n < power → reaches power n ≡ 0
+  none-reached power below = rw (lt-ltb n power below)
+
+  all-reached : (power : ℕ) → power ≤ n → reaches power n ≡ 1
+  all-reached power from = rw (le-ltb n power from)
+
+  counted : count_by (λ power. leb power n) powers_of_ten
+      ≡ reaches 10 n + reaches 100 n + reaches 1000 n + reaches 10000 n + reaches 100000 n + reaches 1000000 n + reaches 10000000 n + reaches 100000000 n + reaches 1000000000 n
+  counted = rw (reached-is 10, reached-is 100, reached-is 1000, reached-is 10000, reached-is 100000, reached-is 1000000, reached-is 10000000, reached-is 100000000, reached-is 1000000000, zero-add (reaches 10 n))
+
+  powers-few : n < 10000 → 1 + count_by (λ power. leb power n) powers_of_ten ≡ digit_count n
+  powers-few small =
+      omega (
+        arith,
+        counted,
+        digit_count-small n small,
+        none-reached 10000 (omega arith),
+        none-reached 100000 (omega arith),
+        none-reached 1000000 (omega arith),
+        none-reached 10000000 (omega arith),
+        none-reached 100000000 (omega arith),
+        none-reached 1000000000 (omega arith),
+      )
+
+  powers-by : n < 2 ^ 32 → (few : Bool) → ltb n 10000 ≡ few → 1 + count_by (λ power. leb power n) powers_of_ten ≡ digit_count n
+  powers-by small true few = powers-few (ltb-true n 10000 few)
+  powers-by small false many = let large = ltb-false n 10000 many in omega (arith, counted, digit_count-large n large small, all-reached 10000 large)
+
+  pub digit_count-powers : n < 2 ^ 32 → 1 + count_by (λ power. leb power n) powers_of_ten ≡ digit_count n
+  digit_count-powers small = powers-by small (ltb n 10000) refl
 
 -- ---- digit_count: a number below a power of ten
 

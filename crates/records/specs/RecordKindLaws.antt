@@ -7,6 +7,7 @@ use Rattle.std.proofs.Common.{refl, sym, ap, ◌∙◌, arith}
 use Rattle.std.proofs.lemmas.Option.{same_Some, none-some, slice_get_past}
 use Rattle.records.specs.declared.record_kind.RecordKind.{RecordKind}
 use Rattle.records.specs.declared.record_kind.RecordKind.TheVariants.{Def, Value, BeginHeader, BeginTrailer, Component, Message, Field, Group, Use, EndHeader, EndTrailer, EndLetters, EndNumber}
+use Rattle.records.specs.declared.record_kind.UnknownKind.{UnknownKind}
 use Rattle.records.specs.RecordKind.{kind_number, record_kinds, or_unknown, kind_numbered}
 
 -- the kind of a number that is known
@@ -65,3 +66,11 @@ pub kind_numbered-other : (number : ℕ) → NoneTo 13 number → Err (record {}
 unfolding kind_numbered
 kind_numbered-other zero none = refl
 kind_numbered-other (suc place) none = rw (slice_get_past record_kinds place (omega (arith, none_to 13 (suc place) none (λ zero. cc))))
+
+-- .. and a number that is read as no kind is none of 1 to 13
+module _ (number : ℕ) (unknown : UnknownKind) (none : kind_numbered number ≡ Err unknown) where
+  other : (kind : RecordKind) → number ≡ kind_number kind → ⊥
+  other kind same = let clash : Ok kind ≡ Err unknown = sym (kind_numbered-number kind) ∙ (ap kind_numbered (sym same) ∙ none) in cc
+
+  pub none-numbered : NoneTo 13 number
+  none-numbered = (((((((((((((tt, other Def), other Value), other BeginHeader), other BeginTrailer), other Component), other Message), other Field), other Group), other Use), other EndHeader), other EndTrailer), other EndLetters), other EndNumber)

@@ -164,6 +164,13 @@ message_from words =
     then if get_or words 2 0 ≤ᵇ 1 then if_unused 3 words (Message (get_or words 1 0) (get_or words 2 0 ≡ᵇ 1)) else Unknown
     else Unknown
 
+-- the flag that stands last of the words that are used
+abbrev pub flag_from : List ℕ → Option Bool
+flag_from words =
+    if get_or words 2 0 ≤ᵇ 1
+    then if is_unused 3 words then Some (get_or words 2 0 ≡ᵇ 1) else None
+    else None
+
 abbrev pub field_from : List ℕ → Line
 field_from words =
     if get_or words 2 0 ≤ᵇ 1

@@ -2,24 +2,28 @@
 -- read as a line are its record (`record_of-line_from`), so that a line has one record and every word of it counts. Assumes nothing.
 --
 --   Held line         a record can hold the line: its numbers have 32 bits, its parts are what document 01 admits
-use Rattle.std.specs.Prelude.{◌≡◌, ℕ, suc, ◌+◌, ◌-◌, ◌^◌, ◌≤◌, ◌<◌, Bool, true, false, ◌&&◌, cond, leb, ltb, eqb, get_or, take, drop, replicate, if◌then◌else◌, Option, Some, None}
+use Rattle.std.specs.Prelude.{◌≡◌, ℕ, suc, ◌+◌, ◌-◌, ◌^◌, ◌≤◌, ◌<◌, Bool, true, false, ◌&&◌, cond, leb, ltb, eqb, get_or, take, drop, replicate, if◌then◌else◌, Option, Some, None, Ok, Err}
 use Rattle.std.proofs.Math.Path.{refl}
 use Rattle.std.proofs.Common.{sym, ap, ◌∙◌}
 use mathlib.Core.List.{List, [], ◌∷◌}
 use native.Mathlib.Omega.{arith}
 use Rattle.std.specs.Int.Bits.{bit_or, or_add_and}
+use Rattle.std.specs.List.{fold}
 use Rattle.std.proofs.lemmas.Nat.{and_le_l, and_le_r}
 use Rattle.std.proofs.Math.ListN.{length, drop_of_length-le}
 use borrow.Author.Tests.{lt-ltb, le-ltb, ltb-true, le-leb, leb-true, ne_eqb, eqb-true, eqb-false}
 use Rattle.ascii.specs.Notation.{◌≤ᵇ◌, ◌≡ᵇ◌}
 use Rattle.ascii.specs.Bytes.{every}
-use Rattle.ascii.specs.BytesLaws.{drop-step}
+use Rattle.ascii.specs.BytesLaws.{drop-step, part_to_end}
 use Rattle.ascii.specs.NotationLaws.{and_left, and_right, and-true, and_assoc, if_same}
 use Rattle.line_forms.specs.declared.line.Line.{Line}
 use Rattle.line_forms.specs.declared.line.Line.TheVariants.{Def, Value, BeginHeader, BeginTrailer, EndHeader, EndTrailer, Component, Message, Field, Group, Use, End, Member, RequiredTag, Unknown}
 use Rattle.lines.specs.LineParts.{number_of, is_visible}
 use Rattle.records.specs.Records.{Words32, holds_byte, holds_part, letters_text, holds_letters, holds_value, is_zero, value_words, is_unused, flag_word, record4, record_of, if_unused, def_from, value_from, message_from, field_from, group_from, use_from, end_of_letters, end_of_number, outer_from, body_from, line_from}
-use Rattle.records.specs.RecordKindLaws.{NoneTo}
+use Rattle.records.specs.declared.record_kind.RecordKind.{RecordKind}
+use Rattle.records.specs.declared.record_kind.UnknownKind.{UnknownKind}
+use Rattle.records.specs.RecordKind.{kind_number, kind_numbered}
+use Rattle.records.specs.RecordKindLaws.{NoneTo, number-kind_numbered, none-numbered}
 use Rattle.records.specs.WordPairs.{pair_of, pair_at}
 
 -- ---- holds_byte
@@ -80,6 +84,20 @@ or-zero_by a b false second some-a b-is = ne_eqb _ 0 (λ none. eqb-false a 0 som
 
 or-zero : (a b : ℕ) → is_zero (bit_or a b) ≡ is_zero a && is_zero b
 or-zero a b = or-zero_by a b _ _ refl refl
+
+-- words that are joined one after the other
+fold-or_zero : (joined : ℕ) (words : List ℕ) → is_zero (fold bit_or joined words) ≡ is_zero joined && every is_zero words
+unfolding every
+fold-or_zero joined [] = sym (and-true (is_zero joined))
+fold-or_zero joined (word ∷ rest) = fold-or_zero (bit_or joined word) rest ∙ rw (or-zero joined word) (and_assoc (is_zero joined) (is_zero word) (every is_zero rest))
+
+pub joined-zero : (words : List ℕ) → is_zero (fold bit_or 0 words) ≡ every is_zero words
+joined-zero words = fold-or_zero 0 words
+
+-- the words behind the first `used` of ten, joined
+pub unused-joined : (used : ℕ) (words : List ℕ) → length words ≡ 10 → is_zero (fold bit_or 0 (take (10 - used) (drop used words))) ≡ is_unused used words
+unfolding is_unused
+unused-joined used words ten = joined-zero (take (10 - used) (drop used words)) ∙ rw (← ten, part_to_end words used)
 
 pair_none : (low high : ℕ) → pair_of low high ≡ 0 → (low ≡ 0) × (high ≡ 0)
 pair_none low high none = (omega arith, omega arith)
@@ -383,7 +401,7 @@ module _ (words : List ℕ) (ten : length words ≡ 10) (small : Words32 words) 
 
 -- ---- line_from: the arms of `line_from`
 
-abbrev line_of_kind : ℕ → List ℕ → Line
+abbrev pub line_of_kind : ℕ → List ℕ → Line
 line_of_kind kind words =
     if kind ≤ᵇ 6
     then if kind ≡ᵇ 1 then def_from words
@@ -425,6 +443,14 @@ line_from-other words none =
       ne_eqb (get_or words 0 0) 13 none.1,
     ) (if_same (leb (get_or words 0 0) 6) Unknown)
     ) ∙ line_from-kind words (get_or words 0 0) refl
+
+-- the words of a kind, and those of none
+module _ (words : List ℕ) where
+  pub line_from-numbered : (known kind : RecordKind) → Ok kind ≡ kind_numbered (get_or words 0 0) → kind ≡ known → line_of_kind (kind_number known) words ≡ line_from words
+  line_from-numbered known kind numbered same = line_from-kind words (kind_number known) (number-kind_numbered (get_or words 0 0) kind (sym numbered) ∙ ap kind_number same)
+
+  pub line_from-unknown : (unknown : UnknownKind) → Err unknown ≡ kind_numbered (get_or words 0 0) → Unknown ≡ line_from words
+  line_from-unknown unknown numbered = line_from-other words (none-numbered (get_or words 0 0) unknown (sym numbered))
 
 -- the ten words that `&words[at..past]` lends
 pub line_from-part : (words : List ℕ) (at past : ℕ) → past ≡ at + 10 → line_from (take (past - at) (drop at words)) ≡ line_from (take 10 (drop at words))

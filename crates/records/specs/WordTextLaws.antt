@@ -1,5 +1,5 @@
 -- Laws of the bytes in words (`Records.antt`, `LineTexts.antt`): a T is read from `letters_text`, a V from `value_text`. Assumes nothing.
-use Rattle.std.specs.Prelude.{◌≡◌, ℕ, zero, suc, ◌+◌, ◌*◌, ◌-◌, ◌%◌, ◌≤◌, ◌<◌, Bool, true, false, ◌&&◌, cond, List, [], ◌∷◌, leb, eqb, length, get_or, take, drop, Some}
+use Rattle.std.specs.Prelude.{◌≡◌, ℕ, zero, suc, ◌+◌, ◌*◌, ◌-◌, ◌/◌, ◌%◌, ◌^◌, ◌≤◌, ◌<◌, min, Bool, true, false, ◌&&◌, cond, List, [], ◌∷◌, leb, eqb, length, get_or, take, drop, Some}
 use Rattle.std.proofs.Math.Path.{refl}
 use Rattle.std.proofs.Common.{sym, ap, ◌∙◌, append-nil, length-take-le, take_all}
 use Rattle.std.proofs.lemmas.Bool.{false≢true}
@@ -8,7 +8,7 @@ use Rattle.std.proofs.Math.Arith.{mod-mul}
 use Rattle.std.proofs.Math.ListN.{get_or-eq_default}
 use Rattle.std.proofs.Math.Seq.{take-nil}
 use borrow.Author.Tests.{leb-true, leb-false, eqb-true, eq-eqb, ne_eqb}
-use Rattle.ascii.specs.NotationLaws.{and_left, and_right, and-true, and-false}
+use Rattle.ascii.specs.NotationLaws.{and_left, and_right, and-true, and-false, and_assoc}
 use Rattle.ascii.specs.Bytes.{every}
 use Rattle.ascii.specs.BytesLaws.{drop-step}
 use Rattle.lines.specs.declared.line_parts.Admitted.{Admitted}
@@ -257,7 +257,71 @@ word_of : (bytes : List ℕ) (word : ℕ)
 unfolding word_at
 word_of bytes word zeroth first second third = rw (zeroth, first, second, third) (omega arith)
 
+-- ---- the bytes of a word as the code has them
+
+module _ (word : ℕ) (small : word < 2 ^ 32) where
+  pub bytes_of-word : word / 16777216 % 256 ∷ word / 65536 % 256 ∷ word / 256 % 256 ∷ word % 256 ∷ [] ≡ bytes_of word
+  bytes_of-word = ap (λ first. first ∷ word / 65536 % 256 ∷ word / 256 % 256 ∷ word % 256 ∷ []) (omega arith)
+
+-- the bytes that are to pass the test, and those behind them
+module _ (test : ℕ → Bool) (word : ℕ) where
+  abbrev split_at : ℕ → Bool
+  split_at used = every test (take used (bytes_of word)) && every is_zero (drop used (bytes_of word))
+
+  split-none : holds_part test 0 word ≡ split_at 0
+  unfolding holds_part holds_byte every
+  split-none = rw (and-true (is_zero (byte3 word)))
+
+  split-one : holds_part test 1 word ≡ split_at 1
+  unfolding holds_part holds_byte every
+  split-one = rw (and-true (is_zero (byte3 word)), and-true (test (byte0 word)))
+
+  split-two : holds_part test 2 word ≡ split_at 2
+  unfolding holds_part holds_byte every
+  split-two = rw (and-true (is_zero (byte3 word)), and-true (test (byte1 word)), and_assoc (test (byte0 word)) (test (byte1 word)) (is_zero (byte2 word) && is_zero (byte3 word)))
+
+  split-three : holds_part test 3 word ≡ split_at 3
+  unfolding holds_part holds_byte every
+  split-three =
+      rw (and-true (is_zero (byte3 word)), and-true (test (byte2 word)), and_assoc (test (byte0 word)) (test (byte1 word) && test (byte2 word)) (is_zero (byte3 word)))
+      (ap (λ rest. test (byte0 word) && rest) (sym (and_assoc (test (byte1 word)) (test (byte2 word)) (is_zero (byte3 word)))))
+
+  split-four : (left : ℕ) → 4 ≤ left → holds_part test left word ≡ split_at 4
+  unfolding holds_part every
+  split-four left all =
+      rw (
+        holds_byte-inside test left 0 (byte0 word) (omega arith),
+        holds_byte-inside test left 1 (byte1 word) (omega arith),
+        holds_byte-inside test left 2 (byte2 word) (omega arith),
+        holds_byte-inside test left 3 (byte3 word) (omega arith),
+        and-true (test (byte3 word)),
+        and-true (test (byte0 word) && (test (byte1 word) && (test (byte2 word) && test (byte3 word)))),
+      )
+
+  pub holds_part-split : (left used : ℕ) → used ≡ min left 4 → holds_part test left word ≡ split_at used
+  holds_part-split zero used same = let none : used ≡ 0 = omega arith in rw none split-none
+  holds_part-split (suc zero) used same = let one : used ≡ 1 = omega arith in rw one split-one
+  holds_part-split (suc (suc zero)) used same = let two : used ≡ 2 = omega arith in rw two split-two
+  holds_part-split (suc (suc (suc zero))) used same = let three : used ≡ 3 = omega arith in rw three split-three
+  holds_part-split (suc (suc (suc (suc more)))) used same = let four : used ≡ 4 = omega arith in rw four (split-four (suc (suc (suc (suc more)))) (omega arith))
+
 -- ---- letters_text
+
+pub letters_length-one : (word : ℕ) → byte1 word ≡ 0 → 1 ≡ letters_length word
+unfolding letters_length
+letters_length-one word ends = rw (eq-eqb (byte1 word) 0 ends)
+
+pub letters_length-two : (word : ℕ) → (byte1 word ≡ 0 → ⊥) → byte2 word ≡ 0 → 2 ≡ letters_length word
+unfolding letters_length
+letters_length-two word second ends = rw (ne_eqb (byte1 word) 0 second, eq-eqb (byte2 word) 0 ends)
+
+pub letters_length-three : (word : ℕ) → (byte1 word ≡ 0 → ⊥) → (byte2 word ≡ 0 → ⊥) → byte3 word ≡ 0 → 3 ≡ letters_length word
+unfolding letters_length
+letters_length-three word second third ends = rw (ne_eqb (byte1 word) 0 second, ne_eqb (byte2 word) 0 third, eq-eqb (byte3 word) 0 ends)
+
+pub letters_length-four : (word : ℕ) → (byte1 word ≡ 0 → ⊥) → (byte2 word ≡ 0 → ⊥) → (byte3 word ≡ 0 → ⊥) → 4 ≡ letters_length word
+unfolding letters_length
+letters_length-four word second third fourth = rw (ne_eqb (byte1 word) 0 second, ne_eqb (byte2 word) 0 third, ne_eqb (byte3 word) 0 fourth)
 
 letters_length-by : (one two three : Bool) → (1 ≤ cond one 1 (cond two 2 (cond three 3 4))) × (cond one 1 (cond two 2 (cond three 3 4)) ≤ 4)
 letters_length-by true two three = (omega arith, omega arith)
@@ -268,6 +332,17 @@ letters_length-by false false false = (omega arith, omega arith)
 pub letters_length-range : (word : ℕ) → (1 ≤ letters_length word) × (letters_length word ≤ 4)
 unfolding letters_length
 letters_length-range word = letters_length-by (eqb (byte1 word) 0) (eqb (byte2 word) 0) (eqb (byte3 word) 0)
+
+module _ (word : ℕ) (small : word < 2 ^ 32) (bytes : List ℕ) (same : bytes ≡ word / 16777216 % 256 ∷ word / 65536 % 256 ∷ word / 256 % 256 ∷ word % 256 ∷ []) (letters : ℕ) (long : letters ≡ letters_length word) where
+  pub letters-taken : take letters bytes ≡ letters_text word
+  unfolding letters_text
+  letters-taken = rw (same, long, bytes_of-word word small)
+
+  pub letters-split : holds_letters word ≡ every is_alphanumeric (take letters bytes) && every is_zero (drop letters bytes)
+  unfolding holds_letters
+  letters-split =
+      let range = letters_length-range word in
+      holds_part-split is_alphanumeric word (letters_length word) letters (omega (arith, long, range)) ∙ rw (same, bytes_of-word word small)
 
 pub letters_text-length : (word : ℕ) → length (letters_text word) ≡ letters_length word
 unfolding letters_text

@@ -1,80 +1,45 @@
 // How long the texts of lines are.
-ghost use Rattle.std.specs.Prelude.{◌≡◌, true, ◌+◌, ◌*◌, ◌≤◌, length, get_or, drop};
+ghost use Rattle.std.specs.Prelude.{◌≡◌, true, ◌+◌, ◌*◌, ◌≤◌, get_or, length, drop, nat_le, count_by};
 ghost use Rattle.ascii.specs.Notation.{◌≡ᵇ◌};
 ghost use Rattle.records.specs.Records.{line_from, lines_from};
 ghost use Rattle.records.specs.KnownLines.{is_known, AreKnown};
-ghost use Rattle.records.specs.LineLengths.{reaches, digit_count, type_lengths, app_length, length_of, text_length};
+ghost use Rattle.records.specs.LineLengths.{digit_count, type_lengths, app_length, length_of, text_length};
 
-use crate::records::letters_length;
+use crate::record_kind::RecordKind;
+use crate::records::{RECORD, Record, letters_length, record_at};
 
-// 1 where the number is at least the bound.
-fn reaches(bound: u32, n: u32) -> usize
-    ensures one { result ≡ reaches bound n }
-    ensures few { result ≤ 1 }
+// A number has one digit, and one more for each of these that it reaches.
+const POWERS_OF_TEN: [u32; 9] = [
+    10, 100, 1000, 10000, 100000, 1000000, 10000000, 100000000, 1000000000,
+];
+
+// How many of the powers the number reaches.
+fn count_reached(powers: &[u32], n: u32) -> usize
+    ensures { result ≡ count_by (λ power. nat_le power n) powers.now }
 {
-    if n < bound { 0 } else { 1 }
+    powers.iter().filter(|power| **power <= n).count()
 }
 
-// How many digits the number has. Sums, since a jump that hangs on the number is often wrong.
+// How many digits the number has.
 pub fn digit_count(n: u32) -> usize
     ensures count { result ≡ digit_count n }
     ensures few { result ≤ 10 }
 {
-    let digits = 1 + reaches(10, n) + reaches(100, n) + reaches(1000, n);
-    if n < 10000 {
-        return digits;
-    }
-    digits
-        + 1
-        + reaches(100000, n)
-        + reaches(1000000, n)
-        + reaches(10000000, n)
-        + reaches(100000000, n)
-        + reaches(1000000000, n)
+    1 + count_reached(&POWERS_OF_TEN, n)
 }
+
+// How long the names of the FieldTypes are, Int to Reserved.
+const TYPE_LENGTHS: [u8; 34] = [
+    3, 6, 6, 10, 6, 10, 5, 3, 5, 11, 3, 10, 4, 7, 6, 17, 19, 7, 8, 8, 9, 12, 11, 11, 12, 12, 10,
+    11, 4, 7, 8, 7, 5, 8,
+];
 
 // How long the name of the FieldType at this place is.
 pub fn type_length(place: u32) -> usize
     ensures length { result ≡ get_or type_lengths place 0 }
     ensures few { result ≤ 255 }
 {
-    match place {
-        0 => 3,
-        1 => 6,
-        2 => 6,
-        3 => 10,
-        4 => 6,
-        5 => 10,
-        6 => 5,
-        7 => 3,
-        8 => 5,
-        9 => 11,
-        10 => 3,
-        11 => 10,
-        12 => 4,
-        13 => 7,
-        14 => 6,
-        15 => 17,
-        16 => 19,
-        17 => 7,
-        18 => 8,
-        19 => 8,
-        20 => 9,
-        21 => 12,
-        22 => 11,
-        23 => 11,
-        24 => 12,
-        25 => 12,
-        26 => 10,
-        27 => 11,
-        28 => 4,
-        29 => 7,
-        30 => 8,
-        31 => 7,
-        32 => 5,
-        33 => 8,
-        _ => 0,
-    }
+    TYPE_LENGTHS.get(place as usize).copied().unwrap_or(0) as usize
 }
 
 // How long `app` is, or `admin`.
@@ -86,25 +51,27 @@ fn app_length(app: u32) -> usize
 }
 
 // How many bytes the line of the record has, with its line feed.
-fn record_length(words: &[u32]) -> usize
-    requires { (length words.now ≡ 10) × (is_known (line_from words.now) ≡ true) }
+fn record_length(words: &Record) -> usize
+    requires { is_known (line_from words.now) ≡ true }
     ensures length { result ≡ length_of (line_from words.now) + 1 }
 {
-    match words[0] {
-        1 => 6 + digit_count(words[1]) + type_length(words[2]),
-        2 => 7 + words[1] as usize,
-        3 => 13,
-        4 => 14,
-        5 => 11 + digit_count(words[1]),
-        6 => 10 + letters_length(words[1]) as usize + app_length(words[2]),
-        7 => 9 + digit_count(words[1]),
-        8 => 10 + digit_count(words[1]) + digit_count(words[2]),
-        9 => 7 + digit_count(words[1]),
-        10 => 11,
-        11 => 12,
-        12 => 5 + letters_length(words[1]) as usize,
-        13 => 5 + digit_count(words[1]),
-        _ => 0,
+    let Ok(kind) = RecordKind::try_from(words[0]) else {
+        unreachable!();
+    };
+    match kind {
+        RecordKind::Def => 6 + digit_count(words[1]) + type_length(words[2]),
+        RecordKind::Value => 7 + words[1] as usize,
+        RecordKind::BeginHeader => 13,
+        RecordKind::BeginTrailer => 14,
+        RecordKind::Component => 11 + digit_count(words[1]),
+        RecordKind::Message => 10 + letters_length(words[1]) as usize + app_length(words[2]),
+        RecordKind::Field => 9 + digit_count(words[1]),
+        RecordKind::Group => 10 + digit_count(words[1]) + digit_count(words[2]),
+        RecordKind::Use => 7 + digit_count(words[1]),
+        RecordKind::EndHeader => 11,
+        RecordKind::EndTrailer => 12,
+        RecordKind::EndLetters => 5 + letters_length(words[1]) as usize,
+        RecordKind::EndNumber => 5 + digit_count(words[1]),
     }
 }
 
@@ -114,13 +81,8 @@ pub fn text_length(words: &[u32], lines: usize) -> usize
     ensures { result ≡ text_length (lines_from lines (drop 4 words.now)) }
 {
     let mut total: usize = 0;
-    let mut done: usize = 0;
-    let mut at: usize = 4;
-    while done < lines {
-        let past = at + 10;
-        total += record_length(&words[at..past]);
-        done += 1;
-        at += 10;
+    for number in 0..lines {
+        total += record_length(record_at(words, 4 + RECORD * number));
     }
     total
 }

@@ -1,68 +1,63 @@
 -- `records::line_texts::record_length` meets its contract, a kind at a time (specs/LineLengthLaws.antt).
-use native.Mathlib.Omega.{arith}
+use Rattle.std.proofs.Common.{arith, ap, ◌∙◌}
+use Rattle.records.specs.RecordKind.{kind_number}
 use Rattle.records.specs.LineLengths.{length_of}
-use Rattle.records.specs.RecordsLaws.{line_from-other}
-use Rattle.records.specs.LineLengthLaws.{known-def, known-value, known-begin_header, known-begin_trailer, known-component, known-message, known-field, known-group, known-use, known-end_header, known-end_trailer, known-end_letters, known-end_number, other_unknown}
+use Rattle.records.specs.LineLengthLaws.{known-def, known-value, known-begin_header, known-begin_trailer, known-component, known-message, known-field, known-group, known-use, known-end_header, known-end_trailer, known-end_letters, known-end_number, known-numbered, known-kind}
 use Rattle.records.proofs.line_texts.record_length.Goals as goal
 
-pub overflow_cast-result : goal.overflow_cast-result
-overflow_cast-result c = omega (arith, c.shared_slice_known-1.given 1)
+-- unreachable!();
+pub unreachable-requires : goal.unreachable-requires
+unreachable-requires c = known-kind c.args.words.now c.requires c.in_default.field-0 c.in_default.ensures.outcome
 
-pub overflow_add-result-in-2 : goal.overflow_add-result-in-2
-overflow_add-result-in-2 c = omega (arith, c.shared_slice_known-1.given 1)
-
--- fn record_length(words: &[u32]) -> usize
-pub returns-in-1 : goal.returns-in-1
+-- fn record_length(words: &Record) -> usize
+pub returns-in-Def : goal.returns-in-Def
 unfolding length_of
-returns-in-1 c = record { length = rw (known-def c.args.words.now c.requires.1 (omega arith)) (omega (arith, c.digit_count.ensures.count, c.type_length.ensures.length)) }
+returns-in-Def c = record { length = rw (known-def c.args.words.now c.requires (known-numbered c.args.words.now c.requires c.in-Ok.kind c.in-Ok.ensures.outcome ∙ ap kind_number c.in-Def.is)) (omega (arith, c.digit_count.ensures.count, c.type_length.ensures.length)) }
 
-pub returns-in-2 : goal.returns-in-2
+pub returns-in-Value : goal.returns-in-Value
 unfolding length_of
-returns-in-2 c = record { length = rw (known-value c.args.words.now c.requires.1 (omega arith)) (omega arith) }
+returns-in-Value c = record { length = rw (known-value c.args.words.now c.requires (known-numbered c.args.words.now c.requires c.in-Ok.kind c.in-Ok.ensures.outcome ∙ ap kind_number c.in-Value.is)) (omega arith) }
 
-pub returns-in-3 : goal.returns-in-3
+pub returns-in-BeginHeader : goal.returns-in-BeginHeader
 unfolding length_of
-returns-in-3 c = record { length = rw (known-begin_header c.args.words.now c.requires.1 (omega arith)) }
+returns-in-BeginHeader c = record { length = rw (known-begin_header c.args.words.now c.requires (known-numbered c.args.words.now c.requires c.in-Ok.kind c.in-Ok.ensures.outcome ∙ ap kind_number c.in-BeginHeader.is)) }
 
-pub returns-in-4 : goal.returns-in-4
+pub returns-in-BeginTrailer : goal.returns-in-BeginTrailer
 unfolding length_of
-returns-in-4 c = record { length = rw (known-begin_trailer c.args.words.now c.requires.1 (omega arith)) }
+returns-in-BeginTrailer c = record { length = rw (known-begin_trailer c.args.words.now c.requires (known-numbered c.args.words.now c.requires c.in-Ok.kind c.in-Ok.ensures.outcome ∙ ap kind_number c.in-BeginTrailer.is)) }
 
-pub returns-in-5 : goal.returns-in-5
+pub returns-in-Component : goal.returns-in-Component
 unfolding length_of
-returns-in-5 c = record { length = rw (known-component c.args.words.now c.requires.1 (omega arith)) (omega (arith, c.digit_count-in-5.ensures.count)) }
+returns-in-Component c = record { length = rw (known-component c.args.words.now c.requires (known-numbered c.args.words.now c.requires c.in-Ok.kind c.in-Ok.ensures.outcome ∙ ap kind_number c.in-Component.is)) (omega (arith, c.digit_count-in-Component.ensures.count)) }
 
-pub returns-in-6 : goal.returns-in-6
+pub returns-in-Message : goal.returns-in-Message
 unfolding length_of
-returns-in-6 c = record { length = rw (known-message c.args.words.now c.requires.1 (omega arith)) (omega (arith, c.letters_length.ensures.length, c.app_length.ensures.length)) }
+returns-in-Message c = record { length = rw (known-message c.args.words.now c.requires (known-numbered c.args.words.now c.requires c.in-Ok.kind c.in-Ok.ensures.outcome ∙ ap kind_number c.in-Message.is)) (omega (arith, c.letters_length.ensures.length, c.app_length.ensures.length)) }
 
-pub returns-in-7 : goal.returns-in-7
+pub returns-in-Field : goal.returns-in-Field
 unfolding length_of
-returns-in-7 c = record { length = rw (known-field c.args.words.now c.requires.1 (omega arith)) (omega (arith, c.digit_count-in-7.ensures.count)) }
+returns-in-Field c = record { length = rw (known-field c.args.words.now c.requires (known-numbered c.args.words.now c.requires c.in-Ok.kind c.in-Ok.ensures.outcome ∙ ap kind_number c.in-Field.is)) (omega (arith, c.digit_count-in-Field.ensures.count)) }
 
-pub returns-in-8 : goal.returns-in-8
+pub returns-in-Group : goal.returns-in-Group
 unfolding length_of
-returns-in-8 c = record { length = rw (known-group c.args.words.now c.requires.1 (omega arith)) (omega (arith, c.digit_count-in-8-2.ensures.count)) }
+returns-in-Group c = record { length = rw (known-group c.args.words.now c.requires (known-numbered c.args.words.now c.requires c.in-Ok.kind c.in-Ok.ensures.outcome ∙ ap kind_number c.in-Group.is)) (omega (arith, c.digit_count-in-Group.ensures.count, c.digit_count-in-Group-2.ensures.count)) }
 
-pub returns-in-9 : goal.returns-in-9
+pub returns-in-Use : goal.returns-in-Use
 unfolding length_of
-returns-in-9 c = record { length = rw (known-use c.args.words.now c.requires.1 (omega arith)) (omega (arith, c.digit_count-in-9.ensures.count)) }
+returns-in-Use c = record { length = rw (known-use c.args.words.now c.requires (known-numbered c.args.words.now c.requires c.in-Ok.kind c.in-Ok.ensures.outcome ∙ ap kind_number c.in-Use.is)) (omega (arith, c.digit_count-in-Use.ensures.count)) }
 
-pub returns-in-10 : goal.returns-in-10
+pub returns-in-EndHeader : goal.returns-in-EndHeader
 unfolding length_of
-returns-in-10 c = record { length = rw (known-end_header c.args.words.now c.requires.1 (omega arith)) }
+returns-in-EndHeader c = record { length = rw (known-end_header c.args.words.now c.requires (known-numbered c.args.words.now c.requires c.in-Ok.kind c.in-Ok.ensures.outcome ∙ ap kind_number c.in-EndHeader.is)) }
 
-pub returns-in-11 : goal.returns-in-11
+pub returns-in-EndTrailer : goal.returns-in-EndTrailer
 unfolding length_of
-returns-in-11 c = record { length = rw (known-end_trailer c.args.words.now c.requires.1 (omega arith)) }
+returns-in-EndTrailer c = record { length = rw (known-end_trailer c.args.words.now c.requires (known-numbered c.args.words.now c.requires c.in-Ok.kind c.in-Ok.ensures.outcome ∙ ap kind_number c.in-EndTrailer.is)) }
 
-pub returns-in-12 : goal.returns-in-12
+pub returns-in-EndLetters : goal.returns-in-EndLetters
 unfolding length_of
-returns-in-12 c = record { length = rw (known-end_letters c.args.words.now c.requires.1 (omega arith)) (omega (arith, c.letters_length-in-12.ensures.length)) }
+returns-in-EndLetters c = record { length = rw (known-end_letters c.args.words.now c.requires (known-numbered c.args.words.now c.requires c.in-Ok.kind c.in-Ok.ensures.outcome ∙ ap kind_number c.in-EndLetters.is)) (omega (arith, c.letters_length-in-EndLetters.ensures.length)) }
 
-pub returns-in-13 : goal.returns-in-13
+pub returns-in-EndNumber : goal.returns-in-EndNumber
 unfolding length_of
-returns-in-13 c = record { length = rw (known-end_number c.args.words.now c.requires.1 (omega arith)) (omega (arith, c.digit_count-in-13.ensures.count)) }
-
-pub returns-in_default : goal.returns-in_default
-returns-in_default c = record { length = other_unknown c.args.words.now c.requires.1 (line_from-other c.args.words.now c.in_default.in_default-own.rest) }
+returns-in-EndNumber c = record { length = rw (known-end_number c.args.words.now c.requires (known-numbered c.args.words.now c.requires c.in-Ok.kind c.in-Ok.ensures.outcome ∙ ap kind_number c.in-EndNumber.is)) (omega (arith, c.digit_count-in-EndNumber.ensures.count)) }

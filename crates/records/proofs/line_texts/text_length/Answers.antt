@@ -1,27 +1,26 @@
 -- `records::line_texts::text_length` meets its contract. The loop's invariant is `LengthSoFar`; the laws are those of specs/LineLengthLaws.antt.
-use mathlib.Core.Path.{refl}
-use lib.ListN.{length-take, length-drop}
-use native.Mathlib.Omega.{arith}
-use Rattle.records.specs.LineLengthLaws.{length-begins, record_known, part-known, part_length, length-few, length-goes_on, length-ends}
+use Rattle.std.proofs.Common.{◌≡◌, ◌+◌, ◌*◌, arith}
+use Rattle.records.specs.LineLengthLaws.{length-begins, length-few, length-goes_on, length-ends}
 use Rattle.records.proofs.line_texts.text_length.Goals as goal
 
--- while done < lines {
-pub loop-done-init : goal.loop-done-init
-loop-done-init c = length-begins _ _
-
-pub record_length-total-requires : goal.record_length-total-requires
-record_length-total-requires c = (simp (length-take, length-drop) omega (arith, c.loop-done.invariant.place, c.requires), part-known c.args.words.now c.loop-done.at _ refl (record_known _ _ _ _ _ c.loop-done.invariant c.requires.1.1 c.loop-done-test.true))
+-- for number in 0..lines {
+pub loop-number-init : goal.loop-number-init
+loop-number-init c = length-begins c.args.words.now c.args.lines
 
 pub overflow_add-total : goal.overflow_add-total
-overflow_add-total c = omega (arith, length-few c.args.words.now c.loop-done.at omega (arith, c.loop-done.invariant.place, c.requires) _ (part_length c.args.words.now c.loop-done.at _ refl _ c.record_length-total.ensures.length), c.loop-done.invariant.few, c.loop-done.invariant.within, c.requires)
+overflow_add-total c =
+    omega (
+      arith,
+      length-few c.args.words.now (4 + 10 * c.loop-number.number) omega (arith, c.requires, c.loop-number-test.true) _ (rw c.record_at.ensures at c.record_length-total.ensures.length),
+      c.loop-number.invariant.few,
+      c.loop-number.invariant.within,
+      c.requires,
+    )
 
--- while done < lines {
-pub loop-done-smaller : goal.loop-done-smaller
-loop-done-smaller c = omega (arith, c.loop-done-test.true)
-
-pub loop-done-preserved : goal.loop-done-preserved
-loop-done-preserved c = length-goes_on _ _ _ _ _ c.loop-done.invariant c.loop-done-test.true _ (part_length c.args.words.now c.loop-done.at _ refl _ c.record_length-total.ensures.length) (length-few c.args.words.now c.loop-done.at omega (arith, c.loop-done.invariant.place, c.requires) _ (part_length c.args.words.now c.loop-done.at _ refl _ c.record_length-total.ensures.length))
-
--- pub fn text_length(words: &[u32], lines: usize) -> usize
-pub returns : goal.returns
-returns c = length-ends _ _ _ _ _ c.loop-done.invariant c.loop-done-test.false
+-- for number in 0..lines {
+pub loop-number-preserved : goal.loop-number-preserved
+loop-number-preserved c =
+    let len = rw c.record_at.ensures at c.record_length-total.ensures.length in
+    let few = length-few c.args.words.now (4 + 10 * c.loop-number.number) omega (arith, c.requires, c.loop-number-test.true) _ len in
+    let next : 4 + 10 * (c.loop-number.number + 1) ≡ 4 + 10 * c.loop-number.number + 10 = omega arith in
+    rw next (length-goes_on _ _ _ _ _ c.loop-number.invariant c.loop-number-test.true _ len few)

@@ -1,36 +1,12 @@
--- `records::records::holds_letters` meets its contract, a byte at a time up to the first that is 0 (specs/LettersLaws.antt).
-use mathlib.Core.Path.{sym, ◌∙◌}
-use borrow.Author.Tests.{not-true, not-false, eq-eqb, ne_eqb}
-use Rattle.records.specs.LettersLaws.{holds_letters-parts}
+-- `records::records::holds_letters` meets its contract: letters or digits, and then 0 (specs/WordTextLaws.antt).
+use Rattle.std.proofs.Common.{sym, ◌∙◌}
+use Rattle.lines.specs.LineParts.{is_alphanumeric}
+use Rattle.records.specs.WordTextLaws.{bytes_of-word, letters-split}
 use Rattle.records.proofs.records.holds_letters.Goals as goal
 
--- return false;
-pub returns-then-not-is_ascii_alphanumeric : goal.returns-then-not-is_ascii_alphanumeric
-returns-then-not-is_ascii_alphanumeric c = rw (holds_letters-parts c.args.word, sym c.is_ascii_alphanumeric.ensures ∙ not-true _ c.if-not-is_ascii_alphanumeric.true-raw)
-
--- return word / 0x100 % 0x100 == 0 && word % 0x100 == 0;
-pub returns-then-word-eq0-2 : goal.returns-then-word-eq0-2
-returns-then-word-eq0-2 c = rw (holds_letters-parts c.args.word, sym c.is_ascii_alphanumeric.ensures ∙ not-false _ c.if-not-is_ascii_alphanumeric.false-raw, eq-eqb _ 0 c.if-word-eq0.true, eq-eqb _ 0 c.if-word-eq0-2.true)
-
-pub returns-else-word-eq0-2 : goal.returns-else-word-eq0-2
-returns-else-word-eq0-2 c = rw (holds_letters-parts c.args.word, sym c.is_ascii_alphanumeric.ensures ∙ not-false _ c.if-not-is_ascii_alphanumeric.false-raw, eq-eqb _ 0 c.if-word-eq0.true, ne_eqb _ 0 c.if-word-eq0-2.false)
-
--- return false;
-pub returns-then-not-is_ascii_alphanumeric-2 : goal.returns-then-not-is_ascii_alphanumeric-2
-returns-then-not-is_ascii_alphanumeric-2 c = rw (holds_letters-parts c.args.word, sym c.is_ascii_alphanumeric.ensures ∙ not-false _ c.if-not-is_ascii_alphanumeric.false-raw, ne_eqb _ 0 c.if-word-eq0.false, sym c.is_ascii_alphanumeric-2.ensures ∙ not-true _ c.if-not-is_ascii_alphanumeric-2.true-raw)
-
--- return word % 0x100 == 0;
-pub returns-then-word-eq0-3 : goal.returns-then-word-eq0-3
-returns-then-word-eq0-3 c = rw (holds_letters-parts c.args.word, sym c.is_ascii_alphanumeric.ensures ∙ not-false _ c.if-not-is_ascii_alphanumeric.false-raw, ne_eqb _ 0 c.if-word-eq0.false, sym c.is_ascii_alphanumeric-2.ensures ∙ not-false _ c.if-not-is_ascii_alphanumeric-2.false-raw, eq-eqb _ 0 c.if-word-eq0-3.true)
-
--- return false;
-pub returns-then-not-is_ascii_alphanumeric-3 : goal.returns-then-not-is_ascii_alphanumeric-3
-returns-then-not-is_ascii_alphanumeric-3 c = rw (holds_letters-parts c.args.word, sym c.is_ascii_alphanumeric.ensures ∙ not-false _ c.if-not-is_ascii_alphanumeric.false-raw, ne_eqb _ 0 c.if-word-eq0.false, sym c.is_ascii_alphanumeric-2.ensures ∙ not-false _ c.if-not-is_ascii_alphanumeric-2.false-raw, ne_eqb _ 0 c.if-word-eq0-3.false, sym c.is_ascii_alphanumeric-3.ensures ∙ not-true _ c.if-not-is_ascii_alphanumeric-3.true-raw)
-
--- return true;
-pub returns-then-word-eq0-4 : goal.returns-then-word-eq0-4
-returns-then-word-eq0-4 c = rw (holds_letters-parts c.args.word, sym c.is_ascii_alphanumeric.ensures ∙ not-false _ c.if-not-is_ascii_alphanumeric.false-raw, ne_eqb _ 0 c.if-word-eq0.false, sym c.is_ascii_alphanumeric-2.ensures ∙ not-false _ c.if-not-is_ascii_alphanumeric-2.false-raw, ne_eqb _ 0 c.if-word-eq0-3.false, sym c.is_ascii_alphanumeric-3.ensures ∙ not-false _ c.if-not-is_ascii_alphanumeric-3.false-raw, eq-eqb _ 0 c.if-word-eq0-4.true)
-
 -- fn holds_letters(word: u32) -> bool
-pub returns : goal.returns
-returns c = rw (holds_letters-parts c.args.word, sym c.is_ascii_alphanumeric.ensures ∙ not-false _ c.if-not-is_ascii_alphanumeric.false-raw, ne_eqb _ 0 c.if-word-eq0.false, sym c.is_ascii_alphanumeric-2.ensures ∙ not-false _ c.if-not-is_ascii_alphanumeric-2.false-raw, ne_eqb _ 0 c.if-word-eq0-3.false, sym c.is_ascii_alphanumeric-3.ensures ∙ not-false _ c.if-not-is_ascii_alphanumeric-3.false-raw, ne_eqb _ 0 c.if-word-eq0-4.false) c.is_ascii_alphanumeric-4.ensures
+pub returns-then-all_alphanumeric : goal.returns-then-all_alphanumeric
+returns-then-all_alphanumeric c = sym (letters-split c.args.word c.ranges.word.fits c.to_be_bytes-bytes.result c.to_be_bytes-bytes.ensures c.letters_length.result c.letters_length.ensures.length ∙ rw (← c.split_at.ensures.front, ← c.split_at.ensures.back, ← c.all_alphanumeric.ensures, c.if-all_alphanumeric.true, ← c.all_zero.ensures))
+
+pub returns-else-all_alphanumeric : goal.returns-else-all_alphanumeric
+returns-else-all_alphanumeric c = c.if-all_alphanumeric.false ∙ sym (letters-split c.args.word c.ranges.word.fits c.to_be_bytes-bytes.result c.to_be_bytes-bytes.ensures c.letters_length.result c.letters_length.ensures.length ∙ rw (← c.split_at.ensures.front, ← c.all_alphanumeric.ensures, c.if-all_alphanumeric.false))

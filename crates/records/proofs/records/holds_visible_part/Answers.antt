@@ -1,39 +1,12 @@
--- `records::records::holds_visible_part` meets its contract: a word behind the value's bytes is 0, one byte stands alone, else a byte at a time
--- (specs/WordTextLaws.antt).
-use mathlib.Core.Path.{sym, ◌∙◌}
-use native.Mathlib.Omega.{arith}
-use borrow.Author.Tests.{not-true, not-false}
+-- `records::records::holds_visible_part` meets its contract: bytes of the value, and then 0 (specs/WordTextLaws.antt).
+use Rattle.std.proofs.Common.{sym, ◌∙◌}
 use Rattle.lines.specs.LineParts.{is_visible}
-use Rattle.records.specs.WordTextLaws.{part-empty, part-other_first, part-other_second, part-of_two, part-other_third, part-of_three, part-of_four}
+use Rattle.records.specs.WordTextLaws.{bytes_of-word, holds_part-split}
 use Rattle.records.proofs.records.holds_visible_part.Goals as goal
 
--- return word == 0;
-pub returns-then-left-eq0 : goal.returns-then-left-eq0
-returns-then-left-eq0 c = rw c.if-left-eq0.true (sym (part-empty is_visible _))
-
-pub returns-then-left-eq1 : goal.returns-then-left-eq1
-returns-then-left-eq1 c = rw c.if-left-eq1.true c.holds_one_visible.ensures
-
--- return false;
-pub returns-then-not-is_visible : goal.returns-then-not-is_visible
-returns-then-not-is_visible c = sym (part-other_first is_visible _ c.args.word (omega (arith, c.if-left-eq0.false)) (sym c.is_visible.ensures ∙ not-true _ c.if-not-is_visible.true-raw))
-
--- return false;
-pub returns-then-not-is_visible-2 : goal.returns-then-not-is_visible-2
-returns-then-not-is_visible-2 c = sym (part-other_second is_visible _ c.args.word (sym c.is_visible.ensures ∙ not-false _ c.if-not-is_visible.false-raw) (omega (arith, c.if-left-eq0.false, c.if-left-eq1.false)) (sym c.is_visible-2.ensures ∙ not-true _ c.if-not-is_visible-2.true-raw))
-
--- return word % 0x1_0000 == 0;
-pub returns-then-left-eq2 : goal.returns-then-left-eq2
-returns-then-left-eq2 c = sym (part-of_two is_visible _ c.args.word (sym c.is_visible.ensures ∙ not-false _ c.if-not-is_visible.false-raw) (sym c.is_visible-2.ensures ∙ not-false _ c.if-not-is_visible-2.false-raw) c.if-left-eq2.true)
-
--- return false;
-pub returns-then-not-is_visible-3 : goal.returns-then-not-is_visible-3
-returns-then-not-is_visible-3 c = sym (part-other_third is_visible _ c.args.word (sym c.is_visible.ensures ∙ not-false _ c.if-not-is_visible.false-raw) (sym c.is_visible-2.ensures ∙ not-false _ c.if-not-is_visible-2.false-raw) (omega (arith, c.if-left-eq0.false, c.if-left-eq1.false, c.if-left-eq2.false)) (sym c.is_visible-3.ensures ∙ not-true _ c.if-not-is_visible-3.true-raw))
-
--- return word % 0x100 == 0;
-pub returns-then-left-eq3 : goal.returns-then-left-eq3
-returns-then-left-eq3 c = sym (part-of_three is_visible _ c.args.word (sym c.is_visible.ensures ∙ not-false _ c.if-not-is_visible.false-raw) (sym c.is_visible-2.ensures ∙ not-false _ c.if-not-is_visible-2.false-raw) (sym c.is_visible-3.ensures ∙ not-false _ c.if-not-is_visible-3.false-raw) c.if-left-eq3.true)
-
 -- pub fn holds_visible_part(left: u32, word: u32) -> bool
-pub returns : goal.returns
-returns c = c.is_visible-4.ensures ∙ sym (part-of_four is_visible _ c.args.word (sym c.is_visible.ensures ∙ not-false _ c.if-not-is_visible.false-raw) (sym c.is_visible-2.ensures ∙ not-false _ c.if-not-is_visible-2.false-raw) (sym c.is_visible-3.ensures ∙ not-false _ c.if-not-is_visible-3.false-raw) (omega (arith, c.if-left-eq0.false, c.if-left-eq1.false, c.if-left-eq2.false, c.if-left-eq3.false)))
+pub returns-then-all_visible : goal.returns-then-all_visible
+returns-then-all_visible c = sym (holds_part-split is_visible c.args.word c.args.left c.min.result c.min.ensures ∙ rw (← bytes_of-word c.args.word c.ranges.word.fits, ← c.to_be_bytes-bytes.ensures, ← c.split_at.ensures.front, ← c.split_at.ensures.back, ← c.all_visible.ensures, c.if-all_visible.true, ← c.all_zero.ensures))
+
+pub returns-else-all_visible : goal.returns-else-all_visible
+returns-else-all_visible c = c.if-all_visible.false ∙ sym (holds_part-split is_visible c.args.word c.args.left c.min.result c.min.ensures ∙ rw (← bytes_of-word c.args.word c.ranges.word.fits, ← c.to_be_bytes-bytes.ensures, ← c.split_at.ensures.front, ← c.all_visible.ensures, c.if-all_visible.false))

@@ -1,37 +1,16 @@
--- `records::records::letters_length` meets its contract: its tests are those of `letters_length`.
-use native.Mathlib.Omega.{arith}
-use Rattle.ascii.specs.NotationLaws.{tests}
-use Rattle.records.specs.Records.{letters_length}
+-- `records::records::letters_length` meets its contract: the letters end before the first byte that is 0 (specs/WordTextLaws.antt).
+use Rattle.records.specs.WordTextLaws.{letters_length-one, letters_length-two, letters_length-three, letters_length-four}
 use Rattle.records.proofs.records.letters_length.Goals as goal
 
--- return 1;
-pub returns-then-word-eq0 : goal.returns-then-word-eq0
-unfolding letters_length
-returns-then-word-eq0 c = record {
-  length = search tests;
-  range = (omega arith, omega arith);
-}
-
--- return 2;
-pub returns-then-word-eq0-2 : goal.returns-then-word-eq0-2
-unfolding letters_length
-returns-then-word-eq0-2 c = record {
-  length = search tests;
-  range = (omega arith, omega arith);
-}
-
--- return 3;
-pub returns-then-word-eq0-3 : goal.returns-then-word-eq0-3
-unfolding letters_length
-returns-then-word-eq0-3 c = record {
-  length = search tests;
-  range = (omega arith, omega arith);
-}
-
 -- pub fn letters_length(word: u32) -> u32
-pub returns : goal.returns
-unfolding letters_length
-returns c = record {
-  length = search tests;
-  range = (omega arith, omega arith);
-}
+pub returns-then-byte1-eq0-clause-length : goal.returns-then-byte1-eq0-clause-length
+returns-then-byte1-eq0-clause-length c = letters_length-one c.args.word (rw c.to_be_bytes.ensures at c.if-byte1-eq0.true)
+
+pub returns-then-byte2-eq0-clause-length : goal.returns-then-byte2-eq0-clause-length
+returns-then-byte2-eq0-clause-length c = letters_length-two c.args.word (rw c.to_be_bytes.ensures at c.if-byte1-eq0.false) (rw c.to_be_bytes.ensures at c.if-byte2-eq0.true)
+
+pub returns-then-byte3-eq0-clause-length : goal.returns-then-byte3-eq0-clause-length
+returns-then-byte3-eq0-clause-length c = letters_length-three c.args.word (rw c.to_be_bytes.ensures at c.if-byte1-eq0.false) (rw c.to_be_bytes.ensures at c.if-byte2-eq0.false) (rw c.to_be_bytes.ensures at c.if-byte3-eq0.true)
+
+pub returns-else-byte3-eq0-clause-length : goal.returns-else-byte3-eq0-clause-length
+returns-else-byte3-eq0-clause-length c = letters_length-four c.args.word (rw c.to_be_bytes.ensures at c.if-byte1-eq0.false) (rw c.to_be_bytes.ensures at c.if-byte2-eq0.false) (rw c.to_be_bytes.ensures at c.if-byte3-eq0.false)
