@@ -9,7 +9,7 @@ ghost use Rattle.layout_parts.specs.LayoutParts.{tag_of, own_tags, behind_tags, 
 ghost use Rattle.layout_parts.specs.PartsLoops.{flag_word, GroupsPut};
 ghost use Rattle.layout_parts.specs.GatherLoop.{LevelRoom, LevelPut, GatherRoom, GatheredIn};
 
-use layout_text::level_line::{LevelLine, line_at};
+use layout_text::level_line::{LevelLine, LevelLines};
 
 // How many members, required tags and groups there are.
 #[derive(Clone, Copy)]
@@ -33,32 +33,20 @@ pub fn count_parts(text: &[u8]) -> Parts
     ensures required { result.required ≡ required_count (lines_at text.now 0) }
     ensures groups { (result.groups ≡ group_count (lines_at text.now 0)) × (12 * result.groups ≤ length text.now) }
 {
-    let mut members = 0;
-    let mut required = 0;
-    let mut groups = 0;
-    let mut first = 0;
-    while first < text.len() {
-        let found = line_at(text, first);
-        let line = found.line;
-        first = found.next;
+    let mut parts = Parts {
+        members: 0,
+        required: 0,
+        groups: 0,
+    };
+    for line in LevelLines::new(text, 0) {
         match line {
-            LevelLine::MemberLine(_) => {
-                members += 1;
-            }
-            LevelLine::RequiredLine(_) => {
-                required += 1;
-            }
-            LevelLine::GroupLine(_, _, _) => {
-                groups += 1;
-            }
+            LevelLine::MemberLine(_) => parts.members += 1,
+            LevelLine::RequiredLine(_) => parts.required += 1,
+            LevelLine::GroupLine(_, _, _) => parts.groups += 1,
             _ => {}
         }
     }
-    Parts {
-        members,
-        required,
-        groups,
-    }
+    parts
 }
 
 // The tag of a required line, or else of a member line.
@@ -79,16 +67,16 @@ fn put_tags(text: &[u8], first: usize, required: bool, tags: &mut [u32], count: 
     ensures count { result.count ≡ count + length (own_tags required (lines_at text.now first)) }
     ensures next { (result.next ≤ length text.now) × (lines_at text.now result.next ≡ behind_tags required (lines_at text.now first)) }
 {
+    let mut lines = LevelLines::new(text, first);
     let mut next = first;
     let mut index = 0;
-    while next < text.len() {
-        let found = line_at(text, next);
-        let Some(tag) = tag_of(found.line, required) else {
+    while let Some(line) = lines.next() {
+        let Some(tag) = tag_of(line, required) else {
             break;
         };
         tags[count + index] = tag;
         index += 1;
-        next = found.next;
+        next = lines.place();
     }
     TakenTags {
         count: count + index,
@@ -132,16 +120,13 @@ fn put_groups(
 {
     let mut depth: usize = 0;
     let mut count = groups;
-    let mut next = first;
-    while next < text.len() {
-        let found = line_at(text, next);
-        let line = found.line;
-        next = found.next;
+    let mut lines = LevelLines::new(text, first);
+    while let Some(line) = lines.next() {
         match line {
             LevelLine::GroupLine(tag, delimiter, required) => {
                 if depth == 0 {
                     put_group(rows, count, tag, delimiter, required);
-                    starts[count] = next as u32;
+                    starts[count] = lines.place() as u32;
                     count += 1;
                     depth = 1;
                 } else {

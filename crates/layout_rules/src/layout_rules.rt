@@ -10,7 +10,7 @@ ghost use Rattle.layout_rules.specs.FirstBroken.{first_broken};
 ghost use Rattle.layout_rules.specs.OpenBlocks.{group_broken, level_broken};
 
 use ascending::search::{binary_search, is_strictly_ascending};
-use layout_text::level_line::{LevelLine, line_at};
+use layout_text::level_line::{LevelLine, LevelLines};
 
 // A block that is open, and how many members and count tags the open levels around it have.
 #[derive(Clone, Copy)]
@@ -91,19 +91,11 @@ pub fn first_broken(text: &[u8]) -> Option<(u32, u32)>
     let mut member_count = 0;
     let mut tag_count = 0;
     let mut depth = 0;
-    let mut first = 0;
-    while first < text.len() {
-        let found = line_at(text, first);
-        let line = found.line;
-        let next = found.next;
+    for line in LevelLines::new(text, 0) {
         match line {
             LevelLine::MemberLine(tag) => {
                 members[member_count] = tag;
                 member_count += 1;
-                first = next;
-            }
-            LevelLine::RequiredLine(_) => {
-                first = next;
             }
             LevelLine::GroupLine(count, delimiter, _) => {
                 blocks[depth] = OpenBlock {
@@ -113,7 +105,6 @@ pub fn first_broken(text: &[u8]) -> Option<(u32, u32)>
                     tags: tag_count,
                 };
                 depth += 1;
-                first = next;
             }
             LevelLine::EndLine => {
                 depth -= 1;
@@ -132,11 +123,8 @@ pub fn first_broken(text: &[u8]) -> Option<(u32, u32)>
                 member_count = from_member;
                 tags[from_tag] = block.count;
                 tag_count = from_tag + 1;
-                first = next;
             }
-            LevelLine::OtherLine => {
-                first = next;
-            }
+            LevelLine::RequiredLine(_) | LevelLine::OtherLine => {}
         }
     }
     top_broken(&members[..member_count], &tags[..tag_count])
