@@ -358,3 +358,12 @@ module _ (text members tags : List ℕ) (kept : List OpenBlock) (first depth mem
     -- an accepted text has no other line
     pub no_other : line ≡ OtherLine → ⊥
     no_other is = rw (after OtherLine is) at so_far.order
+
+    -- a line that neither adds a member nor opens or closes a block
+    pub rules-passed : (other : LevelLine) → line ≡ other → ((tag : ℕ) → line ≡ MemberLine tag → ⊥) → ((count delimiter : ℕ) (flag : Bool) → line ≡ GroupLine count delimiter flag → ⊥)
+        → (line ≡ EndLine → ⊥) → RulesSoFar text members tags kept next depth member_count tag_count
+    rules-passed (MemberLine tag) is no-member no-group no-end = absurd (no-member tag is)
+    rules-passed (RequiredLine tag) is no-member no-group no-end = rules-required tag is
+    rules-passed (GroupLine count delimiter flag) is no-member no-group no-end = absurd (no-group count delimiter flag is)
+    rules-passed EndLine is no-member no-group no-end = absurd (no-end is)
+    rules-passed OtherLine is no-member no-group no-end = absurd (no_other is)

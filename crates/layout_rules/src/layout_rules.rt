@@ -124,7 +124,7 @@ pub fn first_broken(text: &[u8]) -> Option<(u32, u32)>
                 tags[from_tag] = block.count;
                 tag_count = from_tag + 1;
             }
-            LevelLine::RequiredLine(_) | LevelLine::OtherLine => {}
+            _ => {}
         }
     }
     top_broken(&members[..member_count], &tags[..tag_count])

@@ -1,12 +1,8 @@
 -- `layout_rules::layout_rules::first_broken` meets its contract. The loop's invariant is `RulesSoFar`; every answer cites a law of
 -- specs/RulesLoop.antt.
-use Prim.Native.Nat.{◌-◌}
-use lib.ListN.{length}
+use Rattle.std.proofs.Common.{◌≡◌}
 use Rattle.layout_rules.specs.RulesLoop.{RulesSoFar}
 use Rattle.layout_rules.proofs.layout_rules.first_broken.Given as goal
 
-abbrev pub invariant-loop-first : goal.invariant-loop-first
-invariant-loop-first l = RulesSoFar l.text l.members l.tags l.blocks l.first l.depth l.member_count l.tag_count
-
-abbrev pub decreases-loop-first : goal.decreases-loop-first
-decreases-loop-first l = length l.text - l.first
+abbrev pub invariant-loop-line : goal.invariant-loop-line
+invariant-loop-line l = (l.line-iterator.text.now ≡ l.text) × RulesSoFar l.text l.members l.tags l.blocks l.line-iterator.first l.depth l.member_count l.tag_count
