@@ -3,8 +3,9 @@
 --
 --   AcceptedTable fields message_length   what holds of a table in which row 12 finds nothing
 use Rattle.std.proofs.Math.Path.{◌≡◌, refl}
-use Rattle.std.proofs.Common.{◌∙◌, true≢false, arith, add-one}
-use Rattle.std.specs.Prelude.{◌↔◌, ℕ, zero, suc, ◌+◌, ◌*◌, ◌-◌, ◌%◌, ◌≤◌, ◌<◌, Bool, ◌||◌, List, take, drop, if◌then◌else◌, Ok, Err}
+use Rattle.std.specs.Simd.{first_chunks}
+use Rattle.std.proofs.Common.{ap, ◌∙◌, get_or-take, get_or-drop, true≢false, arith, add-one}
+use Rattle.std.specs.Prelude.{◌↔◌, ℕ, zero, suc, ◌+◌, ◌*◌, ◌-◌, ◌%◌, ◌≤◌, ◌<◌, Bool, ◌||◌, List, [], get_or, take, drop, if◌then◌else◌, Ok, Err}
 use Rattle.std.proofs.Math.Bool.{true, false, not}
 use Rattle.std.proofs.Math.Decide.{ℕ_discrete}
 use Rattle.std.proofs.Math.Dec.{eqb, ltb}
@@ -64,6 +65,24 @@ module _ (fields : List ℕ) (message_length : ℕ) where
       → table_check_of fields message_length ≡ bad_from fields message_length (row_count fields) 0
   unfolding table_check_of
   table_check_of-rows threes few = rw (eq-eqb (length fields % 3) 0 threes, le-ltb 4096 (row_count fields) few)
+
+-- ---- the rows as code reads them, in threes
+
+word_of_chunk : (count : ℕ) (fields : List ℕ) (index part : ℕ) → index < count → part < 3 → get_or (get_or (first_chunks 3 count fields) index []) part 0 ≡ get_or fields (3 * index + part) 0
+word_of_chunk zero fields index part inside one = absurd (omega arith)
+word_of_chunk (suc count) fields zero part inside one =
+    let place : part ≡ 3 * 0 + part = omega arith in
+    get_or-take 3 fields part 0 one ∙ ap (λ (word : ℕ). get_or fields word 0) place
+word_of_chunk (suc count) fields (suc index) part inside one =
+    let place : 3 + (3 * index + part) ≡ 3 * suc index + part = omega arith in
+    word_of_chunk count (drop 3 fields) index part (omega arith) one ∙ get_or-drop 3 fields (3 * index + part) 0 ∙ ap (λ (word : ℕ). get_or fields word 0) place
+
+module _ (fields : List ℕ) (rows : List (List ℕ)) (are-rows : rows ≡ first_chunks 3 (row_count fields) fields) (index : ℕ) (inside : index < row_count fields) where
+  pub row-first : get_or (get_or rows index []) 1 0 ≡ first_of fields index
+  row-first = ap (λ (rows : List (List ℕ)). get_or (get_or rows index []) 1 0) are-rows ∙ word_of_chunk (row_count fields) fields index 1 inside (omega arith)
+
+  pub row-past : get_or (get_or rows index []) 2 0 ≡ past_of fields index
+  row-past = ap (λ (rows : List (List ℕ)). get_or (get_or rows index []) 2 0) are-rows ∙ word_of_chunk (row_count fields) fields index 2 inside (omega arith)
 
 -- ---- the loop of `check_field_table`
 

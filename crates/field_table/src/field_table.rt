@@ -1,56 +1,27 @@
 // The field table: three words a field, tag, first byte, byte after the last, in the message (document 01, 'The events of a walk'). The Rust's
 // slice of FieldRef.
 ghost use Rattle.std.specs.Prelude.{◌≡◌, ◌<◌, length, Ok, Err, MatchResult};
-ghost use Rattle.field_table.specs.FieldTable.{row_count, tag_of, first_of, past_of, table_check_of, fields_of};
+ghost use Rattle.field_table.specs.FieldTable.{row_count, tag_of, table_check_of, fields_of};
 ghost use Rattle.field_table.specs.WalkInput.{count_at};
 
 use counts::count::parse_count;
 use refusals::refusal::Refusal;
 
-fn wide(word: u32) -> usize
-    ensures { result ≡ word }
-{
-    word as usize
-}
-
-// Where its value begins in the message.
-fn first_at(fields: &[u32], index: usize) -> usize
-    requires { index < row_count fields.now }
-    ensures { result ≡ first_of fields.now index }
-{
-    wide(fields[3 * index + 1])
-}
-
-// The place behind its value.
-fn past_at(fields: &[u32], index: usize) -> usize
-    requires { index < row_count fields.now }
-    ensures { result ≡ past_of fields.now index }
-{
-    wide(fields[3 * index + 2])
-}
-
 // Checks the table against a message of so many bytes: words in threes, at most 4,096 fields, and each field inside the message.
 pub fn check_field_table(fields: &[u32], message_len: usize) -> Result<(), Refusal>
     ensures outcome { result ≡ table_check_of fields.now message_len }
 {
-    let rows = fields.len() / 3;
-    if fields.len() % 3 != 0 {
+    let (rows, rest) = fields.as_chunks::<3>();
+    if !rest.is_empty() || 4096 < rows.len() {
         return Err(Refusal::BadField(0));
     }
-    if 4096 < rows {
-        return Err(Refusal::BadField(0));
-    }
-    let mut index = 0;
-    while index < rows {
-        let first = first_at(fields, index);
-        let past = past_at(fields, index);
+    for (index, [_, first, past]) in rows.iter().enumerate() {
         if past < first {
             return Err(Refusal::BadField(index as u64 + 1));
         }
-        if message_len < past {
+        if message_len < *past as usize {
             return Err(Refusal::BadField(index as u64 + 1));
         }
-        index += 1;
     }
     Ok(())
 }

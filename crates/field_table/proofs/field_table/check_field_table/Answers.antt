@@ -1,32 +1,42 @@
 -- `field_table::field_table::check_field_table` meets its contract. The loop's invariant is `RowsSoFar`; the laws are those of specs/FieldTableLaws.antt.
-use mathlib.Core.Path.{sym}
-use Prim.Native.Nat.{◌-◌}
-use native.Mathlib.Omega.{arith}
+use Rattle.std.proofs.Common.{rules, sym, arith, ◌<◌}
 use Rattle.field_table.specs.FieldTable.{row_count}
-use Rattle.field_table.specs.FieldTableLaws.{is_bad_field-reversed, is_bad_field-behind, is_bad_field-good, table_check_of-not_threes, table_check_of-many, RowsSoFar, rows_begin, rows_end, rows_bad, rows_go_on}
-use borrow.Author.Rules.{rules}
+use Rattle.field_table.specs.FieldTableLaws.{is_bad_field-reversed, is_bad_field-behind, is_bad_field-good, table_check_of-not_threes, table_check_of-many, row-first, row-past, rows_begin, rows_end, rows_bad, rows_go_on}
 use Rattle.field_table.proofs.field_table.check_field_table.Goals as goal
+use Rattle.field_table.proofs.field_table.check_field_table.Goals.{then-not-is_empty-via-then-not-is_empty, then-not-is_empty-via-else-not-is_empty+then-rows-gt4096}
 
--- return Err(0);
-pub returns-then-fields-ne0 : goal.returns-then-fields-ne0
-returns-then-fields-ne0 c = record { outcome = sym (table_check_of-not_threes _ _ c.if-fields-ne0.true) }
+-- return Err(Refusal::BadField(0));
+pub returns-then-not-is_empty : goal.returns-then-not-is_empty
+returns-then-not-is_empty c = elim c.then-not-is_empty.branch [
+    | then-not-is_empty-via-then-not-is_empty w ↦ record { outcome = sym (table_check_of-not_threes c.args.fields.now c.args.message_len (search (rules, arith, w.if-not-is_empty.ensures, c.as_chunks.ensures.back_len))) }
+    | then-not-is_empty-via-else-not-is_empty+then-rows-gt4096 w ↦ record { outcome = sym (table_check_of-many c.args.fields.now c.args.message_len (search (rules, arith, w.if-not-is_empty.ensures, c.as_chunks.ensures.back_len)) (omega (arith, w.if-rows-gt4096.true, c.as_chunks.ensures.front_len))) }
+    ]
 
-pub returns-then-rows-gt4096 : goal.returns-then-rows-gt4096
-returns-then-rows-gt4096 c = record { outcome = sym (table_check_of-many _ _ c.if-fields-ne0.false c.if-rows-gt4096.true) }
-
--- while index < rows {
+-- for (index, [_, first, past]) in rows.iter().enumerate() {
 pub loop-index-init : goal.loop-index-init
-loop-index-init c = rows_begin _ _ c.if-fields-ne0.false c.if-rows-gt4096.false
+loop-index-init c = rows_begin c.args.fields.now c.args.message_len (search (rules, arith)) (omega (arith, c.if-rows-gt4096.false, c.as_chunks.ensures.front_len))
 
 pub returns-then-past-first : goal.returns-then-past-first
-returns-then-past-first c = record { outcome = sym (rows_bad _ _ _ c.loop-index.invariant c.loop-index-test.true (is_bad_field-reversed _ _ _ (omega (arith, c.first_at-first.ensures, c.past_at-past.ensures)))) }
+returns-then-past-first c =
+    let inside : c.loop-index.index < row_count c.args.fields.now = omega (arith, c.loop-index-test.true, c.as_chunks.ensures.front_len) in
+    let first = row-first c.args.fields.now _ c.as_chunks.ensures.front c.loop-index.index inside in
+    let past = row-past c.args.fields.now _ c.as_chunks.ensures.front c.loop-index.index inside in
+    record { outcome = sym (rows_bad _ _ _ c.loop-index.invariant inside (is_bad_field-reversed _ _ _ (omega (arith, c.if-past-first.true, first, past)))) }
 
 pub returns-then-message_len-past : goal.returns-then-message_len-past
-returns-then-message_len-past c = record { outcome = sym (rows_bad _ _ _ c.loop-index.invariant c.loop-index-test.true (is_bad_field-behind _ _ _ (omega (arith, c.first_at-first.ensures, c.past_at-past.ensures)) (omega (arith, c.past_at-past.ensures)))) }
+returns-then-message_len-past c =
+    let inside : c.loop-index.index < row_count c.args.fields.now = omega (arith, c.loop-index-test.true, c.as_chunks.ensures.front_len) in
+    let first = row-first c.args.fields.now _ c.as_chunks.ensures.front c.loop-index.index inside in
+    let past = row-past c.args.fields.now _ c.as_chunks.ensures.front c.loop-index.index inside in
+    record { outcome = sym (rows_bad _ _ _ c.loop-index.invariant inside (is_bad_field-behind _ _ _ (omega (arith, c.if-past-first.false, first, past)) (omega (arith, c.if-message_len-past.true, past)))) }
 
 pub loop-index-preserved : goal.loop-index-preserved
-loop-index-preserved c = rows_go_on _ _ _ c.loop-index.invariant c.loop-index-test.true (is_bad_field-good _ _ _ (omega (arith, c.first_at-first.ensures, c.past_at-past.ensures)) (omega (arith, c.past_at-past.ensures)))
+loop-index-preserved c =
+    let inside : c.loop-index.index < row_count c.args.fields.now = omega (arith, c.loop-index-test.true, c.as_chunks.ensures.front_len) in
+    let first = row-first c.args.fields.now _ c.as_chunks.ensures.front c.loop-index.index inside in
+    let past = row-past c.args.fields.now _ c.as_chunks.ensures.front c.loop-index.index inside in
+    rows_go_on _ _ _ c.loop-index.invariant inside (is_bad_field-good _ _ _ (omega (arith, c.if-past-first.false, first, past)) (omega (arith, c.if-message_len-past.false, past)))
 
--- pub fn check_field_table(fields: &[u32], message_len: usize) -> Result<(), usize>
+-- Ok(())
 pub returns : goal.returns
-returns c = record { outcome = sym (rows_end _ _ _ c.loop-index.invariant c.loop-index-test.false) }
+returns c = record { outcome = sym (rows_end c.args.fields.now c.args.message_len _ c.loop-index.invariant (omega (arith, c.loop-index-test.false, c.as_chunks.ensures.front_len))) }
