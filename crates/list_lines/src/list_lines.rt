@@ -3,7 +3,7 @@ ghost use Rattle.std.specs.Prelude.{◌+◌, ◌≤◌, length};
 ghost use Rattle.list_lines.specs.ListLines.{numeral_of, labelled, type_line, kind_name, event_line, verdict_digits, verdict_line, refused_line};
 ghost use Rattle.list_lines.specs.ListLinesLaws.{Put};
 
-use refusals::refusal::{Refusal, number_of, place_of};
+use refusals::refusal::Refusal;
 
 // Writes the bytes from `at` on, and gives the place after them.
 fn put_text(out: &mut [u8], at: usize, text: &[u8]) -> usize
@@ -119,7 +119,7 @@ pub fn put_refused_line(out: &mut [u8], at: usize, refusal: Refusal) -> usize
     requires { at + 56 ≤ length out.old }
     ensures { Put out.old out.new at result (refused_line refusal) }
 {
-    let place = put_labelled(out, at, b"refused=", number_of(refusal));
-    let end = put_labelled(out, place, b" place=", place_of(refusal));
+    let place = put_labelled(out, at, b"refused=", refusal.number());
+    let end = put_labelled(out, place, b" place=", refusal.place());
     put_text(out, end, b"\n")
 }

@@ -2,7 +2,7 @@
 ghost use Rattle.std.specs.Prelude.{◌≡◌};
 ghost use Rattle.outcomes.specs.Outcome.{refused_with, answered_with};
 
-use refusals::refusal::{Refusal, number_of, place_of};
+use refusals::refusal::Refusal;
 
 #[repr(C)]
 #[derive(Clone, Copy)]
@@ -18,8 +18,8 @@ pub fn refused(refusal: Refusal) -> Outcome
     ensures outcome { result ≡ refused_with refusal }
 {
     Outcome {
-        refusal: number_of(refusal),
-        place: place_of(refusal),
+        refusal: refusal.number(),
+        place: refusal.place(),
         words: 0,
         extra: 0,
     }

@@ -34,46 +34,47 @@ pub enum Refusal {
     NoSuchGroup(u32),
 }
 
-// The number that the table gives the refusal.
-pub fn number_of(refusal: Refusal) -> u64
-    ensures outcome { result ≡ refusal_number refusal }
-{
-    match refusal {
-        Refusal::TextTooLong => 1,
-        Refusal::UnknownForm(_) => 2,
-        Refusal::NotAllowed(_) => 3,
-        Refusal::TooManyOpen(_) => 4,
-        Refusal::DefinedAgain(_) => 5,
-        Refusal::TypeNotDefined => 6,
-        Refusal::ComponentNotDefined(_) => 7,
-        Refusal::TooDeep(_) => 8,
-        Refusal::OutOfNodes(_) => 9,
-        Refusal::MembersOver => 10,
-        Refusal::RuleBroken(_, _) => 11,
-        Refusal::BadField(_) => 12,
-        Refusal::SpaceShort(_) => 13,
-        Refusal::NoSuchGroup(_) => 14,
+// Document 01's numbers stand here case by case: `as` reads the number of an enum whose cases hold no values.
+impl Refusal {
+    // The number that the table gives the refusal.
+    pub fn number(self) -> u64
+        ensures outcome { result ≡ refusal_number self }
+    {
+        match self {
+            Refusal::TextTooLong => 1,
+            Refusal::UnknownForm(_) => 2,
+            Refusal::NotAllowed(_) => 3,
+            Refusal::TooManyOpen(_) => 4,
+            Refusal::DefinedAgain(_) => 5,
+            Refusal::TypeNotDefined => 6,
+            Refusal::ComponentNotDefined(_) => 7,
+            Refusal::TooDeep(_) => 8,
+            Refusal::OutOfNodes(_) => 9,
+            Refusal::MembersOver => 10,
+            Refusal::RuleBroken(_, _) => 11,
+            Refusal::BadField(_) => 12,
+            Refusal::SpaceShort(_) => 13,
+            Refusal::NoSuchGroup(_) => 14,
+        }
     }
-}
 
-// The place that the table gives the refusal.
-pub fn place_of(refusal: Refusal) -> u64
-    ensures outcome { result ≡ refusal_place refusal }
-{
-    match refusal {
-        Refusal::TextTooLong => 0,
-        Refusal::UnknownForm(line) => line,
-        Refusal::NotAllowed(line) => line,
-        Refusal::TooManyOpen(line) => line,
-        Refusal::DefinedAgain(line) => line,
-        Refusal::TypeNotDefined => 0,
-        Refusal::ComponentNotDefined(component) => component as u64,
-        Refusal::TooDeep(name) => name as u64,
-        Refusal::OutOfNodes(name) => name as u64,
-        Refusal::MembersOver => 0,
-        Refusal::RuleBroken(rule, tag) => rule as u64 * 0x1_0000_0000 + tag as u64,
-        Refusal::BadField(field) => field,
-        Refusal::SpaceShort(needed) => needed,
-        Refusal::NoSuchGroup(tag) => tag as u64,
+    // The place that the table gives the refusal.
+    pub fn place(self) -> u64
+        ensures outcome { result ≡ refusal_place self }
+    {
+        match self {
+            Refusal::TextTooLong | Refusal::TypeNotDefined | Refusal::MembersOver => 0,
+            Refusal::UnknownForm(line)
+            | Refusal::NotAllowed(line)
+            | Refusal::TooManyOpen(line)
+            | Refusal::DefinedAgain(line) => line,
+            Refusal::ComponentNotDefined(name)
+            | Refusal::TooDeep(name)
+            | Refusal::OutOfNodes(name)
+            | Refusal::NoSuchGroup(name) => u64::from(name),
+            Refusal::RuleBroken(rule, tag) => u64::from(rule) * 0x1_0000_0000 + u64::from(tag),
+            Refusal::BadField(field) => field,
+            Refusal::SpaceShort(needed) => needed,
+        }
     }
 }

@@ -6,7 +6,7 @@ ghost use Rattle.refusals.specs.declared.refusal.Refusal.TheVariants.{SpaceShort
 
 use crate::cases::NotReplayed;
 use crate::recorded_values::first_word;
-use refusals::refusal::{Refusal, number_of, place_of};
+use refusals::refusal::Refusal;
 
 // What a call wrote: how many words, and the number that it tells beside them: the nodes of an
 // expansion, the position after a group; 0 of any other call.
@@ -60,8 +60,8 @@ impl From<Refusal> for Refused {
 
     fn from(refusal: Refusal) -> Self {
         Self {
-            number: number_of(refusal),
-            place: place_of(refusal),
+            number: refusal.number(),
+            place: refusal.place(),
         }
     }
 }

@@ -6,7 +6,7 @@ ghost use Rattle.texts.specs.DictionaryTextLaws.{CountsWithin};
 use dictionary_order::dictionary_order::{Part, Stage, State, take_line};
 use line_forms::line::{Line, line_of};
 use lines::text_lines::TextLines;
-use refusals::refusal::{Refusal, place_of};
+use refusals::refusal::Refusal;
 
 // What a line defines.
 #[derive(Clone, Copy)]
@@ -131,7 +131,7 @@ fn first_again(text: &[u8]) -> Option<u64>
 fn refused_earlier(line: u64, refusal: Refusal) -> Result<Counts, Refusal>
     ensures { result ≡ refused_earlier line refusal }
 {
-    if line < place_of(refusal) {
+    if line < refusal.place() {
         return Err(Refusal::DefinedAgain(line));
     }
     Err(refusal)

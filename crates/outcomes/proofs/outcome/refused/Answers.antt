@@ -5,4 +5,4 @@ use Rattle.outcomes.proofs.outcome.refused.Goals as goal
 
 -- pub fn refused(refusal: Refusal) -> Outcome
 pub returns : goal.returns
-returns c = record { outcome = refused-with c.args.refusal _ _ c.number_of.ensures.outcome c.place_of.ensures.outcome }
+returns c = record { outcome = refused-with c.args.refusal _ _ c.number.ensures.outcome c.place.ensures.outcome }
