@@ -1,5 +1,6 @@
 // The data types of FIX fields. Ported from schema.rs, `FieldType`.
 ghost use Rattle.std.specs.Prelude.{◌≡◌};
+ghost use Rattle.std.specs.Result.{result_ok};
 ghost use Rattle.field_types.specs.FieldType.{format_of, is_multi_value, type_numbered};
 
 // FIX field data type.
@@ -140,84 +141,62 @@ impl FieldType {
     pub fn is_multi_value(self) -> bool
         ensures { result ≡ is_multi_value self }
     {
-        match self {
-            FieldType::Int => false,
-            FieldType::Length => false,
-            FieldType::SeqNum => false,
-            FieldType::NumInGroup => false,
-            FieldType::TagNum => false,
-            FieldType::DayOfMonth => false,
-            FieldType::Float => false,
-            FieldType::Qty => false,
-            FieldType::Price => false,
-            FieldType::PriceOffset => false,
-            FieldType::Amt => false,
-            FieldType::Percentage => false,
-            FieldType::Char => false,
-            FieldType::Boolean => false,
-            FieldType::String => false,
-            FieldType::MultipleCharValue => true,
-            FieldType::MultipleStringValue => true,
-            FieldType::Country => false,
-            FieldType::Currency => false,
-            FieldType::Exchange => false,
-            FieldType::MonthYear => false,
-            FieldType::UtcTimestamp => false,
-            FieldType::UtcTimeOnly => false,
-            FieldType::UtcDateOnly => false,
-            FieldType::LocalMktDate => false,
-            FieldType::LocalMktTime => false,
-            FieldType::TzTimeOnly => false,
-            FieldType::TzTimestamp => false,
-            FieldType::Data => false,
-            FieldType::XmlData => false,
-            FieldType::Language => false,
-            FieldType::Pattern => false,
-            FieldType::Tenor => false,
-            FieldType::Reserved => false,
-        }
+        matches!(
+            self,
+            FieldType::MultipleCharValue | FieldType::MultipleStringValue
+        )
     }
 }
 
-// The type whose number is given. The numbers are those of the enum's own cases, so that no table is read.
-pub fn type_numbered(number: usize) -> Option<FieldType>
-    ensures { result ≡ type_numbered number }
-{
-    match number {
-        0 => Some(FieldType::Int),
-        1 => Some(FieldType::Length),
-        2 => Some(FieldType::SeqNum),
-        3 => Some(FieldType::NumInGroup),
-        4 => Some(FieldType::TagNum),
-        5 => Some(FieldType::DayOfMonth),
-        6 => Some(FieldType::Float),
-        7 => Some(FieldType::Qty),
-        8 => Some(FieldType::Price),
-        9 => Some(FieldType::PriceOffset),
-        10 => Some(FieldType::Amt),
-        11 => Some(FieldType::Percentage),
-        12 => Some(FieldType::Char),
-        13 => Some(FieldType::Boolean),
-        14 => Some(FieldType::String),
-        15 => Some(FieldType::MultipleCharValue),
-        16 => Some(FieldType::MultipleStringValue),
-        17 => Some(FieldType::Country),
-        18 => Some(FieldType::Currency),
-        19 => Some(FieldType::Exchange),
-        20 => Some(FieldType::MonthYear),
-        21 => Some(FieldType::UtcTimestamp),
-        22 => Some(FieldType::UtcTimeOnly),
-        23 => Some(FieldType::UtcDateOnly),
-        24 => Some(FieldType::LocalMktDate),
-        25 => Some(FieldType::LocalMktTime),
-        26 => Some(FieldType::TzTimeOnly),
-        27 => Some(FieldType::TzTimestamp),
-        28 => Some(FieldType::Data),
-        29 => Some(FieldType::XmlData),
-        30 => Some(FieldType::Language),
-        31 => Some(FieldType::Pattern),
-        32 => Some(FieldType::Tenor),
-        33 => Some(FieldType::Reserved),
-        _ => None,
+// A number that no type has.
+#[derive(Clone, Copy)]
+pub struct NoSuchType;
+
+// The type whose number is given. The numbers are those that the cases have in memory, so that the
+// match is compiled to one test: a table of the types would be read.
+impl TryFrom<usize> for FieldType {
+    type Error = NoSuchType;
+
+    ghost try_from_gives = { λ number typed. result_ok typed ≡ type_numbered number };
+
+    #[tactic(auto, unfolding(crate::specs::FieldType::type_numbered))]
+    fn try_from(number: usize) -> Result<Self, NoSuchType> {
+        match number {
+            0 => Ok(FieldType::Int),
+            1 => Ok(FieldType::Length),
+            2 => Ok(FieldType::SeqNum),
+            3 => Ok(FieldType::NumInGroup),
+            4 => Ok(FieldType::TagNum),
+            5 => Ok(FieldType::DayOfMonth),
+            6 => Ok(FieldType::Float),
+            7 => Ok(FieldType::Qty),
+            8 => Ok(FieldType::Price),
+            9 => Ok(FieldType::PriceOffset),
+            10 => Ok(FieldType::Amt),
+            11 => Ok(FieldType::Percentage),
+            12 => Ok(FieldType::Char),
+            13 => Ok(FieldType::Boolean),
+            14 => Ok(FieldType::String),
+            15 => Ok(FieldType::MultipleCharValue),
+            16 => Ok(FieldType::MultipleStringValue),
+            17 => Ok(FieldType::Country),
+            18 => Ok(FieldType::Currency),
+            19 => Ok(FieldType::Exchange),
+            20 => Ok(FieldType::MonthYear),
+            21 => Ok(FieldType::UtcTimestamp),
+            22 => Ok(FieldType::UtcTimeOnly),
+            23 => Ok(FieldType::UtcDateOnly),
+            24 => Ok(FieldType::LocalMktDate),
+            25 => Ok(FieldType::LocalMktTime),
+            26 => Ok(FieldType::TzTimeOnly),
+            27 => Ok(FieldType::TzTimestamp),
+            28 => Ok(FieldType::Data),
+            29 => Ok(FieldType::XmlData),
+            30 => Ok(FieldType::Language),
+            31 => Ok(FieldType::Pattern),
+            32 => Ok(FieldType::Tenor),
+            33 => Ok(FieldType::Reserved),
+            _ => Err(NoSuchType),
+        }
     }
 }

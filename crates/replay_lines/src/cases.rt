@@ -13,14 +13,16 @@ pub enum Replayed {
     Differs,
 }
 
-// How a case went whose answers are those recorded, or not.
-pub fn same_if(same: bool) -> Replayed
-    ensures { IsTrue same ↔ (result ≡ Same) }
-{
-    if same {
-        Replayed::Same
-    } else {
-        Replayed::Differs
+// Whether the case's answers are those recorded.
+impl From<bool> for Replayed {
+    ghost from_gives = { λ same replayed. IsTrue same ↔ (replayed ≡ Same) };
+
+    fn from(same: bool) -> Self {
+        if same {
+            Replayed::Same
+        } else {
+            Replayed::Differs
+        }
     }
 }
 
@@ -31,6 +33,7 @@ pub enum NotReplayed {
     OutOfMemory,
 }
 
+// What `?` converts: each error that reading a line can end with, in a block of its own, as `From` has it.
 impl From<AllocError> for NotReplayed {
     fn from(_error: AllocError) -> Self {
         NotReplayed::OutOfMemory

@@ -1,7 +1,7 @@
 // A call beside its recorded answer: lent space for just its words, more, and one word less than it
 // needs; one that is refused, with space and with none.
 use crate::space::{Word, is_unwritten, took_words};
-use replay_lines::cases::{Replayed, same_if};
+use replay_lines::cases::Replayed;
 use replay_lines::given::{Given, Refused, Written, is_refused_as, is_short, is_written};
 
 // The number and the words are those recorded, lent just their words and all of the space.
@@ -19,7 +19,7 @@ pub fn replay_written<W: Word, F: Fn(&mut [W]) -> Given>(
     }
     let just = writes(&call, number, words, &mut space[..needed]);
     let ample = writes(&call, number, words, space);
-    same_if(just && ample && is_short_of_one(&call, needed, space))
+    Replayed::from(just && ample && is_short_of_one(&call, needed, space))
 }
 
 // The call writes just these words. The space is made as it was before.
@@ -71,7 +71,7 @@ pub fn replay_refused<W: Word, F: Fn(&mut [W]) -> Given>(
 {
     let in_space = call(space);
     let in_none = call(&mut space[..0]);
-    same_if(
+    Replayed::from(
         is_refused_as(in_space, refused) && is_refused_as(in_none, refused) && is_unwritten(space),
     )
 }

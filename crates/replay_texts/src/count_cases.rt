@@ -1,6 +1,6 @@
 // Cases of `parse_count`: the value in hexadecimal, then the number that the Rust gave, or `none`.
 use counts::count::parse_count;
-use replay_lines::cases::{Cases, NotReplayed, Replayed, same_if};
+use replay_lines::cases::{Cases, NotReplayed, Replayed};
 use replay_lines::recorded_values::{first_word, read_bytes};
 use std::alloc::Global;
 
@@ -17,6 +17,7 @@ impl Cases for CountCases {
             "none" => None,
             number => Some(number.parse::<u64>()?),
         };
-        Ok(Some(same_if(parse_count(value.as_slice()) == recorded)))
+        let same = parse_count(value.as_slice()) == recorded;
+        Ok(Some(Replayed::from(same)))
     }
 }

@@ -6,13 +6,16 @@ use std::alloc::Global;
 
 // The text that the line begins with, and what follows it and a space.
 pub fn read_text(alloc: Global, line: &str) -> Result<(Vec<u8>, &str), NotReplayed> {
-    if !line.starts_with('@') {
+    let Some(pieces) = line.strip_prefix('@') else {
         let (bytes, rest) = first_word(line)?;
         return Ok((read_bytes(alloc, bytes)?, rest));
-    }
+    };
     let mut text = Vec::new(alloc);
-    let mut rest = line;
-    while let Some(piece) = rest.strip_prefix('@') {
+    let mut rest = "";
+    for piece in pieces.split('@') {
+        if !rest.is_empty() {
+            return Err(NotReplayed::NoForm);
+        }
         let (times, bytes) = first_word(piece)?;
         let (bytes, next) = first_word(bytes)?;
         let bytes = read_bytes(alloc, bytes)?;

@@ -4,7 +4,7 @@
 // own.
 use crate::recorded_text::read_text;
 use layout_text::layout_text::check_layout_text;
-use replay_lines::cases::{Cases, NotReplayed, Replayed, same_if};
+use replay_lines::cases::{Cases, NotReplayed, Replayed};
 use replay_lines::given::Refused;
 use replay_lines::recorded_values::split_kind;
 use std::alloc::Global;
@@ -26,7 +26,7 @@ impl Cases for DictionaryTextCases {
                 lines.is_ok_and(|lines| lines == recorded)
             }
         };
-        Ok(Some(same_if(same)))
+        Ok(Some(Replayed::from(same)))
     }
 }
 
@@ -60,6 +60,6 @@ impl Cases for LayoutTextCases {
                 lines.is_ok_and(|lines| lines == recorded)
             }
         };
-        Ok(Some(same_if(same)))
+        Ok(Some(Replayed::from(same)))
     }
 }

@@ -44,6 +44,7 @@ impl Cases for MessageCases {
         let alloc = self.alloc;
         let block = &mut self.block;
         let space = self.space.as_mut_slice();
+        // The line's first word is read, and no step is chosen: what to run is a closure, each of a type of its own.
         let replayed = match kind {
             "walk" => replay_call(alloc, |lent| message_given(block, lent), rest, space)?,
             "plain" => replay_call(

@@ -2,7 +2,7 @@
 // dictionary, or `refused` with the number and the place. Of a text that is too long for its words
 // to be recorded, the number of lines is compared.
 use crate::dictionary_line::dictionary_given;
-use replay_lines::cases::{Cases, NotReplayed, Replayed, same_if};
+use replay_lines::cases::{Cases, NotReplayed, Replayed};
 use replay_lines::given::Refused;
 use replay_lines::recorded_values::{first_word, read_numbers};
 use replay_space::in_space::{is_short_of_one, replay_refused, replay_written};
@@ -58,5 +58,5 @@ fn replay_long(text: &[u8], lines: u32, space: &mut [u32]) -> Replayed {
     };
     let same = space.first() == Some(&lines);
     clear(space);
-    same_if(same && is_short_of_one(&|lent| dictionary_given(text, lent), written.words, space))
+    Replayed::from(same && is_short_of_one(&|lent| dictionary_given(text, lent), written.words, space))
 }

@@ -6,19 +6,19 @@ ghost use Rattle.verdict.specs.FieldRecords.{record_of, recorded_verdict};
 
 use definitions::definitions::{admits, definition_of, is_enumerated};
 use dictionary::dictionary::Dictionary;
-use field_types::field_type::{FieldType, type_numbered};
+use field_types::field_type::FieldType;
 use formats::field_value::{is_in_ranges, is_of_format};
 
-// What is said of a value. The Rust pushes an error for each but the first.
+// What is said of a value, with document 01's numbers: each field gets a verdict, so `Good` is one too. The Rust pushes an error for each other.
 #[derive(Clone, Copy)]
 pub enum Verdict {
-    Good,
+    Good = 0,
     // the Rust's UnknownTag
-    Undefined,
+    Undefined = 1,
     // the Rust's InvalidFieldFormat
-    WrongFormat,
+    WrongFormat = 2,
     // the Rust's InvalidEnumValue
-    NotAdmitted,
+    NotAdmitted = 3,
 }
 
 // The word that stands for the verdict.
@@ -28,12 +28,7 @@ impl From<Verdict> for u64 {
     fn from(verdict: Verdict) -> u64
         ensures outcome { result ≡ verdict_word verdict }
     {
-        match verdict {
-            Verdict::Good => 0,
-            Verdict::Undefined => 1,
-            Verdict::WrongFormat => 2,
-            Verdict::NotAdmitted => 3,
-        }
+        verdict as u64
     }
 }
 
@@ -91,7 +86,7 @@ pub fn check_value(dictionary: Dictionary<'_>, number: usize, value: &[u8], stri
         return Verdict::Undefined;
     }
     let place = 4 + 10 * number + 2;
-    let Some(field_type) = type_numbered(dictionary.words[place] as usize) else {
+    let Ok(field_type) = FieldType::try_from(dictionary.words[place] as usize) else {
         return Verdict::Undefined;
     };
     if !has_format(field_type, value, strict) {
