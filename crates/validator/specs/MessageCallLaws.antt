@@ -9,13 +9,14 @@ use Rattle.dictionary.specs.DictionaryCheck.{is_dictionary}
 use Rattle.ascending.specs.Search.{StrictlyAscending}
 use Rattle.definitions.specs.DefinedTags.{defined_tags}
 use Rattle.layouts.specs.Limits.{gate_limits}
-use Rattle.layouts.specs.LayoutWords.{level_required, level_count_tags}
+use Rattle.layouts.specs.LayoutWords.{group_count, level_required, level_count_tags}
 use Rattle.layouts.specs.LayoutCheck.{is_layout}
-use Rattle.layouts.specs.LayoutCheckFacts.{Passed}
+use Rattle.layouts.specs.LayoutCheckFacts.{Passed, is_layout-passed}
 use Rattle.events.specs.declared.event.Event.{Event}
 use Rattle.events.specs.Events.{events_words}
 use Rattle.events.specs.EventSpaceLaws.{Wrote, wrote_then, put_all_in-room, put_all_in-empty}
 use Rattle.field_table.specs.FieldTable.{row_count, table_check_of}
+use Rattle.field_table.specs.FieldTableLaws.{table_check_of-accepted}
 use Rattle.walk_steps.specs.WalkWords.{input_of}
 use Rattle.walk_steps.specs.WalkWordsLaws.{group_of_number, layout_of_rules}
 use Rattle.message_level.specs.MessageWalk.{message_turns, missing_tags, missing_groups, message_events}
@@ -54,9 +55,27 @@ module _ (dictionary words fields message space : List ℕ) where
       unfolding walked_of events_in
       table-accepted walked after good answers left = rw (defines, right, good) (answers, left)
 
+      -- with the words and the message as the types hold them
+      pub table-taken : (words' fields' message' : List ℕ) → words' ≡ words → fields' ≡ fields → message' ≡ message → table_check_of fields' (length message') ≡ Ok tt
+          → (walked : Result ℕ Refusal) (after : List ℕ)
+          → walked ≡ space_answer (walk_of dictionary words' fields' message') space → after ≡ space_with (walk_of dictionary words' fields' message') space
+          → (walked ≡ walked_of dictionary words fields message space) × (after ≡ events_in dictionary words fields message space)
+      table-taken words' fields' message' is-words are-fields is-message good walked after answers left =
+          table-accepted walked after (rw (are-fields, is-message) at good) (rw (is-words, are-fields, is-message) at answers) (rw (is-words, are-fields, is-message) at left)
+
 -- ---- the whole walk
 
-module _ (dictionary words fields message : List ℕ) (accepted : Accepted words fields message) where
+-- what the types hold of the lent words
+pub accepted_of : {dictionary words fields message : List ℕ} → is_dictionary dictionary ≡ true → is_layout gate_limits words ≡ true → group_count words < 4294967296
+    → table_check_of fields (length message) ≡ Ok tt → Accepted dictionary words fields message
+accepted_of {dictionary} {words} {fields} {message} defines right few_groups good = record {
+  defines = defines;
+  passed = is_layout-passed gate_limits words right;
+  few_groups_lem = few_groups;
+  table = (table_check_of-accepted fields (length message)).0 good;
+}
+
+module _ (dictionary words fields message : List ℕ) (accepted : Accepted dictionary words fields message) where
   pub lent-with : (defined : List ℕ) → defined ≡ defined_tags dictionary → StrictlyAscending defined → length defined ≤ 10922 → Lent defined words fields message
   lent-with defined are-defined ascends few = record {
     ascends = ascends;

@@ -108,3 +108,10 @@ module _ (dictionary fields message : List ℕ) (strict : Bool) (space : List �
         → (judged ≡ judged_of dictionary fields message space) × (after ≡ verdicts_in dictionary fields message strict space)
     unfolding judged_of verdicts_in
     table-accepted judged after good answers left = rw (right, good) (answers, left)
+
+    -- with the words and the message as the type holds them
+    pub table-taken : (fields' message' : List ℕ) → fields' ≡ fields → message' ≡ message → table_check_of fields' (length message') ≡ Ok tt → (judged : Result ℕ Refusal) (after : List ℕ)
+        → judged ≡ space_answer fields' space → after ≡ space_with dictionary fields' message' strict space
+        → (judged ≡ judged_of dictionary fields message space) × (after ≡ verdicts_in dictionary fields message strict space)
+    table-taken fields' message' are-fields is-message good judged after answers left =
+        table-accepted judged after (rw (are-fields, is-message) at good) (rw are-fields at answers) (rw (are-fields, is-message) at left)

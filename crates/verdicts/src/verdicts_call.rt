@@ -1,22 +1,22 @@
 // The verdicts on the values of a message, on lent words: a call that refuses what it cannot judge, and else writes one word a field.
 ghost use Rattle.std.specs.Prelude.{◌≡◌, ◌≤◌, ◌<◌, length};
 ghost use Rattle.field_table.specs.FieldTable.{row_count, fields_of};
-ghost use Rattle.field_table.specs.FieldTableLaws.{AcceptedTable};
 ghost use Rattle.verdicts.specs.Verdicts.{field_verdict, written_in, space_answer, space_with, judged_of, verdicts_in};
 ghost use Rattle.verdict.specs.FieldRecords.{field_record, filled_in, Holds};
 
 use dictionary::dictionary::Dictionary;
-use field_table::field_table::{check_field_table, first_at, past_at, tag_at};
+use field_table::field_table::FieldTable;
 use refusals::refusal::Refusal;
 use verdict::verdict::{Verdict, check_value, record_of};
 
 // Writes the number of the record that defines each field's tag.
-fn write_records(dictionary: Dictionary<'_>, fields: &[u32], verdicts: &mut [u64])
-    requires fields_in_bounds { row_count fields.now ≤ length verdicts.old }
-    ensures memory { verdicts.new ≡ filled_in (field_record dictionary.entry.words.now fields.now) (row_count fields.now) verdicts.old }
+fn write_records(dictionary: Dictionary<'_>, table: &FieldTable<'_>, verdicts: &mut [u64])
+    requires fields_in_bounds { row_count table.now.fields.now ≤ length verdicts.old }
+    ensures memory { verdicts.new ≡ filled_in (field_record dictionary.entry.words.now table.now.fields.now)
+        (row_count table.now.fields.now) verdicts.old }
 {
-    for position in 0..fields.len() / 3 {
-        let tag = tag_at(fields, position);
+    for position in 0..table.len() {
+        let tag = table.tag_at(position);
         verdicts[position] = record_of(dictionary, tag) as u64;
     }
 }
@@ -24,38 +24,35 @@ fn write_records(dictionary: Dictionary<'_>, fields: &[u32], verdicts: &mut [u64
 // The verdict on the field at `index`, whose tag has the record with this number.
 fn verdict_at(
     dictionary: Dictionary<'_>,
-    fields: &[u32],
-    message: &[u8],
+    table: &FieldTable<'_>,
     strict: bool,
     index: usize,
     number: usize,
 ) -> Verdict
-    requires accepted_table { AcceptedTable fields.now (length message.now) }
-    requires index_bound { index < row_count fields.now }
-    requires number_value { number ≡ field_record dictionary.words.now fields.now index }
-    ensures { result ≡ field_verdict dictionary.entry.words.now strict (fields_of fields.now message.now) index }
+    requires index_bound { index < row_count table.now.fields.now }
+    requires number_value { number ≡ field_record dictionary.words.now table.now.fields.now index }
+    ensures { result ≡ field_verdict dictionary.entry.words.now strict
+        (fields_of table.now.fields.now table.now.message.now) index }
 {
-    let first = first_at(fields, index);
-    let past = past_at(fields, index);
-    check_value(dictionary, number, &message[first..past], strict)
+    check_value(dictionary, number, table.value_at(index), strict)
 }
 
 // Writes the verdict on each field over the number of its record.
 fn judge_values(
     dictionary: Dictionary<'_>,
-    fields: &[u32],
-    message: &[u8],
+    table: &FieldTable<'_>,
     strict: bool,
     verdicts: &mut [u64],
 )
-    requires accepted_table { AcceptedTable fields.now (length message.now) }
-    requires fields_in_bounds { row_count fields.now ≤ length verdicts.old }
-    requires holds { Holds (field_record dictionary.words.now fields.now) (row_count fields.now) verdicts.old }
-    ensures memory { verdicts.new ≡ written_in dictionary.entry.words.now fields.now message.now strict verdicts.old }
+    requires fields_in_bounds { row_count table.now.fields.now ≤ length verdicts.old }
+    requires holds { Holds (field_record dictionary.words.now table.now.fields.now)
+        (row_count table.now.fields.now) verdicts.old }
+    ensures memory { verdicts.new ≡ written_in dictionary.entry.words.now table.now.fields.now
+        table.now.message.now strict verdicts.old }
 {
-    for index in 0..fields.len() / 3 {
+    for index in 0..table.len() {
         let number = verdicts[index] as usize;
-        let verdict = verdict_at(dictionary, fields, message, strict, index, number);
+        let verdict = verdict_at(dictionary, table, strict, index, number);
         verdicts[index] = u64::from(verdict);
     }
 }
@@ -64,36 +61,34 @@ fn judge_values(
 // value, whose jumps hang on the message (docs/SPEED.md).
 fn write_verdicts(
     dictionary: Dictionary<'_>,
-    fields: &[u32],
-    message: &[u8],
+    table: &FieldTable<'_>,
     strict: bool,
     verdicts: &mut [u64],
 )
-    requires accepted_table { AcceptedTable fields.now (length message.now) }
-    requires fields_in_bounds { row_count fields.now ≤ length verdicts.old }
-    ensures memory { verdicts.new ≡ written_in dictionary.entry.words.now fields.now message.now strict verdicts.old }
+    requires fields_in_bounds { row_count table.now.fields.now ≤ length verdicts.old }
+    ensures memory { verdicts.new ≡ written_in dictionary.entry.words.now table.now.fields.now
+        table.now.message.now strict verdicts.old }
 {
-    write_records(dictionary, fields, verdicts);
-    judge_values(dictionary, fields, message, strict, verdicts);
+    write_records(dictionary, table, verdicts);
+    judge_values(dictionary, table, strict, verdicts);
 }
 
 // The verdicts, once the lent words are accepted.
 fn judge_fields(
     dictionary: Dictionary<'_>,
-    fields: &[u32],
-    message: &[u8],
+    table: &FieldTable<'_>,
     strict: bool,
     verdicts: &mut [u64],
 ) -> Result<usize, Refusal>
-    requires accepted_table { AcceptedTable fields.now (length message.now) }
-    ensures outcome { result ≡ space_answer fields.now verdicts.old }
-    ensures memory { verdicts.new ≡ space_with dictionary.entry.words.now fields.now message.now strict verdicts.old }
+    ensures outcome { result ≡ space_answer table.now.fields.now verdicts.old }
+    ensures memory { verdicts.new ≡ space_with dictionary.entry.words.now table.now.fields.now
+        table.now.message.now strict verdicts.old }
 {
-    let needed = fields.len() / 3;
+    let needed = table.len();
     if verdicts.len() < needed {
         return Err(Refusal::SpaceShort(needed as u64));
     }
-    write_verdicts(dictionary, fields, message, strict, verdicts);
+    write_verdicts(dictionary, table, strict, verdicts);
     Ok(needed)
 }
 
@@ -112,6 +107,6 @@ pub fn check_values(
     let Some(dictionary) = Dictionary::new(dictionary) else {
         return Err(Refusal::UnknownForm(0));
     };
-    check_field_table(fields, message.len())?;
-    judge_fields(dictionary, fields, message, strict, verdicts)
+    let table = FieldTable::new(fields, message)?;
+    judge_fields(dictionary, &table, strict, verdicts)
 }

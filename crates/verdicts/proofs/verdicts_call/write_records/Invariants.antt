@@ -5,4 +5,4 @@ use Rattle.verdict.specs.FieldRecordsLaws.{FilledSoFar}
 use Rattle.verdicts.proofs.verdicts_call.write_records.Given as goal
 
 abbrev pub invariant-loop-position : goal.invariant-loop-position
-invariant-loop-position l = FilledSoFar (field_record l.dictionary.words.now l.fields) (row_count l.fields) l.initial.verdicts l.position l.verdicts
+invariant-loop-position l = FilledSoFar (field_record l.dictionary.words.now l.table.fields.now) (row_count l.table.fields.now) l.initial.verdicts l.position l.verdicts

@@ -7,10 +7,9 @@ use Rattle.verdicts.proofs.verdicts_call.write_verdicts.Goals as goal
 -- judge_values(dictionary, fields, message, strict, verdicts);
 pub judge_values-requires : goal.judge_values-requires
 judge_values-requires c = record {
-  accepted_table = c.requires.accepted_table;
   fields_in_bounds = omega (arith, c.requires.fields_in_bounds);
   holds = filled_in-holds _ _ _ _ c.write_records.ensures.memory;
 }
 
 pub returns : goal.returns
-returns c = record { memory = written_over c.args.dictionary.words.now c.args.fields.now c.args.message.now c.args.strict c.args.verdicts.now _ _ c.write_records.ensures.memory c.judge_values.ensures.memory }
+returns c = record { memory = written_over c.args.dictionary.words.now c.args.table.now.fields.now c.args.table.now.message.now c.args.strict c.args.verdicts.now _ _ c.write_records.ensures.memory c.judge_values.ensures.memory }
