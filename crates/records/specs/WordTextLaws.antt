@@ -305,6 +305,10 @@ module _ (test : ℕ → Bool) (word : ℕ) where
   holds_part-split (suc (suc (suc zero))) used same = let three : used ≡ 3 = omega arith in rw three split-three
   holds_part-split (suc (suc (suc (suc more)))) used same = let four : used ≡ 4 = omega arith in rw four (split-four (suc (suc (suc (suc more)))) (omega arith))
 
+  -- of more than four bytes there are four
+  pub holds_part-four : (left : ℕ) → 4 ≤ left → holds_part test 4 word ≡ holds_part test left word
+  holds_part-four left all = split-four 4 (omega arith) ∙ sym (split-four left all)
+
 -- ---- letters_text
 
 pub letters_length-one : (word : ℕ) → byte1 word ≡ 0 → 1 ≡ letters_length word

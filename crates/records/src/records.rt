@@ -34,6 +34,7 @@ pub fn letters_length(word: u32) -> u32
 }
 
 // The bytes after those of a T or a value are 0.
+#[inline(always)]
 fn all_zero(bytes: &[u8]) -> bool
     ensures { result ≡ every is_zero bytes.now }
 {
@@ -57,6 +58,7 @@ fn holds_letters(word: u32) -> bool
 }
 
 // Every byte is 21 to 7E.
+#[inline(always)]
 #[tactic(auto, unfolding(ascii::specs::Notation::is_between))]
 fn all_visible(bytes: &[u8]) -> bool
     ensures { result ≡ every is_visible bytes.now }
@@ -64,13 +66,28 @@ fn all_visible(bytes: &[u8]) -> bool
     bytes.iter().all(|byte| byte.is_ascii_graphic())
 }
 
-// The first `left` bytes of the word are 21 to 7E, and those after them are 0.
+#[inline(always)]
+fn holds_visible(used: usize, word: u32) -> bool
+    requires { used ≤ 4 }
+    ensures { result ≡ holds_part is_visible used word }
+{
+    let bytes = word.to_be_bytes();
+    let (visible, unused) = bytes.split_at(used);
+    all_visible(visible) && all_zero(unused)
+}
+
+// The first `left` bytes of the word are 21 to 7E, and those after them are 0. In each arm it is
+// known how many bytes are used, so that no loop over them is left: one arm for all is slower.
 pub fn holds_visible_part(left: u32, word: u32) -> bool
     ensures { result ≡ holds_part is_visible left word }
 {
-    let bytes = word.to_be_bytes();
-    let (visible, unused) = bytes.split_at(left.min(4) as usize);
-    all_visible(visible) && all_zero(unused)
+    match left {
+        0 => word == 0,
+        1 => holds_visible(1, word),
+        2 => holds_visible(2, word),
+        3 => holds_visible(3, word),
+        _ => holds_visible(4, word),
+    }
 }
 
 // The words hold so many bytes 21 to 7E, and 0 after them.

@@ -1,12 +1,12 @@
--- `records::records::holds_visible_part` meets its contract: bytes of the value, and then 0 (specs/WordTextLaws.antt).
-use Rattle.std.proofs.Common.{sym, ◌∙◌}
+-- `records::records::holds_visible_part` meets its contract: each arm knows how many bytes are used (specs/WordTextLaws.antt).
+use Rattle.std.proofs.Common.{◌≡◌, arith, sym, ◌∙◌}
 use Rattle.lines.specs.LineParts.{is_visible}
-use Rattle.records.specs.WordTextLaws.{bytes_of-word, holds_part-split}
+use Rattle.records.specs.WordTextLaws.{part-empty, holds_part-four}
 use Rattle.records.proofs.records.holds_visible_part.Goals as goal
 
 -- pub fn holds_visible_part(left: u32, word: u32) -> bool
-pub returns-then-all_visible : goal.returns-then-all_visible
-returns-then-all_visible c = sym (holds_part-split is_visible c.args.word c.args.left c.min.result c.min.ensures ∙ rw (← bytes_of-word c.args.word c.ranges.word.fits, ← c.to_be_bytes-bytes.ensures, ← c.split_at.ensures.front, ← c.split_at.ensures.back, ← c.all_visible.ensures, c.if-all_visible.true, ← c.all_zero.ensures))
+pub returns-in-0 : goal.returns-in-0
+returns-in-0 c = let none : c.args.left ≡ 0 = omega arith in rw none (sym (part-empty is_visible c.args.word))
 
-pub returns-else-all_visible : goal.returns-else-all_visible
-returns-else-all_visible c = c.if-all_visible.false ∙ sym (holds_part-split is_visible c.args.word c.args.left c.min.result c.min.ensures ∙ rw (← bytes_of-word c.args.word c.ranges.word.fits, ← c.to_be_bytes-bytes.ensures, ← c.split_at.ensures.front, ← c.all_visible.ensures, c.if-all_visible.false))
+pub returns-in_default : goal.returns-in_default
+returns-in_default c = c.holds_visible-in_default.ensures ∙ holds_part-four is_visible c.args.word c.args.left (omega arith)
