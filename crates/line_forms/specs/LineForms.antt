@@ -10,6 +10,7 @@
 --
 --   line_of bytes   the form of a line, given without its line feed
 use Rattle.std.specs.Prelude.{ℕ, Bool, true, false, List, drop, if◌then◌else◌, Option, Some, None}
+use Rattle.std.specs.Option.{option_zip}
 use Rattle.ascii.specs.Bytes.{ascii}
 use Rattle.line_forms.specs.declared.line.Line.{Line}
 use Rattle.line_forms.specs.declared.line.Line.TheVariants.{Def, Value, BeginHeader, BeginTrailer, EndHeader, EndTrailer, Component, Message, Field, Group, Use, End, Member, RequiredTag, Unknown}
@@ -58,6 +59,11 @@ message_of rest =
     if is_same (ascii "app") (behind comma rest) then message_with (message_type_of (before comma rest)) true
     else if is_same (ascii "admin") (behind comma rest) then message_with (message_type_of (before comma rest)) false
     else Unknown
+
+-- ---- TAG,R, DELIMITER,R, N,R
+
+abbrev pub numbered_flag : List ℕ → Option (ℕ × Bool)
+numbered_flag rest = option_zip (number_of (before comma rest)) (flag_of (behind comma rest))
 
 -- ---- field=TAG,R
 

@@ -1,11 +1,14 @@
 // The forms of a line, of the dictionary text and of the layout text.
-ghost use Rattle.std.specs.Prelude.{◌≡◌};
-ghost use Rattle.line_forms.specs.LineForms.{def_with, def_of, value_with, begin_of, component_with, message_with, message_of, field_with, field_of, group_with, group_rest, group_of, use_with, use_of, end_with, end_of, member_with, required_with, line_of, definition_line_of, block_line_of};
+ghost use Rattle.std.specs.Prelude.{◌≡◌, MatchOption, true, false, length, drop};
+ghost use Rattle.std.specs.Option.{unwrap_or};
+ghost use Rattle.line_forms.specs.declared.line.Line.TheVariants.{Unknown};
+ghost use Rattle.line_forms.specs.LineForms.{def_of, begin_of, message_of, numbered_flag, field_of, group_of, use_of, end_of, line_of, definition_line_of, block_line_of};
+ghost use Rattle.lines.specs.Lines.{starts_with};
 
 use lines::line_parts::{
     Admitted, parse_flag, parse_message_type, parse_number, parse_type, parse_value,
 };
-use lines::lines::{before, behind, is_same, starts_with};
+use lines::lines::{before, behind, is_same};
 
 #[derive(Clone, Copy)]
 pub enum Line {
@@ -41,233 +44,139 @@ pub enum Line {
     Unknown,
 }
 
-fn def_with(tag: Option<u32>, place: Option<u32>) -> Line
-    ensures { result ≡ def_with tag place }
+// What stands after the key, if the bytes start with it.
+fn after<'a>(bytes: &'a [u8], key: &[u8]) -> Option<&'a [u8]>
+    ensures { MatchOption result (starts_with key.now bytes.now ≡ false) (λ rest. (starts_with key.now bytes.now ≡ true) × (rest.now ≡ drop (length key.now) bytes.now)) }
 {
-    match (tag, place) {
-        (Some(number), Some(name)) => Line::Def(number, name),
-        _ => Line::Unknown,
-    }
+    bytes.strip_prefix(key)
 }
 
 // TAG,TYPE
-fn def_line(rest: &[u8]) -> Line
-    ensures { result ≡ def_of rest.now }
+#[tactic(auto, unfolding(crate::specs::LineForms::def_of))]
+fn def_line(rest: &[u8]) -> Option<Line>
+    ensures { unwrap_or result Unknown ≡ def_of rest.now }
 {
-    let tag = parse_number(before(rest, b','));
-    let name = parse_type(behind(rest, b','));
-    def_with(tag, name)
+    let tag = parse_number(before(rest, b','))?;
+    let place = parse_type(behind(rest, b','))?;
+    Some(Line::Def(tag, place))
 }
 
-fn value_with(value: Option<Admitted>) -> Line
-    ensures { result ≡ value_with value }
-{
-    match value {
-        Some(admitted) => Line::Value(admitted),
-        None => Line::Unknown,
-    }
-}
-
-fn begin_line(rest: &[u8]) -> Line
-    ensures { result ≡ begin_of rest.now }
+#[tactic(auto, unfolding(crate::specs::LineForms::begin_of))]
+fn begin_line(rest: &[u8]) -> Option<Line>
+    ensures { unwrap_or result Unknown ≡ begin_of rest.now }
 {
     if is_same(rest, b"header") {
-        return Line::BeginHeader;
+        return Some(Line::BeginHeader);
     }
     if is_same(rest, b"trailer") {
-        return Line::BeginTrailer;
+        return Some(Line::BeginTrailer);
     }
-    Line::Unknown
-}
-
-fn component_with(name: Option<u32>) -> Line
-    ensures { result ≡ component_with name }
-{
-    match name {
-        Some(number) => Line::Component(number),
-        None => Line::Unknown,
-    }
-}
-
-fn message_with(name: Option<u32>, app: bool) -> Line
-    ensures { result ≡ message_with name app }
-{
-    match name {
-        Some(letters) => Line::Message(letters, app),
-        None => Line::Unknown,
-    }
+    None
 }
 
 // T,app or T,admin
-fn message_line(rest: &[u8]) -> Line
-    ensures { result ≡ message_of rest.now }
+#[tactic(auto, unfolding(crate::specs::LineForms::message_of))]
+fn message_line(rest: &[u8]) -> Option<Line>
+    ensures { unwrap_or result Unknown ≡ message_of rest.now }
 {
-    let name = parse_message_type(before(rest, b','));
+    let name = parse_message_type(before(rest, b','))?;
     let kind = behind(rest, b',');
-    if is_same(kind, b"app") {
-        return message_with(name, true);
+    let app = is_same(kind, b"app");
+    if app || is_same(kind, b"admin") {
+        return Some(Line::Message(name, app));
     }
-    if is_same(kind, b"admin") {
-        return message_with(name, false);
-    }
-    Line::Unknown
+    None
 }
 
-fn field_with(tag: Option<u32>, flag: Option<bool>) -> Line
-    ensures { result ≡ field_with tag flag }
+// TAG,R or DELIMITER,R or N,R
+fn parse_numbered_flag(rest: &[u8]) -> Option<(u32, bool)>
+    ensures { result ≡ numbered_flag rest.now }
 {
-    match (tag, flag) {
-        (Some(number), Some(required)) => Line::Field(number, required),
-        _ => Line::Unknown,
-    }
-}
-
-// TAG,R
-fn field_line(rest: &[u8]) -> Line
-    ensures { result ≡ field_of rest.now }
-{
-    let tag = parse_number(before(rest, b','));
-    let flag = parse_flag(behind(rest, b','));
-    field_with(tag, flag)
-}
-
-fn group_with(count: Option<u32>, delimiter: Option<u32>, flag: Option<bool>) -> Line
-    ensures { result ≡ group_with count delimiter flag }
-{
-    match (count, delimiter, flag) {
-        (Some(count_tag), Some(delimiter_tag), Some(required)) => {
-            Line::Group(count_tag, delimiter_tag, required)
-        }
-        _ => Line::Unknown,
-    }
-}
-
-// DELIMITER,R behind a COUNT
-fn group_rest(count: Option<u32>, rest: &[u8]) -> Line
-    ensures { result ≡ group_rest count rest.now }
-{
-    let delimiter = parse_number(before(rest, b','));
-    let flag = parse_flag(behind(rest, b','));
-    group_with(count, delimiter, flag)
+    parse_number(before(rest, b',')).zip(parse_flag(behind(rest, b',')))
 }
 
 // COUNT,DELIMITER,R
-fn group_line(rest: &[u8]) -> Line
-    ensures { result ≡ group_of rest.now }
+#[tactic(auto, unfolding(crate::specs::LineForms::group_of, crate::specs::LineForms::group_rest))]
+fn group_line(rest: &[u8]) -> Option<Line>
+    ensures { unwrap_or result Unknown ≡ group_of rest.now }
 {
-    let count = parse_number(before(rest, b','));
-    group_rest(count, behind(rest, b','))
-}
-
-fn use_with(name: Option<u32>, flag: Option<bool>) -> Line
-    ensures { result ≡ use_with name flag }
-{
-    match (name, flag) {
-        (Some(number), Some(required)) => Line::Use(number, required),
-        _ => Line::Unknown,
-    }
-}
-
-// N,R
-fn use_line(rest: &[u8]) -> Line
-    ensures { result ≡ use_of rest.now }
-{
-    let name = parse_number(before(rest, b','));
-    let flag = parse_flag(behind(rest, b','));
-    use_with(name, flag)
-}
-
-fn end_with(number: Option<u32>, name: Option<u32>) -> Line
-    ensures { result ≡ end_with number name }
-{
-    if number.is_none() && name.is_none() {
-        return Line::Unknown;
-    }
-    Line::End(number, name)
+    let count = parse_number(before(rest, b','))?;
+    let (delimiter, required) = parse_numbered_flag(behind(rest, b','))?;
+    Some(Line::Group(count, delimiter, required))
 }
 
 // header, trailer, N, COUNT or T
-fn end_line(rest: &[u8]) -> Line
-    ensures { result ≡ end_of rest.now }
+#[tactic(auto, unfolding(crate::specs::LineForms::end_of))]
+fn end_line(rest: &[u8]) -> Option<Line>
+    ensures { unwrap_or result Unknown ≡ end_of rest.now }
 {
     if is_same(rest, b"header") {
-        return Line::EndHeader;
+        return Some(Line::EndHeader);
     }
     if is_same(rest, b"trailer") {
-        return Line::EndTrailer;
+        return Some(Line::EndTrailer);
     }
-    let number = parse_number(rest);
-    let name = parse_message_type(rest);
-    end_with(number, name)
-}
-
-fn member_with(tag: Option<u32>) -> Line
-    ensures { result ≡ member_with tag }
-{
-    match tag {
-        Some(number) => Line::Member(number),
-        None => Line::Unknown,
-    }
-}
-
-fn required_with(tag: Option<u32>) -> Line
-    ensures { result ≡ required_with tag }
-{
-    match tag {
-        Some(number) => Line::RequiredTag(number),
-        None => Line::Unknown,
+    match (parse_number(rest), parse_message_type(rest)) {
+        (None, None) => None,
+        (number, name) => Some(Line::End(number, name)),
     }
 }
 
 // A line of a block, or a line of a layout text.
-fn block_line(bytes: &[u8]) -> Line
-    ensures { result ≡ block_line_of bytes.now }
+#[tactic(auto, unfolding(crate::specs::LineForms::block_line_of))]
+fn block_line(bytes: &[u8]) -> Option<Line>
+    ensures { unwrap_or result Unknown ≡ block_line_of bytes.now }
 {
-    if starts_with(bytes, b"component=") {
-        return component_with(parse_number(&bytes[10..]));
+    if let Some(name) = after(bytes, b"component=") {
+        return parse_number(name).map(Line::Component);
     }
-    if starts_with(bytes, b"message=") {
-        return message_line(&bytes[8..]);
+    if let Some(rest) = after(bytes, b"message=") {
+        return message_line(rest);
     }
-    if starts_with(bytes, b"member=") {
-        return member_with(parse_number(&bytes[7..]));
+    if let Some(tag) = after(bytes, b"member=") {
+        return parse_number(tag).map(Line::Member);
     }
-    if starts_with(bytes, b"required=") {
-        return required_with(parse_number(&bytes[9..]));
-    }
-    Line::Unknown
+    parse_number(after(bytes, b"required=")?).map(Line::RequiredTag)
 }
 
-fn definition_line(bytes: &[u8]) -> Line
-    ensures { result ≡ definition_line_of bytes.now }
+#[tactic(auto, unfolding(crate::specs::LineForms::definition_line_of))]
+fn definition_line(bytes: &[u8]) -> Option<Line>
+    ensures { unwrap_or result Unknown ≡ definition_line_of bytes.now }
 {
-    if starts_with(bytes, b"def=") {
-        return def_line(&bytes[4..]);
+    if let Some(rest) = after(bytes, b"def=") {
+        return def_line(rest);
     }
-    if starts_with(bytes, b"value=") {
-        return value_with(parse_value(&bytes[6..]));
+    if let Some(value) = after(bytes, b"value=") {
+        return parse_value(value).map(Line::Value);
     }
-    if starts_with(bytes, b"begin=") {
-        return begin_line(&bytes[6..]);
+    if let Some(rest) = after(bytes, b"begin=") {
+        return begin_line(rest);
     }
     block_line(bytes)
+}
+
+#[tactic(auto, unfolding(crate::specs::LineForms::line_of, crate::specs::LineForms::field_of, crate::specs::LineForms::use_of))]
+fn known_line(bytes: &[u8]) -> Option<Line>
+    ensures { unwrap_or result Unknown ≡ line_of bytes.now }
+{
+    if let Some(rest) = after(bytes, b"field=") {
+        return parse_numbered_flag(rest).map(|(tag, required)| Line::Field(tag, required));
+    }
+    if let Some(rest) = after(bytes, b"group=") {
+        return group_line(rest);
+    }
+    if let Some(rest) = after(bytes, b"use=") {
+        return parse_numbered_flag(rest).map(|(name, required)| Line::Use(name, required));
+    }
+    if let Some(rest) = after(bytes, b"end=") {
+        return end_line(rest);
+    }
+    definition_line(bytes)
 }
 
 // The form of a line, without its line feed.
 pub fn line_of(bytes: &[u8]) -> Line
     ensures { result ≡ line_of bytes.now }
 {
-    if starts_with(bytes, b"field=") {
-        return field_line(&bytes[6..]);
-    }
-    if starts_with(bytes, b"group=") {
-        return group_line(&bytes[6..]);
-    }
-    if starts_with(bytes, b"use=") {
-        return use_line(&bytes[4..]);
-    }
-    if starts_with(bytes, b"end=") {
-        return end_line(&bytes[4..]);
-    }
-    definition_line(bytes)
+    known_line(bytes).unwrap_or(Line::Unknown)
 }

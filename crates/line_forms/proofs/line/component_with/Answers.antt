@@ -1,7 +1,0 @@
--- `line_forms::line::component_with` meets its contract, a case at a time.
-use borrow.Author.Rules.{rules}
-use Rattle.line_forms.proofs.line.component_with.Goals as goal
-
--- fn component_with(name: Option<u32>) -> Line
-pub returns-in-Some : goal.returns-in-Some
-returns-in-Some c = rw c.in-Some.is
