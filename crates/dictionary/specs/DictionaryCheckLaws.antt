@@ -1,6 +1,7 @@
 -- Laws of `DictionaryCheck.antt`: its loops, turn by turn, and its tests, one by one. Assumes nothing.
 use Rattle.std.specs.Prelude.{◌≡◌, refl, Bool, cond, ◌&&◌, List, [], ◌∷◌, leb, eqb, length, get_or, take, is_some, Option, Some, None, Result, Ok, Err}
 use Rattle.std.specs.Bool.{then_some}
+use Rattle.std.specs.List.{list_all, zip}
 use Rattle.std.proofs.Math.Path.{sym}
 use Rattle.std.proofs.Common.{subst, ◌∙◌, add-one, length-take, length-drop, drop-cons, get_or-drop}
 use Prim.Native.Nat.{ℕ, zero, suc, ◌+◌, ◌*◌, ◌-◌, ◌≤◌, ◌<◌}
@@ -316,6 +317,19 @@ module _ (kind count at : ℕ) (words : List ℕ) (place lowest : ℕ) (so_far :
       rest = next-name ∙ rw (is, le-leb lowest name (omega (arith, is)), holds);
     }
 
+-- the names and the numbers side by side
+pub stands_each-zip : (kind count at left : ℕ) (words : List ℕ) → at + count + left ≤ length words → left ≤ count
+    → list_all (λ (pair : ℕ × ℕ). stands_at kind pair.0 pair.1 words) (zip (take left (drop at words)) (take left (drop (at + count) words)))
+    ≡ stands_each kind count at left words
+unfolding stands_each
+stands_each-zip kind count at zero words fits few = refl
+stands_each-zip kind count at (suc left) words fits few =
+    let names : drop at words ≡ get_or words at 0 ∷ drop (at + 1) words = rw (add-one at) (drop-cons words at 0 (omega arith)) in
+    let numbers : drop (at + count) words ≡ get_or words (at + count) 0 ∷ drop (at + 1 + count) words =
+    let next : suc (at + count) ≡ at + 1 + count = omega arith in rw (← next) (drop-cons words (at + count) 0 (omega arith)) in
+    let deeper = stands_each-zip kind count (at + 1) left words (omega arith) (omega arith) in
+    rw (names, numbers, deeper)
+
 -- ---- is_index: the tests of `is_index`
 
 module _ (kind at count : ℕ) (words : List ℕ) (counted : ℕ) (counts : counted ≡ count_of kind (get_or words 0 0) (drop 4 words)) where
@@ -326,6 +340,13 @@ module _ (kind at count : ℕ) (words : List ℕ) (counted : ℕ) (counts : coun
   pub index-counted : counted ≡ count → is_index kind at count words ≡ (is_strictly_ascending (take count (drop at words)) && stands_each kind count at count words)
   unfolding is_index
   index-counted same = rw (← counts, eq-eqb counted count same)
+
+  pub index-falls : counted ≡ count → is_strictly_ascending (take count (drop at words)) ≡ false → is_index kind at count words ≡ false
+  index-falls same falls = index-counted same ∙ rw falls
+
+  pub index-stands : counted ≡ count → is_strictly_ascending (take count (drop at words)) ≡ true → at + 2 * count ≤ length words
+      → is_index kind at count words ≡ list_all (λ (pair : ℕ × ℕ). stands_at kind pair.0 pair.1 words) (zip (take count (drop at words)) (take count (drop (at + count) words)))
+  index-stands same ascends stored = index-counted same ∙ rw ascends (sym (stands_each-zip kind count at count words (omega arith) (omega arith)))
 
 -- ---- is_dictionary: the tests of `is_dictionary`
 

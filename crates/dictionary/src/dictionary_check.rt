@@ -10,6 +10,7 @@ ghost use Rattle.records.specs.LineLengths.{text_length};
 
 use crate::line_order::{Standing, next_standing};
 use crate::line_runs::{count_one, run_after};
+use ascending::search::is_strictly_ascending;
 use dictionary_order::dictionary_order::{Part, Stage};
 use records::line_texts::text_length;
 use records::record_kind::RecordKind;
@@ -98,48 +99,20 @@ pub fn stands_at(words: &[u32], kind: u32, name: u32, number: u32) -> bool
     words[at + 1] == name
 }
 
-// What a name behind this one is at least.
-fn above(name: u32) -> u64
-    ensures above { result ≡ name + 1 }
-    ensures few { result ≤ 4294967296 }
-{
-    name as u64 + 1
-}
-
-// The names of the index ascend, and each is that of a record of this kind and stands where the index says.
-fn stands_in_order(words: &[u32], kind: u32, at: usize, count: usize) -> bool
-    requires { (4 ≤ length words.now) × ((4 + 10 * get_or words.now 0 0 ≤ length words.now) × (at + 2 * count ≤ length words.now)) }
-    ensures { result ≡ (is_strictly_ascending (take count (drop at words.now)) && stands_each kind count at count words.now) }
-{
-    let mut place = at;
-    let past = at + count;
-    let mut lowest: u64 = 0;
-    while place < past {
-        let name = words[place];
-        let next = above(name);
-        if next <= lowest {
-            return false;
-        }
-        let number = words[place + count];
-        if !stands_at(words, kind, name, number) {
-            return false;
-        }
-        lowest = next;
-        place += 1;
-    }
-    true
-}
-
-// The index at this place has the names of all records of this kind, each once, and where they stand.
+// The index at this place has the names of all records of this kind in ascending order, each once, and where they stand.
 fn is_index(words: &[u32], kind: u32, at: usize, count: usize, counted: usize) -> bool
     requires in_bounds { (4 ≤ length words.now) × ((4 + 10 * get_or words.now 0 0 ≤ length words.now) × (at + 2 * count ≤ length words.now)) }
     requires counted { counted ≡ count_of kind (get_or words.now 0 0) (drop 4 words.now) }
     ensures { result ≡ is_index kind at count words.now }
 {
-    if counted != count {
-        return false;
-    }
-    stands_in_order(words, kind, at, count)
+    let names = &words[at..at + count];
+    let numbers = &words[at + count..at + 2 * count];
+    counted == count
+        && is_strictly_ascending(names)
+        && names
+            .iter()
+            .zip(numbers)
+            .all(|(name, number)| stands_at(words, kind, *name, *number))
 }
 
 // The words begin with the arrangement of an accepted dictionary.
