@@ -23,17 +23,19 @@ use Rattle.line_forms.specs.declared.line.Line.{Line}
 use Rattle.lines.specs.Lines.{Pieces, last, piece}
 use Rattle.line_forms.specs.LineForms.{line_of}
 use Rattle.records.specs.Records.{record_of, lines_from}
+use Rattle.records.specs.declared.record_kind.RecordKind.TheVariants.{Def, Component, Message}
+use Rattle.records.specs.RecordKind.{kind_number}
 
 -- ---- kinds that an index has
 
 abbrev pub definitions : ℕ
-definitions = 1
+definitions = kind_number Def
 
 abbrev pub components : ℕ
-components = 5
+components = kind_number Component
 
 abbrev pub messages : ℕ
-messages = 6
+messages = kind_number Message
 
 -- ---- names
 

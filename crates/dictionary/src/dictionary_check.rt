@@ -119,13 +119,13 @@ fn is_index(words: &[u32], kind: u32, at: usize, count: usize, counted: usize) -
 pub fn is_dictionary(words: &[u32]) -> bool
     ensures outcome { result ≡ is_dictionary words.now }
 {
-    if words.len() < 4 {
+    let [lines, tags, components, messages, ..] = words else {
         return false;
-    }
-    let lines = words[0] as usize;
-    let tags = words[1] as usize;
-    let components = words[2] as usize;
-    let messages = words[3] as usize;
+    };
+    let lines = *lines as usize;
+    let tags = *tags as usize;
+    let components = *components as usize;
+    let messages = *messages as usize;
     let tags_at = 4 + 10 * lines;
     let components_at = tags_at + 2 * tags;
     let messages_at = components_at + 2 * components;

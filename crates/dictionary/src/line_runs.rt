@@ -10,6 +10,7 @@ ghost use Rattle.dictionary.specs.LineRuns.{HoldsShort, FewDigits, IsRun, FewIn,
 use crate::line_order::Standing;
 use dictionary_order::dictionary_order::{Part, Stage};
 use records::line_texts::type_length;
+use records::record_kind::RecordKind;
 use records::records::{holds_visible_part, pair_at};
 
 // How many lines stand in the run, how many bytes they have with their line feeds at most, and how many of them define a tag.
@@ -36,23 +37,14 @@ fn digits_within(names: u64) -> usize
     ensures digits { FewDigits result names }
     ensures few { result ≤ 10 }
 {
-    let highest = names / 0x1_0000_0000;
-    if highest < 10 {
-        return 1;
+    match names / 0x1_0000_0000 {
+        0..10 => 1,
+        10..100 => 2,
+        100..1000 => 3,
+        1000..10000 => 4,
+        10000..100000 => 5,
+        _ => 10,
     }
-    if highest < 100 {
-        return 2;
-    }
-    if highest < 1000 {
-        return 3;
-    }
-    if highest < 10000 {
-        return 4;
-    }
-    if highest < 100000 {
-        return 5;
-    }
-    10
 }
 
 // The record has a value of one byte in its third word, and nothing in its fourth.
@@ -70,17 +62,11 @@ fn is_one_byte(next: u64) -> bool
 fn is_short_value(head: u64, next: u64) -> bool
     ensures { result ≡ true → (head % 4294967296 ≡ 2) × ((next / 4294967296 ≡ 0) × HoldsShort (head / 4294967296) (next % 4294967296)) }
 {
-    if head % 0x1_0000_0000 != 2 {
+    if head % 0x1_0000_0000 != RecordKind::Value as u64 {
         return false;
     }
     let len = head / 0x1_0000_0000;
-    if len < 1 {
-        return false;
-    }
-    if 4 < len {
-        return false;
-    }
-    if 0x1_0000_0000 <= next {
+    if !matches!(len, 1..=4) || 0x1_0000_0000 <= next {
         return false;
     }
     holds_visible_part(len as u32, next as u32)
@@ -108,7 +94,7 @@ fn definitions_run(count: usize, words: &[u32], first: usize) -> Option<Run>
             if !is_one_byte(next) {
                 break;
             }
-        } else if head % 0x1_0000_0000 == 1 {
+        } else if head % 0x1_0000_0000 == RecordKind::Def as u64 {
             if 34 <= next {
                 break;
             }
@@ -153,7 +139,7 @@ fn fields_run(count: usize, words: &[u32], first: usize) -> Option<Run>
     let mut at = first;
     while lines < count {
         let head = pair_at(words, at);
-        if head % 0x1_0000_0000 != 7 {
+        if head % 0x1_0000_0000 != RecordKind::Field as u64 {
             break;
         }
         names = names | head;

@@ -8,7 +8,7 @@ use borrow.Author.Tests.{not-false}
 use Rattle.dictionary.specs.LineRunsLaws.{run_none, DefinitionsSoFar, definitions-begin, one-byte_goes_on, short-value_goes_on, def_goes_on, definitions-end, definitions-few}
 use borrow.Author.Rules.{rules}
 use Rattle.dictionary.proofs.line_runs.definitions_run.Goals as goal
-use Rattle.dictionary.proofs.line_runs.definitions_run.Goals.{then-head-eq-ONE_BYTE+else-not-is_one_byte, else-head-eq-ONE_BYTE+then-head-eq1+else-next-ge34, else-head-eq-ONE_BYTE+else-head-eq1+else-not-is_short_value}
+use Rattle.dictionary.proofs.line_runs.definitions_run.Goals.{then-head-eq-ONE_BYTE+else-not-is_one_byte, else-head-eq-ONE_BYTE+then-head+else-next-ge34, else-head-eq-ONE_BYTE+else-head+else-not-is_short_value}
 
 -- while lines < count {
 pub loop-lines-init : goal.loop-lines-init
@@ -37,8 +37,8 @@ pub overflow_add-tags : goal.overflow_add-tags
 overflow_add-tags c = omega (arith, c.loop-lines.invariant.few_tags_lem, c.loop-lines.invariant.within, c.requires)
 
 -- bytes += 3;
-pub overflow_add-bytes-else-head-eq1 : goal.overflow_add-bytes-else-head-eq1
-overflow_add-bytes-else-head-eq1 c = omega (arith, c.loop-lines.invariant.few_bytes, c.loop-lines.invariant.within, c.requires)
+pub overflow_add-bytes-else-head : goal.overflow_add-bytes-else-head
+overflow_add-bytes-else-head c = omega (arith, c.loop-lines.invariant.few_bytes, c.loop-lines.invariant.within, c.requires)
 
 -- pair4 = pair4 | pair_at(words, at + 4);
 pub overflow_add-at-in-loop-lines : goal.overflow_add-at-in-loop-lines
@@ -77,8 +77,8 @@ pub loop-lines-preserved : goal.loop-lines-preserved
 loop-lines-preserved c =
     elim c.if-head-eq-ONE_BYTE.branch [
       | then-head-eq-ONE_BYTE+else-not-is_one_byte w ↦ one-byte_goes_on _ _ _ _ _ _ _ _ _ _ _ c.loop-lines.invariant c.loop-lines-test.true omega (arith, c.loop-lines.invariant.place, c.requires) _ _ _ c.pair_at-pair4.ensures.pair c.pair_at-pair6.ensures.pair c.pair_at-pair8.ensures.pair _ _ c.pair_at-head.ensures.halves c.pair_at-next.ensures.halves _ _ _ w.if-head-eq-ONE_BYTE.true (w.is_one_byte.ensures w.if-not-is_one_byte.false) w.bytes-is w.tags-is w.names-is
-      | else-head-eq-ONE_BYTE+then-head-eq1+else-next-ge34 w ↦ def_goes_on _ _ _ _ _ _ _ _ _ _ _ c.loop-lines.invariant c.loop-lines-test.true omega (arith, c.loop-lines.invariant.place, c.requires) _ _ _ c.pair_at-pair4.ensures.pair c.pair_at-pair6.ensures.pair c.pair_at-pair8.ensures.pair _ _ c.pair_at-head.ensures.halves c.pair_at-next.ensures.halves _ _ _ w.if-head-eq1.true w.if-next-ge34.false _ w.type_length-bytes.ensures.length w.type_length-bytes.ensures.few w.bytes-is w.tags-is w.names-is
-      | else-head-eq-ONE_BYTE+else-head-eq1+else-not-is_short_value w ↦ short-value_goes_on _ _ _ _ _ _ _ _ _ _ _ c.loop-lines.invariant c.loop-lines-test.true omega (arith, c.loop-lines.invariant.place, c.requires) _ _ _ c.pair_at-pair4.ensures.pair c.pair_at-pair6.ensures.pair c.pair_at-pair8.ensures.pair _ _ c.pair_at-head.ensures.halves c.pair_at-next.ensures.halves _ _ _ (w.is_short_value.ensures w.if-not-is_short_value.false) w.bytes-is w.tags-is w.names-is
+      | else-head-eq-ONE_BYTE+then-head+else-next-ge34 w ↦ def_goes_on _ _ _ _ _ _ _ _ _ _ _ c.loop-lines.invariant c.loop-lines-test.true omega (arith, c.loop-lines.invariant.place, c.requires) _ _ _ c.pair_at-pair4.ensures.pair c.pair_at-pair6.ensures.pair c.pair_at-pair8.ensures.pair _ _ c.pair_at-head.ensures.halves c.pair_at-next.ensures.halves _ _ _ w.if-head.true w.if-next-ge34.false _ w.type_length-bytes.ensures.length w.type_length-bytes.ensures.few w.bytes-is w.tags-is w.names-is
+      | else-head-eq-ONE_BYTE+else-head+else-not-is_short_value w ↦ short-value_goes_on _ _ _ _ _ _ _ _ _ _ _ c.loop-lines.invariant c.loop-lines-test.true omega (arith, c.loop-lines.invariant.place, c.requires) _ _ _ c.pair_at-pair4.ensures.pair c.pair_at-pair6.ensures.pair c.pair_at-pair8.ensures.pair _ _ c.pair_at-head.ensures.halves c.pair_at-next.ensures.halves _ _ _ (w.is_short_value.ensures w.if-not-is_short_value.false) w.bytes-is w.tags-is w.names-is
     ]
 
 -- bytes: bytes + 8 * (lines - tags) + tags * (6 + digits),

@@ -56,7 +56,7 @@ pub loop-lines-smaller : goal.loop-lines-smaller
 loop-lines-smaller c = omega (arith, c.loop-lines-test.true)
 
 pub loop-lines-preserved : goal.loop-lines-preserved
-loop-lines-preserved c = field_goes_on _ _ _ _ _ _ _ _ _ _ c.loop-lines.invariant c.loop-lines-test.true omega (arith, c.loop-lines.invariant.place, c.requires) _ _ _ c.pair_at-pair4.ensures.pair c.pair_at-pair6.ensures.pair c.pair_at-pair8.ensures.pair _ _ c.pair_at-head.ensures.halves c.pair_at-flags.ensures.halves c.if-head-ne7.false
+loop-lines-preserved c = field_goes_on _ _ _ _ _ _ _ _ _ _ c.loop-lines.invariant c.loop-lines-test.true omega (arith, c.loop-lines.invariant.place, c.requires) _ _ _ c.pair_at-pair4.ensures.pair c.pair_at-pair6.ensures.pair c.pair_at-pair8.ensures.pair _ _ c.pair_at-head.ensures.halves c.pair_at-flags.ensures.halves c.if-head.false
 
 -- bytes: lines * (9 + digits),
 pub overflow_add-result : goal.overflow_add-result
