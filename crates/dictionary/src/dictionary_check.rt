@@ -85,6 +85,7 @@ fn read_lines(words: &[u32], lines: usize) -> Option<LinesRead>
 }
 
 // The record with this number is of this kind and has this name.
+#[tactic(auto, unfolding(crate::specs::DictionaryCheck::stands_at))]
 pub fn stands_at(words: &[u32], kind: u32, name: u32, number: u32) -> bool
     requires { (4 ≤ length words.now) × (4 + 10 * get_or words.now 0 0 ≤ length words.now) }
     ensures { result ≡ stands_at kind name number words.now }
@@ -93,10 +94,7 @@ pub fn stands_at(words: &[u32], kind: u32, name: u32, number: u32) -> bool
         return false;
     }
     let at = 4 + 10 * (number as usize);
-    if words[at] != kind {
-        return false;
-    }
-    words[at + 1] == name
+    words[at] == kind && words[at + 1] == name
 }
 
 // The index at this place has the names of all records of this kind in ascending order, each once, and where they stand.

@@ -51,11 +51,7 @@ fn digits_within(names: u64) -> usize
 fn is_one_byte(next: u64) -> bool
     ensures { result ≡ true → (next / 4294967296 ≡ 0) × HoldsShort 1 (next % 4294967296) }
 {
-    if next % 0x100_0000 != 0 {
-        return false;
-    }
-    let byte = next / 0x100_0000;
-    0x21 <= byte && byte <= 0x7E
+    next % 0x100_0000 == 0 && matches!(next / 0x100_0000, 0x21..=0x7E)
 }
 
 // The record has a value of at most four bytes in its third word, and nothing in its fourth.
