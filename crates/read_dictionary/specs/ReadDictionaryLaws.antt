@@ -1,7 +1,7 @@
 -- Laws of `ReadDictionary.antt`: the counts of an accepted text are those of its lines; the loop of `put_records`, turn by turn; the parts of a dictionary,
 -- written one behind the other; and what the call answers. `written-passes`: what `read_dictionary` wrote passes the check of lent words. `written-size`: it
 -- wrote at most 131,068 words. Assumes nothing.
-use Rattle.std.specs.Prelude.{◌≡◌, refl, ℕ, ◌+◌, ◌*◌, ◌-◌, ◌≤◌, ◌<◌, Bool, true, false, cond, leb, take, drop, Result, Ok, Err, Option, Some, None}
+use Rattle.std.specs.Prelude.{◌≡◌, refl, ℕ, ◌+◌, ◌*◌, ◌≤◌, ◌<◌, Bool, true, false, cond, leb, drop, Result, Ok, Err, Option, Some, None}
 use Rattle.std.proofs.Math.Path.{sym}
 use Rattle.std.proofs.Common.{ap, ◌∙◌, take_at, le-leb}
 use mathlib.Core.List.{List, [], ◌∷◌, ◌++◌, append_assoc}
@@ -20,8 +20,8 @@ use Rattle.dictionary_order.specs.declared.dictionary_order.State.{State}
 use Rattle.texts.specs.declared.dictionary_text.Counts.{Counts}
 use Rattle.texts.specs.declared.dictionary_text.Defined.{Defined}
 use Rattle.texts.specs.declared.dictionary_text.Defined.TheVariants.{Tag, ComponentName, MessageName}
-use Rattle.lines.specs.Lines.{Pieces, last, piece, position_of, lines_of, line_feed}
-use Rattle.lines.specs.LinesLaws.{found_within, cut-at_piece, cut-at_last, cut-nothing}
+use Rattle.lines.specs.Lines.{Pieces, last, piece, cut, lines_of}
+use Rattle.lines.specs.TextLines.{IsFirstLine, IsUnended}
 use Rattle.line_forms.specs.LineForms.{line_of}
 use Rattle.dictionary_order.specs.DictionaryOrder.{start, step_of, after, may_end}
 use Rattle.texts.specs.DictionaryText.{counts, counted, defined_by, order_from, order_of, dictionary_text_of}
@@ -110,54 +110,44 @@ module _ (bytes : List ℕ) (read : Counts) (accepted : dictionary_text_of bytes
 
 -- ---- the loop of `put_records`
 
--- the records of the lines before `first` stand before `at`
-pub record RecordsSoFar (bytes before : List ℕ) (first : ℕ) (words : List ℕ) (at : ℕ) : Type 0 where
-  pub within : first ≤ length bytes
+-- the records of the lines before those that are left stand before `at`
+pub record RecordsSoFar (bytes before left : List ℕ) (words : List ℕ) (at : ℕ) : Type 0 where
   pub size : length words ≡ length before
-  pub room : at + length (records_of (lines_in (lines_of (drop first bytes)))) ≤ length before
-  pub rest : sets before 4 (records_of (text_lines bytes)) ≡ sets words at (records_of (lines_in (lines_of (drop first bytes))))
+  pub room : at + length (records_of (lines_in (lines_of left))) ≤ length before
+  pub rest : sets before 4 (records_of (text_lines bytes)) ≡ sets words at (records_of (lines_in (lines_of left)))
 
-pub records-begin : (bytes before : List ℕ) → 4 + 10 * length (text_lines bytes) ≤ length before → RecordsSoFar bytes before 0 before 4
-records-begin bytes before fits = record {
-  within = omega arith;
-  size = refl;
-  room = omega (arith, records_of-length (text_lines bytes));
-  rest = refl;
-}
+pub records-begin : (bytes before : List ℕ) → 4 + 10 * length (text_lines bytes) ≤ length before → RecordsSoFar bytes before bytes before 4
+records-begin bytes before fits = record { size = refl; room = omega (arith, records_of-length (text_lines bytes)); rest = refl }
 
-module _ (bytes before : List ℕ) (first : ℕ) (words : List ℕ) (at : ℕ) (so_far : RecordsSoFar bytes before first words at) where
-  pub records-end : length bytes ≤ first → words ≡ sets before 4 (records_of (text_lines bytes))
+module _ (bytes before left : List ℕ) (words : List ℕ) (at : ℕ) (so_far : RecordsSoFar bytes before left words at) where
+  pub records-end : left ≡ [] → words ≡ sets before 4 (records_of (text_lines bytes))
+  unfolding lines_in records_of cut
+  records-end none = sym (so_far.rest ∙ rw none refl)
+
+  pub records-break : IsUnended left → words ≡ sets before 4 (records_of (text_lines bytes))
   unfolding lines_in records_of
-  records-end over = sym (so_far.rest ∙ rw (cut-nothing line_feed bytes first over))
+  records-break unended = sym (so_far.rest ∙ rw unended.uncut refl)
 
-  module _ (past : ℕ) (found : past ≡ first + position_of line_feed (drop first bytes)) where
-    pub records-break : past ≡ length bytes → words ≡ sets before 4 (records_of (text_lines bytes))
+  module _ (own left' : List ℕ) (first : IsFirstLine left own left') (line : Line) (reads : line ≡ line_of own) where
+    records-here : records_of (lines_in (lines_of left)) ≡ record_of line ++ records_of (lines_in (lines_of left'))
     unfolding lines_in records_of
-    records-break at-end = sym (so_far.rest ∙ rw (cut-at_last line_feed bytes first past so_far.within found at-end))
+    records-here = rw (first.cut_off, ← reads)
 
-    module _ (before-end : past ≡ length bytes → ⊥) (line : Line) (reads : line ≡ line_of (take (past - first) (drop first bytes))) where
-      records-here : records_of (lines_in (lines_of (drop first bytes))) ≡ record_of line ++ records_of (lines_in (lines_of (drop (past + 1) bytes)))
-      unfolding lines_in records_of
-      records-here = rw (cut-at_piece line_feed bytes first past so_far.within found before-end, ← reads)
+    records-more : length (records_of (lines_in (lines_of left))) ≡ 10 + length (records_of (lines_in (lines_of left')))
+    records-more = omega (arith, ap length records-here ∙ length-append (record_of line) (records_of (lines_in (lines_of left'))), record_of-length line)
 
-      records-more : length (records_of (lines_in (lines_of (drop first bytes)))) ≡ 10 + length (records_of (lines_in (lines_of (drop (past + 1) bytes))))
-      records-more =
-          omega (arith, ap length records-here ∙ length-append (record_of line) (records_of (lines_in (lines_of (drop (past + 1) bytes)))), record_of-length line)
+    pub records-room : at + 10 ≤ length words
+    records-room = omega (arith, records-more, so_far.room, so_far.size)
 
-      pub records-room : at + 10 ≤ length words
-      records-room = omega (arith, records-more, so_far.room, so_far.size)
-
-      pub records-turn : (next : List ℕ) → next ≡ sets words at (record_of line) → RecordsSoFar bytes before (past + 1) next (at + 10)
-      records-turn next puts =
-          let bounds = found_within line_feed bytes first past so_far.within found in
-          let behind = records_of (lines_in (lines_of (drop (past + 1) bytes))) in
-          let ten : at + 10 ≡ at + length (record_of line) = omega (arith, record_of-length line) in
-          record {
-            within = omega (arith, bounds, before-end);
-            size = ap length puts ∙ length-sets words at (record_of line) ∙ so_far.size;
-            room = omega (arith, records-more, so_far.room);
-            rest = so_far.rest ∙ rw (records-here, puts, ten) (sym (sets_append words (record_of line) behind at));
-          }
+    pub records-turn : (next : List ℕ) → next ≡ sets words at (record_of line) → RecordsSoFar bytes before left' next (at + 10)
+    records-turn next puts =
+        let behind = records_of (lines_in (lines_of left')) in
+        let ten : at + 10 ≡ at + length (record_of line) = omega (arith, record_of-length line) in
+        record {
+          size = ap length puts ∙ length-sets words at (record_of line) ∙ so_far.size;
+          room = omega (arith, records-more, so_far.room);
+          rest = so_far.rest ∙ rw (records-here, puts, ten) (sym (sets_append words (record_of line) behind at));
+        }
 
 -- ---- the parts of a dictionary, one behind the other
 

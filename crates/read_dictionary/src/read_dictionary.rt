@@ -7,7 +7,7 @@ ghost use Rattle.read_dictionary.specs.ReadDictionary.{text_lines, needed_for, s
 
 use crate::text_check::check_text;
 use line_forms::line::line_of;
-use lines::lines::position_of;
+use lines::text_lines::TextLines;
 use put_dictionary::index_words::put_index;
 use put_dictionary::record_words::put_record;
 use refusals::refusal::Refusal;
@@ -34,17 +34,13 @@ fn put_records(text: &[u8], words: &mut [u32])
     requires { 4 + 10 * length (text_lines text.now) ≤ length words.old }
     ensures { words.new ≡ sets words.old 4 (records_of (text_lines text.now)) }
 {
-    let mut first = 0;
     let mut at: usize = 4;
-    while first < text.len() {
-        let past = position_of(text, first, 10);
-        if past == text.len() {
+    for line in TextLines::new(text) {
+        let Some(line) = line else {
             return;
-        }
-        let line = line_of(&text[first..past]);
-        put_record(words, at, line);
+        };
+        put_record(words, at, line_of(line));
         at += 10;
-        first = past + 1;
     }
 }
 
