@@ -147,46 +147,6 @@ module _ (kind at count name : ℕ) (words : List ℕ) (fits : at + 2 * count �
 pub below-number : (lines number : ℕ) (found : Option ℕ) → found ≡ Some number → Below lines found → number < lines
 below-number lines number found there below = rw there at below
 
--- ---- is_among: the loop of `is_among`
-
-pub record AmongSoFar (value : Admitted) (records first : ℕ) (words : List ℕ) (left at : ℕ) : Type 0 where
-  pub fits : at + 10 * left ≤ length words
-  pub rest : is_among value records first words ≡ is_among value left at words
-
-pub among-begins : (value : Admitted) (records first : ℕ) (words : List ℕ) → first + 10 * records ≤ length words → AmongSoFar value records first words records first
-among-begins value records first words fits = record { fits = fits; rest = refl }
-
-module _ (value : Admitted) (records first : ℕ) (words : List ℕ) (left at : ℕ) (so_far : AmongSoFar value records first words left at) where
-  pub among-ends : left ≤ 0 → is_among value records first words ≡ false
-  unfolding is_among
-  among-ends over = let none : left ≡ 0 = omega arith in so_far.rest ∙ rw none
-
-  module _ (inside : 0 < left) where
-    pub among-stops : (get_or words at 0 ≡ 2 → ⊥) → is_among value records first words ≡ false
-    unfolding is_among
-    among-stops other = let more : left ≡ suc (left - 1) = omega arith in so_far.rest ∙ rw (more, ne_eqb (get_or words at 0) 2 other)
-
-    module _ (kind : get_or words at 0 ≡ 2) where
-      ten : at + 10 - at ≡ 10
-      ten = omega arith
-
-      pub among-found : is_same_value (admitted_from (take (at + 10 - at) (drop at words))) value ≡ true → is_among value records first words ≡ true
-      unfolding is_among
-      among-found same =
-          let more : left ≡ suc (left - 1) = omega arith in
-          let here : is_same_value (admitted_from (take 10 (drop at words))) value ≡ true = rw ten at same in
-          so_far.rest ∙ rw (more, eq-eqb (get_or words at 0) 2 kind, here)
-
-      pub among-goes_on : is_same_value (admitted_from (take (at + 10 - at) (drop at words))) value ≡ false → AmongSoFar value records first words (left - 1) (at + 10)
-      unfolding is_among
-      among-goes_on other =
-          let more : left ≡ suc (left - 1) = omega arith in
-          let here : is_same_value (admitted_from (take 10 (drop at words))) value ≡ false = rw ten at other in
-          record {
-            fits = omega (arith, so_far.fits);
-            rest = so_far.rest ∙ ap (λ (count : ℕ). is_among value count at words) more ∙ rw (eq-eqb (get_or words at 0) 2 kind, here);
-          }
-
 -- ---- admits_value
 
 choose_true : (none some other : Bool) → (if none then false else some) ≡ false → (if none then true else if some then other else true) ≡ true

@@ -12,3 +12,4 @@ pub mod WordLinesLaws
 pub mod DefinedFieldsLaws
 pub mod DefinedTags
 pub mod DefinedTagsLaws
+pub mod AdmittedRecords

@@ -3,11 +3,14 @@ ghost use Rattle.std.specs.Prelude.{◌≡◌, true, ◌+◌, ◌*◌, ◌≤◌
 ghost use Rattle.dictionary.specs.DictionaryCheck.{is_index, messages_at};
 ghost use Rattle.definitions.specs.Definitions.{record_in, definition_of, component_of, message_of, is_same_value, is_among, is_enumerated, admits_value};
 ghost use Rattle.definitions.specs.DefinitionsLaws.{Below};
+ghost use Rattle.definitions.specs.AdmittedRecords.{is_value, is_among_records, records_behind};
 ghost use Rattle.records.specs.Records.{admitted_from};
 
 use ascending::search::binary_search;
 use dictionary::dictionary::Dictionary;
 use lines::line_parts::{Admitted, parse_message_type, parse_value};
+use records::record_kind::RecordKind;
+use records::records::RECORD;
 
 // The definition of a tag: the place of its TYPE among the names of FieldType, and the number of its
 // record; its admitted values are the records after it.
@@ -80,90 +83,70 @@ pub fn message_of(dictionary: Dictionary<'_>, value: &[u8]) -> Option<usize>
     message_named(dictionary, letters)
 }
 
-// The value is that of the record. Most records differ from it in their first words, and no other is read.
-fn is_same_value(words: &[u32], value: Admitted) -> bool
-    requires { length words.now ≡ 10 }
-    ensures { result ≡ is_same_value (admitted_from words.now) value }
+// The record is that of a `value=V` line.
+fn is_value(words: &[u32; RECORD]) -> bool
+    ensures { result ≡ is_value words.now }
 {
-    if words[1] != value.len {
-        return false;
-    }
-    if words[2] != value.word0 {
-        return false;
-    }
-    if words[3] != value.word1 {
-        return false;
-    }
-    if words[4] != value.word2 {
-        return false;
-    }
-    if words[5] != value.word3 {
-        return false;
-    }
-    if words[6] != value.word4 {
-        return false;
-    }
-    if words[7] != value.word5 {
-        return false;
-    }
-    if words[8] != value.word6 {
-        return false;
-    }
-    words[9] == value.word7
+    words[0] == u32::from(RecordKind::Value)
 }
 
-// The value is among those that the records from this place on admit.
-fn is_among(words: &[u32], first: usize, records: usize, value: Admitted) -> bool
-    requires { first + 10 * records ≤ length words.now }
-    ensures { result ≡ is_among value records first words.now }
+// The value is that of the record.
+fn is_same_value(words: &[u32; RECORD], value: Admitted) -> bool
+    ensures { result ≡ is_same_value (admitted_from words.now) value }
 {
-    let mut left = records;
-    let mut at = first;
-    while 0 < left {
-        if words[at] != 2 {
-            return false;
-        }
-        let past = at + 10;
-        if is_same_value(&words[at..past], value) {
-            return true;
-        }
-        left -= 1;
-        at += 10;
+    let value_words = [
+        value.len,
+        value.word0,
+        value.word1,
+        value.word2,
+        value.word3,
+        value.word4,
+        value.word5,
+        value.word6,
+        value.word7,
+    ];
+    words[1..] == value_words[..]
+}
+
+// The value is among those that the first records admit.
+fn is_among(records: &[[u32; RECORD]], value: Admitted) -> bool
+    ensures { result ≡ is_among_records value records.now }
+{
+    records
+        .iter()
+        .take_while(|record| is_value(record))
+        .any(|record| is_same_value(record, value))
+}
+
+// The records after the definition with this number; none where there is no such definition.
+fn records_behind<'a>(dictionary: Dictionary<'a>, number: usize) -> &'a [[u32; RECORD]]
+    ensures { result.now ≡ records_behind dictionary.entry.words.now number }
+{
+    match dictionary.records().get(number..) {
+        Some([_, behind @ ..]) => behind,
+        _ => &[],
     }
-    false
 }
 
 // The definition with this record has admitted values: a `value=V` line stands behind it.
 pub fn is_enumerated(dictionary: Dictionary<'_>, number: usize) -> bool
-    requires { number < get_or dictionary.words.now 0 0 }
     ensures { result ≡ is_enumerated dictionary.entry.words.now number }
 {
-    let words = dictionary.words;
-    let lines = words[0] as usize;
-    if lines - number - 1 == 0 {
-        return false;
+    match records_behind(dictionary, number) {
+        [first, ..] => is_value(first),
+        [] => false,
     }
-    let at = 4 + 10 * number + 10;
-    words[at] == 2
 }
 
 // The definition with this record admits the value: it has no admitted values, or the value is one of them.
 pub fn admits(dictionary: Dictionary<'_>, number: usize, value: &[u8]) -> bool
-    requires { number < get_or dictionary.words.now 0 0 }
     ensures { result ≡ admits_value dictionary.entry.words.now number value.now }
 {
-    let words = dictionary.words;
-    let lines = words[0] as usize;
-    let left = lines - number - 1;
-    let at = 4 + 10 * number + 10;
-    if left == 0 {
-        return true;
-    }
-    if words[at] != 2 {
+    if !is_enumerated(dictionary, number) {
         return true;
     }
     match parse_value(value) {
-        Some(admitted) => is_among(words, at, left, admitted),
+        Some(admitted) => is_among(records_behind(dictionary, number), admitted),
         None => false,
     }
 }

@@ -9,3 +9,4 @@ pub mod LineRuns
 pub mod LineRunsLaws
 pub mod DictionaryCheckLaws
 pub mod DictionaryFacts
+pub mod DictionaryRecords

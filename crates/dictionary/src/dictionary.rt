@@ -1,10 +1,12 @@
 // The words of a dictionary: lent words that passed their check, so that a function which is given
 // them asks nothing more of them.
-ghost use Rattle.std.specs.Prelude.{◌≡◌, ◌≤◌, true, length};
+ghost use Rattle.std.specs.Prelude.{◌≡◌, ◌≤◌, true, ◌+◌, ◌*◌, length, get_or};
 ghost use Rattle.dictionary.specs.DictionaryCheck.{size_of, is_dictionary};
+ghost use Rattle.dictionary.specs.DictionaryRecords.{records_in};
 ghost use Rattle.records.specs.Records.{Words32};
 
 use crate::dictionary_check::is_dictionary;
+use records::records::RECORD;
 
 #[derive(Clone, Copy)]
 pub struct Dictionary<'a> {
@@ -30,5 +32,14 @@ impl<'a> Dictionary<'a> {
         } else {
             None
         }
+    }
+
+    // The records of its lines, in the text's order.
+    pub fn records(self) -> &'a [[u32; RECORD]]
+        ensures records { result.now ≡ records_in self.entry.words.now }
+        ensures count { length result.now ≡ get_or self.entry.words.now 0 0 }
+    {
+        let past = 4 + RECORD * (self.words[0] as usize);
+        self.words[4..past].as_chunks::<RECORD>().0
     }
 }

@@ -1,8 +1,8 @@
 -- Laws of `FieldRecords.antt`, in its order, and the loop of `write_records`. Assumes nothing.
-use Rattle.std.specs.Prelude.{◌≡◌, Bool, true, List, ◌++◌, length, get_or, drop, set, Option, Some, None}
+use Rattle.std.specs.Prelude.{◌≡◌, Bool, true, false, List, ◌++◌, length, get_or, take, drop, set, nat_lt, Option, Some, None}
 use Rattle.std.proofs.Math.Path.{refl, sym, ap}
-use Rattle.std.proofs.Common.{◌∙◌, lt-ltb, le-ltb}
-use Prim.Native.Nat.{ℕ, zero, suc, ◌+◌, ◌-◌, ◌≤◌, ◌<◌}
+use Rattle.std.proofs.Common.{◌∙◌, lt-ltb, le-ltb, ltb-true, get_or-take, get_or-drop}
+use Prim.Native.Nat.{ℕ, zero, suc, ◌+◌, ◌*◌, ◌-◌, ◌≤◌, ◌<◌}
 use native.Mathlib.Omega.{arith}
 use Rattle.std.proofs.Math.Numerals.{add-one}
 use Rattle.std.proofs.Math.ListN.{length-set}
@@ -12,12 +12,14 @@ use Rattle.field_types.specs.FieldType.{type_numbered}
 use Rattle.records.specs.Records.{Words32}
 use Rattle.dictionary.specs.DictionaryWords.{word_lines}
 use Rattle.dictionary.specs.DictionaryCheck.{is_dictionary}
+use Rattle.dictionary.specs.DictionaryRecords.{records_in, record_numbered}
 use Rattle.definitions.specs.Definitions.{definition_of, admits_value}
 use Rattle.definitions.specs.DefinedFields.{field_in, is_admitted_by}
 use Rattle.definitions.specs.DefinedFieldsLaws.{field_at, definition-found, definition-missing, admits_value-lines}
-use Rattle.verdict.specs.Verdict.{defined_verdict, check_value}
+use Rattle.verdict.specs.Verdict.{defined_verdict, typed_verdict, check_value}
 use Rattle.verdict.specs.VerdictLaws.{typed_verdict-alike}
 use Rattle.verdict.specs.DefinitionFacts.{definition-known, definition-type}
+use Rattle.verdict.specs.declared.verdict.Verdict.TheVariants as Answers
 use Rattle.verdict.specs.FieldRecords.{recorded_verdict, record_with, record_of, words_from, filled_in, Holds}
 
 -- ---- recorded_verdict
@@ -107,3 +109,19 @@ module _ (word : ℕ → ℕ) (count : ℕ) (space : List ℕ) where
         let last : sets space 0 (words_from word count 0) ≡ now = so_far.left ∙ rw none_left in
         let none_before : 0 + count ≡ count = omega arith in
         sym last ∙ sets-eq (words_from word count 0) space 0 (omega (arith, words_from-length word count 0)) ∙ rw (words_from-length word count 0, none_before)
+
+-- ---- `recorded_verdict`, where the record is one of the dictionary's records
+
+module _ (dictionary : List ℕ) (strict : Bool) (value : List ℕ) (number : ℕ) (records : List (List ℕ))
+    (are : records ≡ records_in dictionary) (count : length records ≡ get_or dictionary 0 0) where
+  pub recorded-past : false ≡ nat_lt number (length records) → Answers.Undefined ≡ recorded_verdict dictionary strict value number
+  unfolding recorded_verdict
+  recorded-past over = rw (ap (nat_lt number) (sym count) ∙ sym over)
+
+  pub recorded-typed : (one other : List ℕ) → true ≡ nat_lt number (length records) → one ≡ get_or records number other
+      → recorded_verdict dictionary strict value number ≡ typed_verdict (admits_value dictionary number) strict value (type_numbered (get_or one 2 0))
+  unfolding recorded_verdict
+  recorded-typed one other there is =
+      let test : nat_lt number (get_or dictionary 0 0) ≡ true = ap (nat_lt number) (sym count) ∙ sym there in
+      let here : one ≡ take 10 (drop (4 + 10 * number) dictionary) = is ∙ ap (λ (some : List (List ℕ)). get_or some number other) are ∙ record_numbered dictionary number other (ltb-true number (get_or dictionary 0 0) test) in
+      rw (test, here, get_or-take 10 (drop (4 + 10 * number) dictionary) 2 0 (omega arith), get_or-drop (4 + 10 * number) dictionary 2 0)

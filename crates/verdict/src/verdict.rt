@@ -1,10 +1,10 @@
 // The verdict on a value. Ported from validator.rs, `check_value`; strict mode is document 01's.
-ghost use Rattle.std.specs.Prelude.{◌≡◌, ◌<◌, get_or};
+ghost use Rattle.std.specs.Prelude.{◌≡◌};
 ghost use Rattle.definitions.specs.Definitions.{admits_value};
 ghost use Rattle.verdict.specs.Verdict.{verdict_word, has_format, admits_each, is_admitted};
 ghost use Rattle.verdict.specs.FieldRecords.{record_of, recorded_verdict};
 
-use definitions::definitions::{admits, definition_of, is_enumerated};
+use definitions::definitions::{admits, definition_of};
 use dictionary::dictionary::Dictionary;
 use field_types::field_type::FieldType;
 use formats::field_value::{is_in_ranges, is_of_format};
@@ -42,7 +42,6 @@ fn has_format(field_type: FieldType, value: &[u8], strict: bool) -> bool
 
 // Returns true if the definition with this record admits every token of a space-separated list.
 fn admits_each(dictionary: Dictionary<'_>, number: usize, value: &[u8]) -> bool
-    requires { number < get_or dictionary.words.now 0 0 }
     ensures { result ≡ admits_each (admits_value dictionary.entry.words.now number) value.now }
 {
     value
@@ -57,13 +56,12 @@ fn is_admitted(
     field_type: FieldType,
     value: &[u8],
 ) -> bool
-    requires { number < get_or dictionary.words.now 0 0 }
     ensures { result ≡ is_admitted (admits_value dictionary.entry.words.now number) field_type value.now }
 {
     if field_type.is_multi_value() {
         admits_each(dictionary, number, value)
     } else {
-        !is_enumerated(dictionary, number) || admits(dictionary, number, value)
+        admits(dictionary, number, value)
     }
 }
 
@@ -73,7 +71,7 @@ pub fn record_of(dictionary: Dictionary<'_>, tag: u32) -> usize
 {
     match definition_of(dictionary, tag) {
         Some(definition) => definition.number,
-        None => dictionary.words[0] as usize,
+        None => dictionary.records().len(),
     }
 }
 
@@ -81,12 +79,10 @@ pub fn record_of(dictionary: Dictionary<'_>, tag: u32) -> usize
 pub fn check_value(dictionary: Dictionary<'_>, number: usize, value: &[u8], strict: bool) -> Verdict
     ensures { result ≡ recorded_verdict dictionary.entry.words.now strict value.now number }
 {
-    let lines = dictionary.words[0] as usize;
-    if lines <= number {
+    let Some(record) = dictionary.records().get(number) else {
         return Verdict::Undefined;
-    }
-    let place = 4 + 10 * number + 2;
-    let Ok(field_type) = FieldType::try_from(dictionary.words[place] as usize) else {
+    };
+    let Ok(field_type) = FieldType::try_from(record[2] as usize) else {
         return Verdict::Undefined;
     };
     if !has_format(field_type, value, strict) {

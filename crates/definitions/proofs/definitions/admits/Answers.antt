@@ -1,27 +1,20 @@
--- `definitions::definitions::admits` meets its contract: its tests are those of `admits_value`.
-use mathlib.Core.Path.{sym, ◌∙◌}
-use native.Mathlib.Omega.{arith}
-use borrow.Author.Tests.{eq-eqb, ne_eqb}
-use Rattle.definitions.specs.Definitions.{admits_value}
-use Rattle.definitions.specs.DefinitionsLaws.{}
-use borrow.Author.Rules.{rules}
+-- `definitions::definitions::admits` meets its contract: a definition without admitted values admits every value (specs/AdmittedRecords.antt).
+use Rattle.std.proofs.Common.{ap, sym, ◌∙◌}
+use Rattle.definitions.specs.DefinitionsLaws.{admits_value-any}
+use Rattle.definitions.specs.AdmittedRecords.{is_among_records, admits_value-listed}
 use Rattle.definitions.proofs.definitions.admits.Goals as goal
 
 -- return true;
-pub returns-then-left-eq0 : goal.returns-then-left-eq0
-unfolding admits_value
-returns-then-left-eq0 c = rw (eq-eqb _ 0 c.if-left-eq0.true)
+pub returns-then-not-is_enumerated : goal.returns-then-not-is_enumerated
+returns-then-not-is_enumerated c = sym (admits_value-any _ _ c.args.value.now (sym c.is_enumerated.ensures ∙ c.if-not-is_enumerated.true))
 
--- return true;
-pub returns-then-words-at-ne2 : goal.returns-then-words-at-ne2
-unfolding admits_value
-returns-then-words-at-ne2 c = rw (ne_eqb _ 0 c.if-left-eq0.false, ne_eqb _ 2 c.if-words-at-ne2.true)
-
--- pub fn admits(words: &[u32], number: usize, value: &[u8]) -> bool
+-- Some(admitted) => is_among(records_behind(dictionary, number), admitted),
 pub returns-in-Some : goal.returns-in-Some
-unfolding admits_value
-returns-in-Some c = rw (ne_eqb _ 0 c.if-left-eq0.false, eq-eqb _ 2 c.if-words-at-ne2.false, sym c.parse_value.ensures ∙ c.in-Some.is) c.is_among.ensures
+returns-in-Some c =
+    rw (admits_value-listed _ _ c.args.value.now (sym c.is_enumerated.ensures ∙ c.if-not-is_enumerated.false), sym c.parse_value.ensures ∙ c.in-Some.is)
+    (c.is_among.ensures ∙ ap (is_among_records c.in-Some.admitted) c.records_behind.ensures)
 
+-- None => false,
 pub returns-in-None : goal.returns-in-None
-unfolding admits_value
-returns-in-None c = rw (ne_eqb _ 0 c.if-left-eq0.false, eq-eqb _ 2 c.if-words-at-ne2.false, sym c.parse_value.ensures ∙ c.in-None.is)
+returns-in-None c =
+    rw (admits_value-listed _ _ c.args.value.now (sym c.is_enumerated.ensures ∙ c.if-not-is_enumerated.false), sym c.parse_value.ensures ∙ c.in-None.is)

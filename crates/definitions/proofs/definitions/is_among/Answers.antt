@@ -1,25 +1,16 @@
--- `definitions::definitions::is_among` meets its contract. The loop's invariant is `AmongSoFar`; the laws are those of specs/DefinitionsLaws.antt.
-use mathlib.Core.Path.{sym, ◌∙◌}
-use native.Mathlib.Omega.{arith}
-use Rattle.definitions.specs.DefinitionsLaws.{AmongSoFar, among-begins, among-ends, among-stops, among-found, among-goes_on}
-use borrow.Author.Rules.{rules}
+-- `definitions::definitions::is_among` meets its contract: the values of the first records are compared (specs/AdmittedRecords.antt).
+use Rattle.std.proofs.Common.{rules}
+use borrow.Author.Tests.{tests}
+use Rattle.std.proofs.lemmas.Iterator.{YieldsList-from_slice}
+use Rattle.std.proofs.lemmas.Iterator.Search.{any_from_yields_List, YieldsList-from_take_while}
+use Rattle.records.specs.Records.{admitted_from}
+use Rattle.definitions.specs.Definitions.{is_same_value}
+use Rattle.definitions.specs.AdmittedRecords.{is_value, is_among_records}
 use Rattle.definitions.proofs.definitions.is_among.Goals as goal
 
--- while 0 < left {
-pub loop-left-init : goal.loop-left-init
-loop-left-init c = among-begins _ _ _ _ c.requires
-
--- return false;
-pub returns-then-words-at-ne2 : goal.returns-then-words-at-ne2
-returns-then-words-at-ne2 c = sym (among-stops _ _ _ _ _ _ c.loop-left.invariant c.loop-left-test.true c.if-words-at-ne2.true)
-
--- return true;
-pub returns-then-is_same_value : goal.returns-then-is_same_value
-returns-then-is_same_value c = sym (among-found _ _ _ _ _ _ c.loop-left.invariant c.loop-left-test.true c.if-words-at-ne2.false (sym c.is_same_value.ensures ∙ c.if-is_same_value.true))
-
-pub loop-left-preserved : goal.loop-left-preserved
-loop-left-preserved c = among-goes_on _ _ _ _ _ _ c.loop-left.invariant c.loop-left-test.true c.if-words-at-ne2.false (sym c.is_same_value.ensures ∙ c.if-is_same_value.false)
-
--- fn is_among(words: &[u32], first: usize, records: usize, value: Admitted) -> bool
 pub returns : goal.returns
-returns c = sym (among-ends _ _ _ _ _ _ c.loop-left.invariant c.loop-left-test.false)
+unfolding is_among_records
+returns c =
+    any_from_yields_List (λ one. is_same_value (admitted_from one) c.args.value) _ _ _ c.any.ensures.ran
+    (YieldsList-from_take_while _ is_value (YieldsList-from_slice c.args.records.now (rw c.take_while.ensures.source c.iter.ensures.rest)) c.take_while.ensures.closure c.take_while.ensures.done (λ x b q k. search (rules, tests)))
+    (λ x b q k. search (rules, tests))

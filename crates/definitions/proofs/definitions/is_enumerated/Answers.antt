@@ -1,17 +1,12 @@
--- `definitions::definitions::is_enumerated` meets its contract: its tests are those of `is_enumerated`.
-use native.Mathlib.Omega.{arith}
-use borrow.Author.Tests.{eq-eqb, ne_eqb}
-use Rattle.definitions.specs.Definitions.{is_enumerated}
-use Rattle.definitions.specs.DefinitionsLaws.{}
-use borrow.Author.Rules.{rules}
+-- `definitions::definitions::is_enumerated` meets its contract: the first record behind the definition's says it (specs/AdmittedRecords.antt).
+use Rattle.std.proofs.Common.{ap, sym, ◌∙◌}
+use Rattle.definitions.specs.AdmittedRecords.{is_value_first, value-first, none-first, enumerated-first}
 use Rattle.definitions.proofs.definitions.is_enumerated.Goals as goal
 
--- return false;
-pub returns-then-lines-number-eq0 : goal.returns-then-lines-number-eq0
-unfolding is_enumerated
-returns-then-lines-number-eq0 c = rw (eq-eqb _ 0 c.if-lines-number-eq0.true)
+-- [first, ..] => is_value(first),
+pub returns-in-len1-up : goal.returns-in-len1-up
+returns-in-len1-up c = c.is_value.ensures ∙ value-first _ c.in-len1-up.len_at_least ∙ ap is_value_first c.records_behind.ensures ∙ sym (enumerated-first _ _)
 
--- pub fn is_enumerated(words: &[u32], number: usize) -> bool
-pub returns : goal.returns
-unfolding is_enumerated
-returns c = rw (ne_eqb _ 0 c.if-lines-number-eq0.false)
+-- [] => false,
+pub returns-in-empty : goal.returns-in-empty
+returns-in-empty c = none-first _ c.in-empty.len_below ∙ ap is_value_first c.records_behind.ensures ∙ sym (enumerated-first _ _)
