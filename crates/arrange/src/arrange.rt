@@ -11,7 +11,7 @@ ghost use Rattle.arrange.specs.ArrangeGatherLaws.{closed_row};
 
 use arrange_level::arrange_groups::{open_rows, place_groups};
 use arrange_level::arrange_level::{in_order, keep_required, read_level};
-use layouts::layout_words::{narrow, wide};
+use layouts::layout_words::narrow;
 
 // How many levels are gathered and how many are found, and where their members and required tags end.
 #[derive(Clone, Copy)]
@@ -101,7 +101,7 @@ fn gather_level(
     ensures gathered { GatheredSoFar trace.now members.new required.new rows.new result }
     ensures further { result.level ≡ state.level + 1 }
 {
-    let first = wide(rows[3 + 6 * state.level]);
+    let first = rows[3 + 6 * state.level] as usize;
     let own = read_level(
         trace,
         first,

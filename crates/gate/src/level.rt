@@ -4,7 +4,7 @@ ghost use Rattle.layouts.specs.Limits.{gate_limits};
 ghost use Rattle.levels.specs.Members.{level_part};
 ghost use Rattle.gate.specs.MembersOutcome.{members_outcome};
 
-use layouts::layout_words::{stretch_at, wide};
+use layouts::layout_words::stretch_at;
 use levels::members::level_of;
 use outcomes::outcome::{Outcome, answered, refused};
 
@@ -17,7 +17,7 @@ pub fn gate_level_members(layout: &[u32], path: &[u32]) -> Outcome
         Ok(level) => {
             let place = 1 + level;
             let members = stretch_at(layout, place);
-            let first = wide(layout[place]);
+            let first = layout[place] as usize;
             answered(members.len(), first)
         }
         Err(refusal) => refused(refusal),

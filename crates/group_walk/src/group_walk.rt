@@ -7,7 +7,7 @@ use entry_tags::entry_tags::{EntryTags, RankSet, WideEntryTags};
 use events::event::Kind;
 use field_table::field_table::FieldTable;
 use layouts::layout_words::Layout;
-use walk_steps::group_events::{either, put_end, put_event, put_repeat, put_start, spoilt_by};
+use walk_steps::group_events::{put_end, put_event, put_repeat, put_start};
 use walk_steps::group_steps::{EntryStep, Turn, opening_at, step_at};
 use walk_steps::layout_input::entry_level;
 
@@ -73,14 +73,14 @@ pub fn walk_group(
             let close = Kind::Close(entries, entry.seen);
             to = put_event(events, entry.at, tag, depth, close);
             cursor = entry.next;
-            unparseable = either(unparseable, entry.unparseable); // by each entry
+            unparseable |= entry.unparseable; // by each entry
             entries += 1;
         } else {
             let entry = scan_wide(table, layout, group, cursor, depth, events, to);
             let close = Kind::Close(entries, entry.seen);
             to = put_event(events, entry.at, tag, depth, close);
             cursor = entry.next;
-            unparseable = either(unparseable, entry.unparseable);
+            unparseable |= entry.unparseable;
             entries += 1;
         }
     }
@@ -122,14 +122,14 @@ fn scan_entry(
                 let (with, fresh) = seen.insert_rank(rank);
                 seen = with;
                 to = put_repeat(events, to, tag, depth, member, fresh);
-                unparseable = spoilt_by(unparseable, fresh);
+                unparseable |= !fresh;
                 cursor += 1;
             }
             EntryStep::Nested(rank, member, inner) => {
                 let (with, fresh) = seen.insert_rank(rank);
                 seen = with;
                 to = put_repeat(events, to, tag, depth, member, fresh);
-                unparseable = spoilt_by(unparseable, fresh); // by no nested fault
+                unparseable |= !fresh; // by no nested fault
                 let below = depth + 1; // a nested group is one deeper
                 let nested = walk_group(
                     table,
@@ -186,14 +186,14 @@ fn scan_wide(
                 let (with, fresh) = seen.insert_rank(rank);
                 seen = with;
                 to = put_repeat(events, to, tag, depth, member, fresh);
-                unparseable = spoilt_by(unparseable, fresh);
+                unparseable |= !fresh;
                 cursor += 1;
             }
             EntryStep::Nested(rank, member, inner) => {
                 let (with, fresh) = seen.insert_rank(rank);
                 seen = with;
                 to = put_repeat(events, to, tag, depth, member, fresh);
-                unparseable = spoilt_by(unparseable, fresh);
+                unparseable |= !fresh;
                 let below = depth + 1;
                 let nested = walk_group(
                     table,

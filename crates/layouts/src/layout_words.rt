@@ -8,13 +8,6 @@ ghost use Rattle.layouts.specs.LayoutCheck.{is_layout};
 
 use ascending::search::Ascending;
 
-// A word as a number of words or a place among them.
-pub fn wide(word: u32) -> usize
-    ensures { result ≡ word }
-{
-    word as usize
-}
-
 // A number of words or a place among them, as a word.
 pub fn narrow(number: usize) -> u32
     requires { number < 4294967296 }
@@ -28,8 +21,8 @@ pub fn stretch_at(words: &[u32], place: usize) -> &[u32]
     requires { StretchInside words.now place }
     ensures { result.now ≡ stretch words.now place }
 {
-    let first = wide(words[place]);
-    let past = wide(words[place + 1]);
+    let first = words[place] as usize;
+    let past = words[place + 1] as usize;
     &words[first..past]
 }
 

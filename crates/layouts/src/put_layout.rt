@@ -4,7 +4,7 @@ ghost use Rattle.std.proofs.lemmas.List.Edits.{sets};
 ghost use Rattle.layouts.specs.LayoutWords.{first_member};
 ghost use Rattle.layouts.specs.GatheredLayout.{column, shifted, gathered_words, RowsInside};
 
-use crate::layout_words::{narrow, wide};
+use crate::layout_words::narrow;
 
 // Writes a column of the rows from `to` on.
 fn put_column(words: &mut [u32], to: usize, rows: &[u32], field: usize, count: usize)
@@ -23,7 +23,7 @@ fn put_places(words: &mut [u32], to: usize, first: usize, rows: &[u32], field: u
 {
     words[to] = narrow(first);
     for index in 0..count {
-        let end = wide(rows[field + 6 * index]);
+        let end = rows[field + 6 * index] as usize;
         words[to + 1 + index] = narrow(first + end);
     }
 }

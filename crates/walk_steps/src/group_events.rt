@@ -1,6 +1,6 @@
 // The events that a walk writes at one place: at the start of a group, at a member of an entry, at the ends. Ported from walk.rs, the calls of the
 // Visitor in `walk_group` and `scan_entry`.
-ghost use Rattle.std.specs.Prelude.{◌≡◌, not, ◌||◌, [], ◌∷◌, ◌+◌, ◌<◌, ◌^◌};
+ghost use Rattle.std.specs.Prelude.{◌≡◌, [], ◌∷◌, ◌+◌, ◌<◌, ◌^◌};
 ghost use Rattle.events.specs.EventSpaceLaws.{Wrote};
 ghost use Rattle.walk_steps.specs.WrittenEvents.{tag_event, begun_by, repeat_by, left_by};
 
@@ -57,20 +57,6 @@ pub fn put_repeat(
         return at;
     }
     put_event(events, at, tag, depth, Kind::Repeat(member))
-}
-
-// Whether an entry or a group is unparseable, once a member that is not fresh makes it so.
-pub fn spoilt_by(unparseable: bool, fresh: bool) -> bool
-    ensures { result ≡ (unparseable || not fresh) }
-{
-    if unparseable { true } else { !fresh }
-}
-
-// The same for one of its entries.
-pub fn either(unparseable: bool, entry: bool) -> bool
-    ensures { result ≡ (unparseable || entry) }
-{
-    if unparseable { true } else { entry }
 }
 
 // Miscount where it is due, and leave.

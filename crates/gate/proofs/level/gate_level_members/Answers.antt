@@ -1,5 +1,5 @@
 -- `gate::level::gate_level_members` meets its contract, by specs/MembersOutcomeLaws.antt.
-use mathlib.Core.Path.{sym, ◌∙◌}
+use mathlib.Core.Path.{refl, sym, ◌∙◌}
 use native.Mathlib.Omega.{arith}
 use Rattle.layouts.specs.Limits.{gate_limits}
 use Rattle.levels.specs.MembersLaws.{reached_inside}
@@ -15,7 +15,7 @@ overflow_add-place c = omega (arith, (reached_inside gate_limits c.args.layout.n
 pub stretch_at-members-requires : goal.stretch_at-members-requires
 stretch_at-members-requires c = reached_inside gate_limits c.args.layout.now c.args.path.now c.in-Ok.level (sym c.level_of.ensures.outcome ∙ c.in-Ok.is)
 
--- let first = wide(layout[place]);
+-- let first = layout[place] as usize;
 pub offset_bounds-layout-place : goal.offset_bounds-layout-place
 offset_bounds-layout-place c = omega (arith, (reached_inside gate_limits c.args.layout.now c.args.path.now c.in-Ok.level (sym c.level_of.ensures.outcome ∙ c.in-Ok.is)).places, c.shared_slice_known-1.given 0)
 
@@ -25,8 +25,8 @@ bounds-layout-place c = omega (arith, (reached_inside gate_limits c.args.layout.
 -- #[no_mangle]
 pub returns-in-Ok : goal.returns-in-Ok
 returns-in-Ok c = record {
-  outcome = (hands_out_members _ _ _ _ _ _ (sym c.level_of.ensures.outcome ∙ c.in-Ok.is) c.stretch_at-members.ensures c.wide-first.ensures c.answered.ensures.outcome).0;
-  part = (hands_out_members _ _ _ _ _ _ (sym c.level_of.ensures.outcome ∙ c.in-Ok.is) c.stretch_at-members.ensures c.wide-first.ensures c.answered.ensures.outcome).1;
+  outcome = (hands_out_members _ _ _ _ _ _ (sym c.level_of.ensures.outcome ∙ c.in-Ok.is) c.stretch_at-members.ensures refl c.answered.ensures.outcome).0;
+  part = (hands_out_members _ _ _ _ _ _ (sym c.level_of.ensures.outcome ∙ c.in-Ok.is) c.stretch_at-members.ensures refl c.answered.ensures.outcome).1;
 }
 
 pub returns-in-Err : goal.returns-in-Err

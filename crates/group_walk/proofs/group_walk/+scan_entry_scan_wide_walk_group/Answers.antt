@@ -1,6 +1,6 @@
 -- The cycle of calls {scan_entry, scan_wide, walk_group}: each call falls on the fields left and the depth left. The invariants are `EntryWritten` and
 -- `GroupWritten`, and the laws those of specs/WalkLoops.antt; `scan_wide` differs from `scan_entry` in the number of words of its set.
-use mathlib.Core.Path.{◌≡◌, sym, ap, ◌∙◌}
+use mathlib.Core.Path.{◌≡◌, refl, sym, ap, ◌∙◌}
 use Prim.Native.Nat.{◌+◌, ◌-◌, ◌*◌, ◌≤◌}
 use mathlib.Core.List.{List}
 use native.Mathlib.Omega.{arith}
@@ -48,7 +48,7 @@ pub scan_entry-loop-rank-smaller-in-Plain : goal.scan_entry-loop-rank-smaller-in
 scan_entry-loop-rank-smaller-in-Plain t c = omega (arith, field_inside c.args.layout.now.words.now c.args.table.now.fields.now c.args.table.now.message.now (is_layout-passed gate_limits _ c.args.layout.now.passed) c.args.group c.requires.valid c.args.start c.args.depth c.args.events.now c.args.at 4 _ _ c.loop-rank.cursor _ _ c.loop-rank.invariant _ _ (entry-plain c.args.layout.now.words.now c.args.table.now.fields.now c.args.table.now.message.now c.args.group c.args.start c.loop-rank.cursor _ (level-step c.args.layout.now.words.now c.args.group _ _ _ _ c.entry_level-level.ensures.members c.entry_level-level.ensures.delimiter c.entry_level-level.ensures.tags c.entry_level-level.ensures.first c.args.table.now.fields.now c.args.start c.loop-rank.cursor _ c.step_at.ensures) _ _ c.in-Plain.is).0)
 
 pub scan_entry-loop-rank-preserved-in-Plain : goal.scan_entry-loop-rank-preserved-in-Plain
-scan_entry-loop-rank-preserved-in-Plain t c = entry-adds_plain c.args.layout.now.words.now c.args.table.now.fields.now c.args.table.now.message.now (is_layout-passed gate_limits _ c.args.layout.now.passed) c.args.group c.requires.valid c.args.start c.args.depth c.args.events.now c.args.at 4 _ _ c.loop-rank.cursor _ _ c.loop-rank.invariant _ _ (entry-plain c.args.layout.now.words.now c.args.table.now.fields.now c.args.table.now.message.now c.args.group c.args.start c.loop-rank.cursor _ (level-step c.args.layout.now.words.now c.args.group _ _ _ _ c.entry_level-level.ensures.members c.entry_level-level.ensures.delimiter c.entry_level-level.ensures.tags c.entry_level-level.ensures.first c.args.table.now.fields.now c.args.start c.loop-rank.cursor _ c.step_at.ensures) _ _ c.in-Plain.is).0 _ _ c.insert_rank-fresh.ensures.tags c.insert_rank-fresh.ensures.fresh _ c.count_tag_at-tag.ensures _ _ c.put_repeat-to.ensures _ c.spoilt_by-unparseable.ensures (entry-plain c.args.layout.now.words.now c.args.table.now.fields.now c.args.table.now.message.now c.args.group c.args.start c.loop-rank.cursor _ (level-step c.args.layout.now.words.now c.args.group _ _ _ _ c.entry_level-level.ensures.members c.entry_level-level.ensures.delimiter c.entry_level-level.ensures.tags c.entry_level-level.ensures.first c.args.table.now.fields.now c.args.start c.loop-rank.cursor _ c.step_at.ensures) _ _ c.in-Plain.is).1
+scan_entry-loop-rank-preserved-in-Plain t c = entry-adds_plain c.args.layout.now.words.now c.args.table.now.fields.now c.args.table.now.message.now (is_layout-passed gate_limits _ c.args.layout.now.passed) c.args.group c.requires.valid c.args.start c.args.depth c.args.events.now c.args.at 4 _ _ c.loop-rank.cursor _ _ c.loop-rank.invariant _ _ (entry-plain c.args.layout.now.words.now c.args.table.now.fields.now c.args.table.now.message.now c.args.group c.args.start c.loop-rank.cursor _ (level-step c.args.layout.now.words.now c.args.group _ _ _ _ c.entry_level-level.ensures.members c.entry_level-level.ensures.delimiter c.entry_level-level.ensures.tags c.entry_level-level.ensures.first c.args.table.now.fields.now c.args.start c.loop-rank.cursor _ c.step_at.ensures) _ _ c.in-Plain.is).0 _ _ c.insert_rank-fresh.ensures.tags c.insert_rank-fresh.ensures.fresh _ c.count_tag_at-tag.ensures _ _ c.put_repeat-to.ensures _ refl (entry-plain c.args.layout.now.words.now c.args.table.now.fields.now c.args.table.now.message.now c.args.group c.args.start c.loop-rank.cursor _ (level-step c.args.layout.now.words.now c.args.group _ _ _ _ c.entry_level-level.ensures.members c.entry_level-level.ensures.delimiter c.entry_level-level.ensures.tags c.entry_level-level.ensures.first c.args.table.now.fields.now c.args.start c.loop-rank.cursor _ c.step_at.ensures) _ _ c.in-Plain.is).1
 
 -- let (with, fresh) = seen.insert_rank(rank);
 pub scan_entry-insert_rank-fresh-requires-in-Nested : goal.scan_entry-insert_rank-fresh-requires-in-Nested
@@ -68,7 +68,7 @@ scan_entry-walk_group-nested-requires t c = let inside = field_inside c.args.lay
     let repeats = repeat_room c.args.layout.now.words.now c.args.table.now.fields.now c.args.table.now.message.now (is_layout-passed gate_limits _ c.args.layout.now.passed) c.args.group c.requires.valid c.args.start c.args.depth c.args.events.now c.args.at 4 _ _ c.loop-rank.cursor _ _ c.loop-rank.invariant _ _ (entry-nested c.args.layout.now.words.now c.args.table.now.fields.now c.args.table.now.message.now c.args.group c.args.start c.loop-rank.cursor _ (level-step c.args.layout.now.words.now c.args.group _ _ _ _ c.entry_level-level.ensures.members c.entry_level-level.ensures.delimiter c.entry_level-level.ensures.tags c.entry_level-level.ensures.first c.args.table.now.fields.now c.args.start c.loop-rank.cursor _ c.step_at.ensures) _ _ _ c.in-Nested.is).0 _ _ c.insert_rank-fresh-in-Nested.ensures.tags c.insert_rank-fresh-in-Nested.ensures.fresh _ c.count_tag_at-tag.ensures _ _ c.put_repeat-to-in-Nested.ensures in (
       omega (arith, c.decreases, inside, c.loop-rank.invariant.ahead, c.requires.shallow),
       record {
-        valid = inner-valid c.args.layout.now.words.now c.args.table.now.fields.now c.args.table.now.message.now (is_layout-passed gate_limits _ c.args.layout.now.passed) c.args.group c.requires.valid c.args.start c.args.depth c.args.events.now c.args.at 4 _ _ c.loop-rank.cursor _ _ c.loop-rank.invariant _ _ (entry-nested c.args.layout.now.words.now c.args.table.now.fields.now c.args.table.now.message.now c.args.group c.args.start c.loop-rank.cursor _ (level-step c.args.layout.now.words.now c.args.group _ _ _ _ c.entry_level-level.ensures.members c.entry_level-level.ensures.delimiter c.entry_level-level.ensures.tags c.entry_level-level.ensures.first c.args.table.now.fields.now c.args.start c.loop-rank.cursor _ c.step_at.ensures) _ _ _ c.in-Nested.is).0 _ _ c.insert_rank-fresh-in-Nested.ensures.tags c.insert_rank-fresh-in-Nested.ensures.fresh _ c.count_tag_at-tag.ensures _ _ c.put_repeat-to-in-Nested.ensures _ c.spoilt_by-unparseable-in-Nested.ensures _ (entry-nested c.args.layout.now.words.now c.args.table.now.fields.now c.args.table.now.message.now c.args.group c.args.start c.loop-rank.cursor _ (level-step c.args.layout.now.words.now c.args.group _ _ _ _ c.entry_level-level.ensures.members c.entry_level-level.ensures.delimiter c.entry_level-level.ensures.tags c.entry_level-level.ensures.first c.args.table.now.fields.now c.args.start c.loop-rank.cursor _ c.step_at.ensures) _ _ _ c.in-Nested.is).1;
+        valid = inner-valid c.args.layout.now.words.now c.args.table.now.fields.now c.args.table.now.message.now (is_layout-passed gate_limits _ c.args.layout.now.passed) c.args.group c.requires.valid c.args.start c.args.depth c.args.events.now c.args.at 4 _ _ c.loop-rank.cursor _ _ c.loop-rank.invariant _ _ (entry-nested c.args.layout.now.words.now c.args.table.now.fields.now c.args.table.now.message.now c.args.group c.args.start c.loop-rank.cursor _ (level-step c.args.layout.now.words.now c.args.group _ _ _ _ c.entry_level-level.ensures.members c.entry_level-level.ensures.delimiter c.entry_level-level.ensures.tags c.entry_level-level.ensures.first c.args.table.now.fields.now c.args.start c.loop-rank.cursor _ c.step_at.ensures) _ _ _ c.in-Nested.is).0 _ _ c.insert_rank-fresh-in-Nested.ensures.tags c.insert_rank-fresh-in-Nested.ensures.fresh _ c.count_tag_at-tag.ensures _ _ c.put_repeat-to-in-Nested.ensures _ refl _ (entry-nested c.args.layout.now.words.now c.args.table.now.fields.now c.args.table.now.message.now c.args.group c.args.start c.loop-rank.cursor _ (level-step c.args.layout.now.words.now c.args.group _ _ _ _ c.entry_level-level.ensures.members c.entry_level-level.ensures.delimiter c.entry_level-level.ensures.tags c.entry_level-level.ensures.first c.args.table.now.fields.now c.args.start c.loop-rank.cursor _ c.step_at.ensures) _ _ _ c.in-Nested.is).1;
         shallow = omega (arith, c.requires.shallow);
         room = omega (arith, repeats, c.loop-rank.invariant.room, c.requires.room);
       },
@@ -77,10 +77,10 @@ scan_entry-walk_group-nested-requires t c = let inside = field_inside c.args.lay
 -- loop {
 pub scan_entry-loop-rank-smaller : goal.scan_entry-loop-rank-smaller
 scan_entry-loop-rank-smaller t c = let inside = field_inside c.args.layout.now.words.now c.args.table.now.fields.now c.args.table.now.message.now (is_layout-passed gate_limits _ c.args.layout.now.passed) c.args.group c.requires.valid c.args.start c.args.depth c.args.events.now c.args.at 4 _ _ c.loop-rank.cursor _ _ c.loop-rank.invariant _ _ (entry-nested c.args.layout.now.words.now c.args.table.now.fields.now c.args.table.now.message.now c.args.group c.args.start c.loop-rank.cursor _ (level-step c.args.layout.now.words.now c.args.group _ _ _ _ c.entry_level-level.ensures.members c.entry_level-level.ensures.delimiter c.entry_level-level.ensures.tags c.entry_level-level.ensures.first c.args.table.now.fields.now c.args.start c.loop-rank.cursor _ c.step_at.ensures) _ _ _ c.in-Nested.is).0 in
-    omega (arith, inside, nested-moves c.args.layout.now.words.now c.args.table.now.fields.now c.args.table.now.message.now (is_layout-passed gate_limits _ c.args.layout.now.passed) c.args.group c.requires.valid c.args.start c.args.depth c.args.events.now c.args.at 4 _ _ c.loop-rank.cursor _ _ c.loop-rank.invariant _ _ (entry-nested c.args.layout.now.words.now c.args.table.now.fields.now c.args.table.now.message.now c.args.group c.args.start c.loop-rank.cursor _ (level-step c.args.layout.now.words.now c.args.group _ _ _ _ c.entry_level-level.ensures.members c.entry_level-level.ensures.delimiter c.entry_level-level.ensures.tags c.entry_level-level.ensures.first c.args.table.now.fields.now c.args.start c.loop-rank.cursor _ c.step_at.ensures) _ _ _ c.in-Nested.is).0 _ _ c.insert_rank-fresh-in-Nested.ensures.tags c.insert_rank-fresh-in-Nested.ensures.fresh _ c.count_tag_at-tag.ensures _ _ c.put_repeat-to-in-Nested.ensures _ c.spoilt_by-unparseable-in-Nested.ensures _ (entry-nested c.args.layout.now.words.now c.args.table.now.fields.now c.args.table.now.message.now c.args.group c.args.start c.loop-rank.cursor _ (level-step c.args.layout.now.words.now c.args.group _ _ _ _ c.entry_level-level.ensures.members c.entry_level-level.ensures.delimiter c.entry_level-level.ensures.tags c.entry_level-level.ensures.first c.args.table.now.fields.now c.args.start c.loop-rank.cursor _ c.step_at.ensures) _ _ _ c.in-Nested.is).1 _ _ _ _ c.entry_level-level.ensures.members c.walk_group-nested.ensures)
+    omega (arith, inside, nested-moves c.args.layout.now.words.now c.args.table.now.fields.now c.args.table.now.message.now (is_layout-passed gate_limits _ c.args.layout.now.passed) c.args.group c.requires.valid c.args.start c.args.depth c.args.events.now c.args.at 4 _ _ c.loop-rank.cursor _ _ c.loop-rank.invariant _ _ (entry-nested c.args.layout.now.words.now c.args.table.now.fields.now c.args.table.now.message.now c.args.group c.args.start c.loop-rank.cursor _ (level-step c.args.layout.now.words.now c.args.group _ _ _ _ c.entry_level-level.ensures.members c.entry_level-level.ensures.delimiter c.entry_level-level.ensures.tags c.entry_level-level.ensures.first c.args.table.now.fields.now c.args.start c.loop-rank.cursor _ c.step_at.ensures) _ _ _ c.in-Nested.is).0 _ _ c.insert_rank-fresh-in-Nested.ensures.tags c.insert_rank-fresh-in-Nested.ensures.fresh _ c.count_tag_at-tag.ensures _ _ c.put_repeat-to-in-Nested.ensures _ refl _ (entry-nested c.args.layout.now.words.now c.args.table.now.fields.now c.args.table.now.message.now c.args.group c.args.start c.loop-rank.cursor _ (level-step c.args.layout.now.words.now c.args.group _ _ _ _ c.entry_level-level.ensures.members c.entry_level-level.ensures.delimiter c.entry_level-level.ensures.tags c.entry_level-level.ensures.first c.args.table.now.fields.now c.args.start c.loop-rank.cursor _ c.step_at.ensures) _ _ _ c.in-Nested.is).1 _ _ _ _ c.entry_level-level.ensures.members c.walk_group-nested.ensures)
 
 pub scan_entry-loop-rank-preserved : goal.scan_entry-loop-rank-preserved
-scan_entry-loop-rank-preserved t c = entry-adds_nested c.args.layout.now.words.now c.args.table.now.fields.now c.args.table.now.message.now (is_layout-passed gate_limits _ c.args.layout.now.passed) c.args.group c.requires.valid c.args.start c.args.depth c.args.events.now c.args.at 4 _ _ c.loop-rank.cursor _ _ c.loop-rank.invariant _ _ (entry-nested c.args.layout.now.words.now c.args.table.now.fields.now c.args.table.now.message.now c.args.group c.args.start c.loop-rank.cursor _ (level-step c.args.layout.now.words.now c.args.group _ _ _ _ c.entry_level-level.ensures.members c.entry_level-level.ensures.delimiter c.entry_level-level.ensures.tags c.entry_level-level.ensures.first c.args.table.now.fields.now c.args.start c.loop-rank.cursor _ c.step_at.ensures) _ _ _ c.in-Nested.is).0 _ _ c.insert_rank-fresh-in-Nested.ensures.tags c.insert_rank-fresh-in-Nested.ensures.fresh _ c.count_tag_at-tag.ensures _ _ c.put_repeat-to-in-Nested.ensures _ c.spoilt_by-unparseable-in-Nested.ensures _ (entry-nested c.args.layout.now.words.now c.args.table.now.fields.now c.args.table.now.message.now c.args.group c.args.start c.loop-rank.cursor _ (level-step c.args.layout.now.words.now c.args.group _ _ _ _ c.entry_level-level.ensures.members c.entry_level-level.ensures.delimiter c.entry_level-level.ensures.tags c.entry_level-level.ensures.first c.args.table.now.fields.now c.args.start c.loop-rank.cursor _ c.step_at.ensures) _ _ _ c.in-Nested.is).1 _ _ _ _ c.entry_level-level.ensures.members c.walk_group-nested.ensures
+scan_entry-loop-rank-preserved t c = entry-adds_nested c.args.layout.now.words.now c.args.table.now.fields.now c.args.table.now.message.now (is_layout-passed gate_limits _ c.args.layout.now.passed) c.args.group c.requires.valid c.args.start c.args.depth c.args.events.now c.args.at 4 _ _ c.loop-rank.cursor _ _ c.loop-rank.invariant _ _ (entry-nested c.args.layout.now.words.now c.args.table.now.fields.now c.args.table.now.message.now c.args.group c.args.start c.loop-rank.cursor _ (level-step c.args.layout.now.words.now c.args.group _ _ _ _ c.entry_level-level.ensures.members c.entry_level-level.ensures.delimiter c.entry_level-level.ensures.tags c.entry_level-level.ensures.first c.args.table.now.fields.now c.args.start c.loop-rank.cursor _ c.step_at.ensures) _ _ _ c.in-Nested.is).0 _ _ c.insert_rank-fresh-in-Nested.ensures.tags c.insert_rank-fresh-in-Nested.ensures.fresh _ c.count_tag_at-tag.ensures _ _ c.put_repeat-to-in-Nested.ensures _ refl _ (entry-nested c.args.layout.now.words.now c.args.table.now.fields.now c.args.table.now.message.now c.args.group c.args.start c.loop-rank.cursor _ (level-step c.args.layout.now.words.now c.args.group _ _ _ _ c.entry_level-level.ensures.members c.entry_level-level.ensures.delimiter c.entry_level-level.ensures.tags c.entry_level-level.ensures.first c.args.table.now.fields.now c.args.start c.loop-rank.cursor _ c.step_at.ensures) _ _ _ c.in-Nested.is).1 _ _ _ _ c.entry_level-level.ensures.members c.walk_group-nested.ensures
 
 -- let count = seen.close(members.len());
 pub scan_entry-close-count-requires : goal.scan_entry-close-count-requires
@@ -122,7 +122,7 @@ pub scan_wide-loop-rank-smaller-in-Plain : goal.scan_wide-loop-rank-smaller-in-P
 scan_wide-loop-rank-smaller-in-Plain t c = omega (arith, field_inside c.args.layout.now.words.now c.args.table.now.fields.now c.args.table.now.message.now (is_layout-passed gate_limits _ c.args.layout.now.passed) c.args.group c.requires.valid c.args.start c.args.depth c.args.events.now c.args.at 128 _ _ c.loop-rank.cursor _ _ c.loop-rank.invariant _ _ (entry-plain c.args.layout.now.words.now c.args.table.now.fields.now c.args.table.now.message.now c.args.group c.args.start c.loop-rank.cursor _ (level-step c.args.layout.now.words.now c.args.group _ _ _ _ c.entry_level-level.ensures.members c.entry_level-level.ensures.delimiter c.entry_level-level.ensures.tags c.entry_level-level.ensures.first c.args.table.now.fields.now c.args.start c.loop-rank.cursor _ c.step_at.ensures) _ _ c.in-Plain.is).0)
 
 pub scan_wide-loop-rank-preserved-in-Plain : goal.scan_wide-loop-rank-preserved-in-Plain
-scan_wide-loop-rank-preserved-in-Plain t c = entry-adds_plain c.args.layout.now.words.now c.args.table.now.fields.now c.args.table.now.message.now (is_layout-passed gate_limits _ c.args.layout.now.passed) c.args.group c.requires.valid c.args.start c.args.depth c.args.events.now c.args.at 128 _ _ c.loop-rank.cursor _ _ c.loop-rank.invariant _ _ (entry-plain c.args.layout.now.words.now c.args.table.now.fields.now c.args.table.now.message.now c.args.group c.args.start c.loop-rank.cursor _ (level-step c.args.layout.now.words.now c.args.group _ _ _ _ c.entry_level-level.ensures.members c.entry_level-level.ensures.delimiter c.entry_level-level.ensures.tags c.entry_level-level.ensures.first c.args.table.now.fields.now c.args.start c.loop-rank.cursor _ c.step_at.ensures) _ _ c.in-Plain.is).0 _ _ c.insert_rank-fresh.ensures.tags c.insert_rank-fresh.ensures.fresh _ c.count_tag_at-tag.ensures _ _ c.put_repeat-to.ensures _ c.spoilt_by-unparseable.ensures (entry-plain c.args.layout.now.words.now c.args.table.now.fields.now c.args.table.now.message.now c.args.group c.args.start c.loop-rank.cursor _ (level-step c.args.layout.now.words.now c.args.group _ _ _ _ c.entry_level-level.ensures.members c.entry_level-level.ensures.delimiter c.entry_level-level.ensures.tags c.entry_level-level.ensures.first c.args.table.now.fields.now c.args.start c.loop-rank.cursor _ c.step_at.ensures) _ _ c.in-Plain.is).1
+scan_wide-loop-rank-preserved-in-Plain t c = entry-adds_plain c.args.layout.now.words.now c.args.table.now.fields.now c.args.table.now.message.now (is_layout-passed gate_limits _ c.args.layout.now.passed) c.args.group c.requires.valid c.args.start c.args.depth c.args.events.now c.args.at 128 _ _ c.loop-rank.cursor _ _ c.loop-rank.invariant _ _ (entry-plain c.args.layout.now.words.now c.args.table.now.fields.now c.args.table.now.message.now c.args.group c.args.start c.loop-rank.cursor _ (level-step c.args.layout.now.words.now c.args.group _ _ _ _ c.entry_level-level.ensures.members c.entry_level-level.ensures.delimiter c.entry_level-level.ensures.tags c.entry_level-level.ensures.first c.args.table.now.fields.now c.args.start c.loop-rank.cursor _ c.step_at.ensures) _ _ c.in-Plain.is).0 _ _ c.insert_rank-fresh.ensures.tags c.insert_rank-fresh.ensures.fresh _ c.count_tag_at-tag.ensures _ _ c.put_repeat-to.ensures _ refl (entry-plain c.args.layout.now.words.now c.args.table.now.fields.now c.args.table.now.message.now c.args.group c.args.start c.loop-rank.cursor _ (level-step c.args.layout.now.words.now c.args.group _ _ _ _ c.entry_level-level.ensures.members c.entry_level-level.ensures.delimiter c.entry_level-level.ensures.tags c.entry_level-level.ensures.first c.args.table.now.fields.now c.args.start c.loop-rank.cursor _ c.step_at.ensures) _ _ c.in-Plain.is).1
 
 -- let (with, fresh) = seen.insert_rank(rank);
 pub scan_wide-insert_rank-fresh-requires-in-Nested : goal.scan_wide-insert_rank-fresh-requires-in-Nested
@@ -142,7 +142,7 @@ scan_wide-walk_group-nested-requires t c = let inside = field_inside c.args.layo
     let repeats = repeat_room c.args.layout.now.words.now c.args.table.now.fields.now c.args.table.now.message.now (is_layout-passed gate_limits _ c.args.layout.now.passed) c.args.group c.requires.valid c.args.start c.args.depth c.args.events.now c.args.at 128 _ _ c.loop-rank.cursor _ _ c.loop-rank.invariant _ _ (entry-nested c.args.layout.now.words.now c.args.table.now.fields.now c.args.table.now.message.now c.args.group c.args.start c.loop-rank.cursor _ (level-step c.args.layout.now.words.now c.args.group _ _ _ _ c.entry_level-level.ensures.members c.entry_level-level.ensures.delimiter c.entry_level-level.ensures.tags c.entry_level-level.ensures.first c.args.table.now.fields.now c.args.start c.loop-rank.cursor _ c.step_at.ensures) _ _ _ c.in-Nested.is).0 _ _ c.insert_rank-fresh-in-Nested.ensures.tags c.insert_rank-fresh-in-Nested.ensures.fresh _ c.count_tag_at-tag.ensures _ _ c.put_repeat-to-in-Nested.ensures in (
       omega (arith, c.decreases, inside, c.loop-rank.invariant.ahead, c.requires.shallow),
       record {
-        valid = inner-valid c.args.layout.now.words.now c.args.table.now.fields.now c.args.table.now.message.now (is_layout-passed gate_limits _ c.args.layout.now.passed) c.args.group c.requires.valid c.args.start c.args.depth c.args.events.now c.args.at 128 _ _ c.loop-rank.cursor _ _ c.loop-rank.invariant _ _ (entry-nested c.args.layout.now.words.now c.args.table.now.fields.now c.args.table.now.message.now c.args.group c.args.start c.loop-rank.cursor _ (level-step c.args.layout.now.words.now c.args.group _ _ _ _ c.entry_level-level.ensures.members c.entry_level-level.ensures.delimiter c.entry_level-level.ensures.tags c.entry_level-level.ensures.first c.args.table.now.fields.now c.args.start c.loop-rank.cursor _ c.step_at.ensures) _ _ _ c.in-Nested.is).0 _ _ c.insert_rank-fresh-in-Nested.ensures.tags c.insert_rank-fresh-in-Nested.ensures.fresh _ c.count_tag_at-tag.ensures _ _ c.put_repeat-to-in-Nested.ensures _ c.spoilt_by-unparseable-in-Nested.ensures _ (entry-nested c.args.layout.now.words.now c.args.table.now.fields.now c.args.table.now.message.now c.args.group c.args.start c.loop-rank.cursor _ (level-step c.args.layout.now.words.now c.args.group _ _ _ _ c.entry_level-level.ensures.members c.entry_level-level.ensures.delimiter c.entry_level-level.ensures.tags c.entry_level-level.ensures.first c.args.table.now.fields.now c.args.start c.loop-rank.cursor _ c.step_at.ensures) _ _ _ c.in-Nested.is).1;
+        valid = inner-valid c.args.layout.now.words.now c.args.table.now.fields.now c.args.table.now.message.now (is_layout-passed gate_limits _ c.args.layout.now.passed) c.args.group c.requires.valid c.args.start c.args.depth c.args.events.now c.args.at 128 _ _ c.loop-rank.cursor _ _ c.loop-rank.invariant _ _ (entry-nested c.args.layout.now.words.now c.args.table.now.fields.now c.args.table.now.message.now c.args.group c.args.start c.loop-rank.cursor _ (level-step c.args.layout.now.words.now c.args.group _ _ _ _ c.entry_level-level.ensures.members c.entry_level-level.ensures.delimiter c.entry_level-level.ensures.tags c.entry_level-level.ensures.first c.args.table.now.fields.now c.args.start c.loop-rank.cursor _ c.step_at.ensures) _ _ _ c.in-Nested.is).0 _ _ c.insert_rank-fresh-in-Nested.ensures.tags c.insert_rank-fresh-in-Nested.ensures.fresh _ c.count_tag_at-tag.ensures _ _ c.put_repeat-to-in-Nested.ensures _ refl _ (entry-nested c.args.layout.now.words.now c.args.table.now.fields.now c.args.table.now.message.now c.args.group c.args.start c.loop-rank.cursor _ (level-step c.args.layout.now.words.now c.args.group _ _ _ _ c.entry_level-level.ensures.members c.entry_level-level.ensures.delimiter c.entry_level-level.ensures.tags c.entry_level-level.ensures.first c.args.table.now.fields.now c.args.start c.loop-rank.cursor _ c.step_at.ensures) _ _ _ c.in-Nested.is).1;
         shallow = omega (arith, c.requires.shallow);
         room = omega (arith, repeats, c.loop-rank.invariant.room, c.requires.room);
       },
@@ -151,10 +151,10 @@ scan_wide-walk_group-nested-requires t c = let inside = field_inside c.args.layo
 -- loop {
 pub scan_wide-loop-rank-smaller : goal.scan_wide-loop-rank-smaller
 scan_wide-loop-rank-smaller t c = let inside = field_inside c.args.layout.now.words.now c.args.table.now.fields.now c.args.table.now.message.now (is_layout-passed gate_limits _ c.args.layout.now.passed) c.args.group c.requires.valid c.args.start c.args.depth c.args.events.now c.args.at 128 _ _ c.loop-rank.cursor _ _ c.loop-rank.invariant _ _ (entry-nested c.args.layout.now.words.now c.args.table.now.fields.now c.args.table.now.message.now c.args.group c.args.start c.loop-rank.cursor _ (level-step c.args.layout.now.words.now c.args.group _ _ _ _ c.entry_level-level.ensures.members c.entry_level-level.ensures.delimiter c.entry_level-level.ensures.tags c.entry_level-level.ensures.first c.args.table.now.fields.now c.args.start c.loop-rank.cursor _ c.step_at.ensures) _ _ _ c.in-Nested.is).0 in
-    omega (arith, inside, nested-moves c.args.layout.now.words.now c.args.table.now.fields.now c.args.table.now.message.now (is_layout-passed gate_limits _ c.args.layout.now.passed) c.args.group c.requires.valid c.args.start c.args.depth c.args.events.now c.args.at 128 _ _ c.loop-rank.cursor _ _ c.loop-rank.invariant _ _ (entry-nested c.args.layout.now.words.now c.args.table.now.fields.now c.args.table.now.message.now c.args.group c.args.start c.loop-rank.cursor _ (level-step c.args.layout.now.words.now c.args.group _ _ _ _ c.entry_level-level.ensures.members c.entry_level-level.ensures.delimiter c.entry_level-level.ensures.tags c.entry_level-level.ensures.first c.args.table.now.fields.now c.args.start c.loop-rank.cursor _ c.step_at.ensures) _ _ _ c.in-Nested.is).0 _ _ c.insert_rank-fresh-in-Nested.ensures.tags c.insert_rank-fresh-in-Nested.ensures.fresh _ c.count_tag_at-tag.ensures _ _ c.put_repeat-to-in-Nested.ensures _ c.spoilt_by-unparseable-in-Nested.ensures _ (entry-nested c.args.layout.now.words.now c.args.table.now.fields.now c.args.table.now.message.now c.args.group c.args.start c.loop-rank.cursor _ (level-step c.args.layout.now.words.now c.args.group _ _ _ _ c.entry_level-level.ensures.members c.entry_level-level.ensures.delimiter c.entry_level-level.ensures.tags c.entry_level-level.ensures.first c.args.table.now.fields.now c.args.start c.loop-rank.cursor _ c.step_at.ensures) _ _ _ c.in-Nested.is).1 _ _ _ _ c.entry_level-level.ensures.members c.walk_group-nested.ensures)
+    omega (arith, inside, nested-moves c.args.layout.now.words.now c.args.table.now.fields.now c.args.table.now.message.now (is_layout-passed gate_limits _ c.args.layout.now.passed) c.args.group c.requires.valid c.args.start c.args.depth c.args.events.now c.args.at 128 _ _ c.loop-rank.cursor _ _ c.loop-rank.invariant _ _ (entry-nested c.args.layout.now.words.now c.args.table.now.fields.now c.args.table.now.message.now c.args.group c.args.start c.loop-rank.cursor _ (level-step c.args.layout.now.words.now c.args.group _ _ _ _ c.entry_level-level.ensures.members c.entry_level-level.ensures.delimiter c.entry_level-level.ensures.tags c.entry_level-level.ensures.first c.args.table.now.fields.now c.args.start c.loop-rank.cursor _ c.step_at.ensures) _ _ _ c.in-Nested.is).0 _ _ c.insert_rank-fresh-in-Nested.ensures.tags c.insert_rank-fresh-in-Nested.ensures.fresh _ c.count_tag_at-tag.ensures _ _ c.put_repeat-to-in-Nested.ensures _ refl _ (entry-nested c.args.layout.now.words.now c.args.table.now.fields.now c.args.table.now.message.now c.args.group c.args.start c.loop-rank.cursor _ (level-step c.args.layout.now.words.now c.args.group _ _ _ _ c.entry_level-level.ensures.members c.entry_level-level.ensures.delimiter c.entry_level-level.ensures.tags c.entry_level-level.ensures.first c.args.table.now.fields.now c.args.start c.loop-rank.cursor _ c.step_at.ensures) _ _ _ c.in-Nested.is).1 _ _ _ _ c.entry_level-level.ensures.members c.walk_group-nested.ensures)
 
 pub scan_wide-loop-rank-preserved : goal.scan_wide-loop-rank-preserved
-scan_wide-loop-rank-preserved t c = entry-adds_nested c.args.layout.now.words.now c.args.table.now.fields.now c.args.table.now.message.now (is_layout-passed gate_limits _ c.args.layout.now.passed) c.args.group c.requires.valid c.args.start c.args.depth c.args.events.now c.args.at 128 _ _ c.loop-rank.cursor _ _ c.loop-rank.invariant _ _ (entry-nested c.args.layout.now.words.now c.args.table.now.fields.now c.args.table.now.message.now c.args.group c.args.start c.loop-rank.cursor _ (level-step c.args.layout.now.words.now c.args.group _ _ _ _ c.entry_level-level.ensures.members c.entry_level-level.ensures.delimiter c.entry_level-level.ensures.tags c.entry_level-level.ensures.first c.args.table.now.fields.now c.args.start c.loop-rank.cursor _ c.step_at.ensures) _ _ _ c.in-Nested.is).0 _ _ c.insert_rank-fresh-in-Nested.ensures.tags c.insert_rank-fresh-in-Nested.ensures.fresh _ c.count_tag_at-tag.ensures _ _ c.put_repeat-to-in-Nested.ensures _ c.spoilt_by-unparseable-in-Nested.ensures _ (entry-nested c.args.layout.now.words.now c.args.table.now.fields.now c.args.table.now.message.now c.args.group c.args.start c.loop-rank.cursor _ (level-step c.args.layout.now.words.now c.args.group _ _ _ _ c.entry_level-level.ensures.members c.entry_level-level.ensures.delimiter c.entry_level-level.ensures.tags c.entry_level-level.ensures.first c.args.table.now.fields.now c.args.start c.loop-rank.cursor _ c.step_at.ensures) _ _ _ c.in-Nested.is).1 _ _ _ _ c.entry_level-level.ensures.members c.walk_group-nested.ensures
+scan_wide-loop-rank-preserved t c = entry-adds_nested c.args.layout.now.words.now c.args.table.now.fields.now c.args.table.now.message.now (is_layout-passed gate_limits _ c.args.layout.now.passed) c.args.group c.requires.valid c.args.start c.args.depth c.args.events.now c.args.at 128 _ _ c.loop-rank.cursor _ _ c.loop-rank.invariant _ _ (entry-nested c.args.layout.now.words.now c.args.table.now.fields.now c.args.table.now.message.now c.args.group c.args.start c.loop-rank.cursor _ (level-step c.args.layout.now.words.now c.args.group _ _ _ _ c.entry_level-level.ensures.members c.entry_level-level.ensures.delimiter c.entry_level-level.ensures.tags c.entry_level-level.ensures.first c.args.table.now.fields.now c.args.start c.loop-rank.cursor _ c.step_at.ensures) _ _ _ c.in-Nested.is).0 _ _ c.insert_rank-fresh-in-Nested.ensures.tags c.insert_rank-fresh-in-Nested.ensures.fresh _ c.count_tag_at-tag.ensures _ _ c.put_repeat-to-in-Nested.ensures _ refl _ (entry-nested c.args.layout.now.words.now c.args.table.now.fields.now c.args.table.now.message.now c.args.group c.args.start c.loop-rank.cursor _ (level-step c.args.layout.now.words.now c.args.group _ _ _ _ c.entry_level-level.ensures.members c.entry_level-level.ensures.delimiter c.entry_level-level.ensures.tags c.entry_level-level.ensures.first c.args.table.now.fields.now c.args.start c.loop-rank.cursor _ c.step_at.ensures) _ _ _ c.in-Nested.is).1 _ _ _ _ c.entry_level-level.ensures.members c.walk_group-nested.ensures
 
 -- let count = seen.close(members.len());
 pub scan_wide-close-count-requires : goal.scan_wide-close-count-requires
@@ -249,7 +249,7 @@ walk_group-loop-member-preserved-then-level-le256 t c = let opened : EntryOpened
     elim c.match-opening_at.branch [
       | walk_group-in-Entry w ↦ let begins = turn-entry c.args.layout.now.words.now c.args.table.now.fields.now c.args.table.now.message.now c.args.enclosing.now.words.now c.args.group c.count_at-declared.result c.loop-member.entries c.loop-member.cursor _ (level-turn c.args.layout.now.words.now c.args.group _ _ c.entry_level-level.ensures.members c.entry_level-level.ensures.delimiter c.args.table.now.fields.now c.args.enclosing.now.words.now c.count_at-declared.result c.loop-member.entries c.loop-member.cursor _ c.opening_at.ensures) w.in-Entry.is in entry-opens c.args.layout.now.words.now c.args.table.now.fields.now c.args.table.now.message.now c.args.enclosing.now.words.now (is_layout-passed gate_limits _ c.args.layout.now.passed) c.args.group c.requires.valid c.args.index c.args.depth _ _ (omega (arith, c.len.ensures, c.if-len-index.false)) c.if-depth-gt32.false c.count_at-declared.result c.count_at-declared.ensures _ c.count_tag_at-tag.ensures _ _ c.loop-member.cursor c.loop-member.entries c.loop-member.unparseable c.loop-member.invariant begins.0 begins.1 _ w.events-is _ w.to-is _ w.unparseable-is
       | walk_group-in-Lead w ↦ let leads = turn-lead c.args.layout.now.words.now c.args.table.now.fields.now c.args.table.now.message.now c.args.enclosing.now.words.now c.args.group c.count_at-declared.result c.loop-member.entries c.loop-member.cursor _ (level-turn c.args.layout.now.words.now c.args.group _ _ c.entry_level-level.ensures.members c.entry_level-level.ensures.delimiter c.args.table.now.fields.now c.args.enclosing.now.words.now c.count_at-declared.result c.loop-member.entries c.loop-member.cursor _ c.opening_at.ensures) _ w.in-Lead.is in lead-opens c.args.layout.now.words.now c.args.table.now.fields.now c.args.table.now.message.now c.args.enclosing.now.words.now (is_layout-passed gate_limits _ c.args.layout.now.passed) c.args.group c.requires.valid c.args.index c.args.depth _ _ (omega (arith, c.len.ensures, c.if-len-index.false)) c.if-depth-gt32.false c.count_at-declared.result c.count_at-declared.ensures _ c.count_tag_at-tag.ensures _ _ c.loop-member.cursor c.loop-member.entries c.loop-member.unparseable c.loop-member.invariant leads.0 leads.1 _ leads.2 _ _ w.put_event-to.ensures _ w.events-is _ w.to-is _ w.unparseable-is
-    ] in opened.adds _ _ _ _ _ c.scan_entry-entry.ensures _ _ c.put_event-to-then-level-le256.ensures _ c.either-unparseable.ensures
+    ] in opened.adds _ _ _ _ _ c.scan_entry-entry.ensures _ _ c.put_event-to-then-level-le256.ensures _ refl
 
 -- let entry = scan_wide(fields, message, words, group, cursor, depth, events, to);
 pub walk_group-scan_wide-entry-requires : goal.walk_group-scan_wide-entry-requires
@@ -290,7 +290,7 @@ walk_group-loop-member-preserved t c = let opened : EntryOpened c.args.layout.no
     elim c.match-opening_at.branch [
       | walk_group-in-Entry w ↦ let begins = turn-entry c.args.layout.now.words.now c.args.table.now.fields.now c.args.table.now.message.now c.args.enclosing.now.words.now c.args.group c.count_at-declared.result c.loop-member.entries c.loop-member.cursor _ (level-turn c.args.layout.now.words.now c.args.group _ _ c.entry_level-level.ensures.members c.entry_level-level.ensures.delimiter c.args.table.now.fields.now c.args.enclosing.now.words.now c.count_at-declared.result c.loop-member.entries c.loop-member.cursor _ c.opening_at.ensures) w.in-Entry.is in entry-opens c.args.layout.now.words.now c.args.table.now.fields.now c.args.table.now.message.now c.args.enclosing.now.words.now (is_layout-passed gate_limits _ c.args.layout.now.passed) c.args.group c.requires.valid c.args.index c.args.depth _ _ (omega (arith, c.len.ensures, c.if-len-index.false)) c.if-depth-gt32.false c.count_at-declared.result c.count_at-declared.ensures _ c.count_tag_at-tag.ensures _ _ c.loop-member.cursor c.loop-member.entries c.loop-member.unparseable c.loop-member.invariant begins.0 begins.1 _ w.events-is _ w.to-is _ w.unparseable-is
       | walk_group-in-Lead w ↦ let leads = turn-lead c.args.layout.now.words.now c.args.table.now.fields.now c.args.table.now.message.now c.args.enclosing.now.words.now c.args.group c.count_at-declared.result c.loop-member.entries c.loop-member.cursor _ (level-turn c.args.layout.now.words.now c.args.group _ _ c.entry_level-level.ensures.members c.entry_level-level.ensures.delimiter c.args.table.now.fields.now c.args.enclosing.now.words.now c.count_at-declared.result c.loop-member.entries c.loop-member.cursor _ c.opening_at.ensures) _ w.in-Lead.is in lead-opens c.args.layout.now.words.now c.args.table.now.fields.now c.args.table.now.message.now c.args.enclosing.now.words.now (is_layout-passed gate_limits _ c.args.layout.now.passed) c.args.group c.requires.valid c.args.index c.args.depth _ _ (omega (arith, c.len.ensures, c.if-len-index.false)) c.if-depth-gt32.false c.count_at-declared.result c.count_at-declared.ensures _ c.count_tag_at-tag.ensures _ _ c.loop-member.cursor c.loop-member.entries c.loop-member.unparseable c.loop-member.invariant leads.0 leads.1 _ leads.2 _ _ w.put_event-to.ensures _ w.events-is _ w.to-is _ w.unparseable-is
-    ] in opened.adds _ _ _ _ _ c.scan_wide-entry.ensures _ _ c.put_event-to-else-level-le256.ensures _ c.either-unparseable-else-level-le256.ensures
+    ] in opened.adds _ _ _ _ _ c.scan_wide-entry.ensures _ _ c.put_event-to-else-level-le256.ensures _ refl
 
 -- let past = put_end(events, to, tag, depth, declared, unparseable, entries);
 pub walk_group-put_end-past-requires : goal.walk_group-put_end-past-requires

@@ -1,7 +1,7 @@
 -- `layouts::put_layout::put_places` meets its contract. The loop's invariant is `PlacesSoFar`; the laws are those of
 -- specs/GatheredLayoutLaws.antt.
 use Prim.Native.Nat.{ℕ}
-use mathlib.Core.Path.{◌∙◌, ap}
+use mathlib.Core.Path.{refl, ◌∙◌, ap}
 use native.Mathlib.Omega.{arith}
 use lib.ListN.{length-set, set}
 use Rattle.layouts.specs.GatheredLayoutLaws.{places-begin, places-go_on, places-fit, places-end}
@@ -14,10 +14,10 @@ loop-index-init c = let start : c.args.field + 0 ≡ c.args.field = omega arith 
 
 -- words[to + 1 + index] = narrow(first + end);
 pub overflow_add-first : goal.overflow_add-first
-overflow_add-first c = omega (arith, places-fit c.args.rows.now c.args.first c.args.field c.args.count c.loop-index.index _ c.loop-index.invariant.at_place c.loop-index-test.true c.requires.3 _ c.wide-end.ensures)
+overflow_add-first c = omega (arith, places-fit c.args.rows.now c.args.first c.args.field c.args.count c.loop-index.index _ c.loop-index.invariant.at_place c.loop-index-test.true c.requires.3 _ refl)
 
 pub narrow-requires-in-loop-index : goal.narrow-requires-in-loop-index
-narrow-requires-in-loop-index c = places-fit c.args.rows.now c.args.first c.args.field c.args.count c.loop-index.index _ c.loop-index.invariant.at_place c.loop-index-test.true c.requires.3 _ c.wide-end.ensures
+narrow-requires-in-loop-index c = places-fit c.args.rows.now c.args.first c.args.field c.args.count c.loop-index.index _ c.loop-index.invariant.at_place c.loop-index-test.true c.requires.3 _ refl
 
 pub bounds-words-to-in-loop-index : goal.bounds-words-to-in-loop-index
 bounds-words-to-in-loop-index c = omega (arith, c.loop-index.invariant.storing.same, length-set c.args.words.now c.args.to c.narrow.result)
@@ -25,7 +25,7 @@ bounds-words-to-in-loop-index c = omega (arith, c.loop-index.invariant.storing.s
 pub loop-index-preserved : goal.loop-index-preserved
 loop-index-preserved c =
     let next : c.args.field + 6 * (c.loop-index.index + 1) ≡ c.args.field + 6 * c.loop-index.index + 6 = omega arith in
-    rw next (places-go_on _ _ _ _ _ _ _ _ _ c.loop-index.invariant c.loop-index-test.true _ (c.narrow-in-loop-index.ensures ∙ ap (λ (end : ℕ). c.args.first + end) c.wide-end.ensures))
+    rw next (places-go_on _ _ _ _ _ _ _ _ _ c.loop-index.invariant c.loop-index-test.true _ (c.narrow-in-loop-index.ensures ∙ ap (λ (end : ℕ). c.args.first + end) refl))
 
 -- fn put_places(words: &mut [u32], to: usize, first: usize, rows: &[u32], field: usize, count: usize)
 pub shape_of-words : goal.shape_of-words
