@@ -1,14 +1,13 @@
 // Reading a level from the trace of an expansion (specs/ArrangeTrace.antt): its own members, required tags and groups.
 ghost use Rattle.std.specs.Prelude.{◌≡◌, ◌≤◌, length};
-ghost use Rattle.expansion.specs.Trace.{tag_in, count_tag_in};
 ghost use Rattle.ascending.specs.Sort.{sorted};
 ghost use Rattle.ascending.specs.Dedup.{deduped, deduped_in};
 ghost use Rattle.arrange_level.specs.ArrangeTrace.{own_at, kept_required, kept_in};
 ghost use Rattle.arrange_level.specs.ArrangeLevelLaws.{Passes, ReadRoom, OwnRead};
 
 use ascending::dedup::dedup;
-use expansion::builder::{ADDS_MEMBER, ADDS_REQUIRED, ENTERS_GROUP, LEAVES_GROUP};
 use expansion::required::retain;
+use expansion::step::Step;
 use sorting::sort::sort_unstable;
 
 // Where the members and the required tags of a level end, how many groups stand in it, and the delimiter of its group, 0 for the top.
@@ -20,20 +19,6 @@ pub struct OwnLevel {
     pub delimiter: u32,
 }
 
-// The tag in a word of the trace.
-pub fn tag_in(word: u64) -> u32
-    ensures { result ≡ tag_in word }
-{
-    (word / 4 % 4294967296) as u32
-}
-
-// The count tag in a word that enters a group.
-pub fn count_tag_in(word: u64) -> u32
-    ensures { result ≡ count_tag_in word }
-{
-    (word / 8 % 4294967296) as u32
-}
-
 // The place after the word that leaves the group that is open at `place`.
 pub fn behind_group(trace: &[u64], place: usize) -> usize
     requires { place ≤ length trace.now }
@@ -41,14 +26,15 @@ pub fn behind_group(trace: &[u64], place: usize) -> usize
 {
     let mut groups: usize = 1;
     for index in place..trace.len() {
-        let step = trace[index] % 4;
-        if step == ENTERS_GROUP {
-            groups += 1;
-        } else if step == LEAVES_GROUP {
-            if groups == 1 {
-                return index + 1;
+        match Step::from(trace[index]) {
+            Step::Enter(_, _) => groups += 1,
+            Step::Leave(_) => {
+                if groups == 1 {
+                    return index + 1;
+                }
+                groups -= 1;
             }
-            groups -= 1;
+            _ => {}
         }
     }
     trace.len()
@@ -74,29 +60,32 @@ pub fn read_level(
     let mut group = 0;
     // no `for`: the place jumps over the groups inside
     while place < trace.len() {
-        let word = trace[place];
+        let step = Step::from(trace[place]);
         place += 1;
-        let step = word % 4;
-        if step == ADDS_MEMBER {
-            members[past] = tag_in(word);
-            past += 1;
-        } else if step == ADDS_REQUIRED {
-            required[later] = tag_in(word);
-            later += 1;
-        } else if step == ENTERS_GROUP {
-            let tag = count_tag_in(word);
-            members[past] = tag;
-            past += 1;
-            tags[group] = tag;
-            group += 1;
-            place = behind_group(trace, place);
-        } else {
-            return OwnLevel {
-                members: past,
-                required: later,
-                groups: group,
-                delimiter: tag_in(word),
-            };
+        match step {
+            Step::Member(tag) => {
+                members[past] = tag;
+                past += 1;
+            }
+            Step::Required(tag) => {
+                required[later] = tag;
+                later += 1;
+            }
+            Step::Enter(tag, _) => {
+                members[past] = tag;
+                past += 1;
+                tags[group] = tag;
+                group += 1;
+                place = behind_group(trace, place);
+            }
+            Step::Leave(delimiter) => {
+                return OwnLevel {
+                    members: past,
+                    required: later,
+                    groups: group,
+                    delimiter,
+                };
+            }
         }
     }
     OwnLevel {

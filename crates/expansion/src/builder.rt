@@ -3,8 +3,9 @@
 ghost use Rattle.std.specs.Prelude.{◌≡◌, ◌+◌, ◌<◌};
 ghost use Rattle.layouts.specs.Limits.{gate_limits};
 ghost use Rattle.expansion.specs.Expansion.{add_member, add_required, add_field};
-ghost use Rattle.expansion.specs.Trace.{Fits, Adds, SpendsNode, Grows, Entering, Enters, Leaves};
+ghost use Rattle.expansion.specs.Trace.{Fits, Adds, SpendsNode, Grows, Enters, Leaves};
 
+use crate::step::Step;
 use refusals::refusal::Refusal;
 
 // Document 01: "one of 4,096 nodes", "members of all levels may number 8,192 and the entries of all required lists 2,048".
@@ -14,16 +15,8 @@ pub const MEMBERS: usize = 8192;
 
 pub const REQUIRED: usize = 2048;
 
-// The steps that a word of the trace tells of, in its two lowest bits (specs/Trace.antt).
-pub const ADDS_MEMBER: u64 = 0;
-
-pub const ADDS_REQUIRED: u64 = 1;
-
-pub const ENTERS_GROUP: u64 = 2;
-
-pub const LEAVES_GROUP: u64 = 3;
-
-// What was spent and added so far, and how many words of the trace it takes.
+// What was spent and added so far, and how many words of the trace it takes. That it `Fits` is asked of
+// each step and is no ghost field: specs/ writes builders as these four numbers, and each would carry its proof.
 #[derive(Clone, Copy)]
 pub struct Builder {
     pub nodes: usize,
@@ -32,7 +25,8 @@ pub struct Builder {
     pub len: usize,
 }
 
-// Why nothing more is added. The Rust's builder goes on past an error; the gate stops at the first.
+// Why nothing more is added. The Rust's builder goes on past an error; the gate stops at the first. An
+// enum of its own, since only a refusal is the call's answer: a full trace is tried again with more words.
 #[derive(Clone, Copy)]
 pub enum Stop {
     Error(Refusal),
@@ -70,7 +64,7 @@ pub fn add_member(trace: &mut [u64], builder: Builder, tag: u32) -> Result<Build
     if builder.len >= trace.len() {
         return Err(Stop::NoRoom);
     }
-    trace[builder.len] = u64::from(tag) * 4 + ADDS_MEMBER;
+    trace[builder.len] = u64::from(Step::Member(tag));
     Ok(Builder {
         members: builder.members + 1,
         len: builder.len + 1,
@@ -90,7 +84,7 @@ pub fn add_required(trace: &mut [u64], builder: Builder, tag: u32) -> Result<Bui
     if builder.len >= trace.len() {
         return Err(Stop::NoRoom);
     }
-    trace[builder.len] = u64::from(tag) * 4 + ADDS_REQUIRED;
+    trace[builder.len] = u64::from(Step::Required(tag));
     Ok(Builder {
         required: builder.required + 1,
         len: builder.len + 1,
@@ -117,17 +111,6 @@ pub fn add_field(
     }
 }
 
-// The word of a group that is entered.
-fn entering(count: u32, required: bool) -> u64
-    ensures { Entering count required result }
-{
-    if required {
-        u64::from(count) * 8 + 6
-    } else {
-        u64::from(count) * 8 + 2
-    }
-}
-
 // Enters a group whose node is spent: its count tag is a member of the level in work, and its delimiter the first of its entry level.
 pub fn enter_group(
     trace: &mut [u64],
@@ -140,15 +123,14 @@ pub fn enter_group(
     ensures change { Enters count required delimiter builder trace.old result trace.new }
     ensures grows { Grows builder result }
 {
-    let word = entering(count, required);
     if builder.members + 1 >= MEMBERS {
         return Err(Stop::Error(Refusal::MembersOver));
     }
     if builder.len + 1 >= trace.len() {
         return Err(Stop::NoRoom);
     }
-    trace[builder.len] = word;
-    trace[builder.len + 1] = u64::from(delimiter) * 4 + ADDS_MEMBER;
+    trace[builder.len] = u64::from(Step::Enter(count, required));
+    trace[builder.len + 1] = u64::from(Step::Member(delimiter));
     Ok(Builder {
         members: builder.members + 2,
         len: builder.len + 2,
@@ -164,7 +146,7 @@ pub fn leave_group(trace: &mut [u64], builder: Builder, delimiter: u32) -> Resul
     if builder.len >= trace.len() {
         return Err(Stop::NoRoom);
     }
-    trace[builder.len] = u64::from(delimiter) * 4 + LEAVES_GROUP;
+    trace[builder.len] = u64::from(Step::Leave(delimiter));
     Ok(Builder {
         len: builder.len + 1,
         ..builder

@@ -3,3 +3,4 @@
 
 pub mod builder;
 pub mod required;
+pub mod step;

@@ -1,6 +1,5 @@
 -- `expansion::builder::add_member` meets its contract, within the limit and over it, by the laws of specs/TraceLaws.antt.
 use Rattle.expansion.specs.TraceLaws.{adds_member, adds-member_full, adds-member_over, member-grows, grown_grows, stopped_grows}
-use Rattle.std.proofs.Common.{◌≡◌, ◌+◌, ◌*◌, arith}
 use Rattle.expansion.proofs.builder.add_member.Goals as goal
 
 pub returns-then-builder-ge-MEMBERS : goal.returns-then-builder-ge-MEMBERS
@@ -17,6 +16,6 @@ returns-then-builder-trace c = record {
 
 pub returns : goal.returns
 returns c = record {
-  change = let word : c.from.result * 4 + 0 ≡ c.args.tag * 4 = omega (arith, c.from.ensures) in rw word (adds_member _ _ _ c.ranges.tag.fits c.requires c.if-builder-ge-MEMBERS.false c.if-builder-trace.false);
+  change = rw c.from.ensures (adds_member _ _ _ c.ranges.tag.fits c.requires c.if-builder-ge-MEMBERS.false c.if-builder-trace.false);
   grows = grown_grows _ _ (member-grows _ c.args.trace.now c.args.tag c.ranges.tag.fits c.requires c.if-builder-ge-MEMBERS.false);
 }
