@@ -10,6 +10,7 @@ use line_forms::line::line_of;
 use lines::text_lines::TextLines;
 use put_dictionary::index_words::put_index;
 use put_dictionary::record_words::put_record;
+use records::record_kind::RecordKind;
 use refusals::refusal::Refusal;
 use texts::dictionary_text::Counts;
 
@@ -64,9 +65,15 @@ fn put_dictionary(text: &[u8], counts: Counts, words: &mut [u32])
     let tags_at = 4 + 10 * lines;
     let components_at = tags_at + 2 * tags;
     let messages_at = components_at + 2 * components;
-    put_index(words, lines, 1, tags_at, tags);
-    put_index(words, lines, 5, components_at, components);
-    put_index(words, lines, 6, messages_at, messages);
+    put_index(words, lines, RecordKind::Def, tags_at, tags);
+    put_index(
+        words,
+        lines,
+        RecordKind::Component,
+        components_at,
+        components,
+    );
+    put_index(words, lines, RecordKind::Message, messages_at, messages);
 }
 
 // Writes the dictionary of an accepted text where the words are enough.
