@@ -1,7 +1,7 @@
 -- Laws of `LineParts.antt`, in its order. Assumes nothing.
-use Rattle.std.specs.Prelude.{◌≡◌, refl, ℕ, ◌+◌, ◌-◌, ◌^◌, ◌≤◌, ◌<◌, Bool, ◌&&◌, not, cond, List, [], ◌∷◌, leb, ltb, eqb, length, get_or, take, drop, Option, Some, None}
+use Rattle.std.specs.Prelude.{◌≡◌, refl, ℕ, ◌+◌, ◌-◌, ◌^◌, ◌≤◌, ◌<◌, Bool, ◌&&◌, not, cond, List, [], ◌∷◌, leb, ltb, eqb, length, get_or, take, drop, Option, Some, None, Result, Ok, Err}
 use Rattle.std.proofs.Math.Path.{sym}
-use Rattle.std.proofs.Common.{ap, ◌∙◌, arith, length-drop, take_all, le-ltb, ltb-false, eqb-true, le-leb}
+use Rattle.std.proofs.Common.{ap, ◌∙◌, arith, length-drop, take_all, le-ltb, lt-ltb, ltb-true, ltb-false, eqb-true, le-leb}
 use Rattle.std.proofs.Math.Bool.{true, false}
 use Rattle.std.proofs.lemmas.Bool.{eqb-false, lt-leb}
 use Rattle.ascii.specs.Notation.{is_between}
@@ -9,8 +9,12 @@ use Rattle.ascii.specs.NotationLaws.{and-false, is_between-below}
 use Rattle.ascii.specs.Bytes.{every}
 use Rattle.ascii.specs.Digits.{is_digits, decimal}
 use Rattle.counts.specs.Count.{count_of}
-use Rattle.lines.specs.Lines.{position_of, is_same, cut, comma}
-use Rattle.lines.specs.LinesLaws.{cut-at_piece, cut-at_last}
+use Rattle.lines.specs.Lines.{position_of, is_same, Pieces, last, piece, cut, comma}
+use Rattle.std.specs.Result.{OkIff, result_ok}
+use Rattle.std.specs.List.{position, position_from, slice_split}
+use Rattle.std.proofs.lemmas.Iterator.Adapters.{position_from-zero}
+use Rattle.std.proofs.lemmas.List.Quantifiers.{position-Some}
+use Rattle.lines.specs.LinesLaws.{cut-at_piece, cut-at_last, pieces_listed, cut-split, pieces_few}
 use Rattle.lines.specs.LineParts.{no_leading_zero, number_of, flag_of, type_in, word_at, is_alphanumeric, message_type_of, is_visible, admitted_bytes, value_of}
 
 -- ---- no_leading_zero
@@ -37,6 +41,15 @@ number_of_leading_zero bytes zero-first = rw zero-first
 abbrev pub number_from : Option ℕ → Option ℕ
 number_from (Some count) = cond (ltb count (2 ^ 32)) (Some count) None
 number_from None = None
+
+-- as `u32::try_from` gives it
+pub word_of_count : {E : Type 0} (given : Result ℕ E) (count : ℕ) → OkIff given (count < 4294967296) count → result_ok given ≡ number_from (Some count)
+word_of_count (Ok word) count fits = rw (lt-ltb count 4294967296 fits.0, fits.1)
+word_of_count (Err error) count large = by (ltb count 4294967296) refl
+  where
+    by : (test : Bool) → ltb count 4294967296 ≡ test → None ≡ cond test (Some count) None
+    by true small = absurd (large (ltb-true count 4294967296 small))
+    by false over = refl
 
 below-count : (n : ℕ) (fits : Bool) → ltb n (2 ^ 64) ≡ fits → cond (ltb n (2 ^ 32)) (Some n) None ≡ number_from (cond fits (Some n) None)
 below-count n true test = refl
@@ -92,6 +105,24 @@ module _ (name : List ℕ) (number : ℕ) (names : List ℕ) (first past : ℕ) 
     pub type-further : (past ≡ length names → ⊥) → type_in name number (cut comma (drop first names)) ≡ type_in name (number + 1) (cut comma (drop (past + 1) names))
     unfolding type_in
     type-further before-end = rw (cut-at_piece comma names first past within found before-end, other)
+
+-- the same, among the names that the library's `split` gives
+type_in-from : (name : List ℕ) (number : ℕ) (pieces : Pieces) → position_from (is_same name) number (pieces_listed pieces) ≡ type_in name number pieces
+unfolding type_in pieces_listed
+type_in-from name number (last bytes) = refl
+type_in-from name number (piece bytes others) = ap (λ (goes_on : Option ℕ). cond (is_same name bytes) (Some number) goes_on) (type_in-from name (number + 1) others)
+
+module _ (name names : List ℕ) where
+  pub type_in-position : position (is_same name) (slice_split (λ each. eqb each comma) names) ≡ type_in name 0 (cut comma names)
+  type_in-position =
+      position_from-zero (is_same name) (slice_split (λ each. eqb each comma) names)
+      ∙ ap (position_from (is_same name) 0) (sym (cut-split comma names))
+      ∙ type_in-from name 0 (cut comma names)
+
+  pub type_in-few : (place : ℕ) → type_in name 0 (cut comma names) ≡ Some place → place ≤ length names
+  type_in-few place found =
+      let here = position-Some (is_same name) (slice_split (λ each. eqb each comma) names) place [] (type_in-position ∙ found) in
+      omega (arith, here.0, ap length (cut-split comma names), pieces_few comma names)
 
 -- ---- is_alphanumeric
 

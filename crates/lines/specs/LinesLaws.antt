@@ -1,16 +1,19 @@
 -- Laws of `Lines.antt`, in its order. Where a search from `first` finds a byte at `past`, the part between is a piece. Assumes nothing.
-use Rattle.std.specs.Prelude.{◌≡◌, ℕ, zero, suc, ◌+◌, ◌-◌, ◌≤◌, ◌<◌, Bool, not, cond, eqb, length, get_or, take, drop, ◌++◌, ltb, Some, None}
-use Rattle.std.specs.List.{position, position_or_len}
+use Rattle.std.specs.Prelude.{◌≡◌, ℕ, zero, suc, ◌+◌, ◌-◌, ◌≤◌, ◌<◌, Bool, not, ◌&&◌, cond, eqb, length, get_or, take, drop, ◌++◌, ltb, Some, None}
+use Rattle.std.specs.List as List
+use Rattle.std.specs.Cmp.Lexicographic.{pointwise}
+use Rattle.std.specs.List.{position, position_or_len, slice_split, onto_first}
 use Rattle.std.proofs.Math.Path.{refl, ap}
-use Rattle.std.proofs.Common.{sym, ◌∙◌, arith, length-drop, drop-drop, eqb-true, ltb-true, ltb-false}
+use Rattle.std.proofs.Common.{sym, ◌∙◌, arith, length-drop, drop-drop, take_all, eqb-true, ltb-true, ltb-false}
 use Rattle.std.proofs.Math.Bool.{true, false}
+use Rattle.std.proofs.Math.Dec.{eqb-suc-suc}
 use Rattle.std.proofs.lemmas.Bool.{false≢true}
 use mathlib.Core.List.{List, [], ◌∷◌}
 use Rattle.std.proofs.Math.ListN.{drop_of_length-le}
 use borrow.Author.Tests.{eq-eqb, ne_eqb}
 use Rattle.ascii.specs.NotationLaws.{and_right}
 use Rattle.ascii.specs.BytesLaws.{drop-step}
-use Rattle.lines.specs.Lines.{position_of, before, behind, starts_with, is_same, last, piece, longer, cut}
+use Rattle.lines.specs.Lines.{position_of, before, behind, starts_with, is_same, Pieces, last, piece, longer, cut}
 
 -- ---- position_of
 
@@ -84,6 +87,17 @@ unfolding position_of
 position_of-split byte [] place is inside = absurd (omega arith)
 position_of-split byte (first ∷ rest) place is inside = split_by byte first rest (eqb first byte) refl place is inside (position_of-split byte rest)
 
+-- in what stands from `first` on
+module _ (byte : ℕ) (bytes : List ℕ) (first : ℕ) (within : first ≤ length bytes) where
+  pub position_of-place : (place : ℕ) → position (λ each. eqb each byte) (drop first bytes) ≡ Some place
+      → (first + place ≡ first + position_of byte (drop first bytes)) × (first + place ≤ length bytes)
+  position_of-place place found =
+      let here = position_of-found byte (drop first bytes) place found in
+      (omega (arith, here.0), omega (arith, here.1, length-drop first bytes))
+
+  pub position_of-end : position (λ each. eqb each byte) (drop first bytes) ≡ None → length bytes ≡ first + position_of byte (drop first bytes)
+  position_of-end missing = omega (arith, position_of-missing byte (drop first bytes) missing, length-drop first bytes)
+
 -- ---- before, behind
 
 module _ (byte : ℕ) (bytes : List ℕ) (place : ℕ) (found : place ≡ 0 + position_of byte bytes) where
@@ -99,7 +113,30 @@ module _ (byte : ℕ) (bytes : List ℕ) (place : ℕ) (found : place ≡ 0 + po
       let at : length bytes ≤ place = omega arith in
       drop_of_length-le bytes at ∙ sym (drop_of_length-le bytes over)
 
+-- the same, where the library's `position` looks for the byte
+module _ (byte : ℕ) (bytes : List ℕ) where
+  module _ (place : ℕ) (found : position (λ each. eqb each byte) bytes ≡ Some place) where
+    pub before-place : take place bytes ≡ before byte bytes
+    before-place = rw (position_of-found byte bytes place found).0
+
+    pub behind-place : drop (place + 1) bytes ≡ behind byte bytes
+    behind-place = behind-found byte bytes place (omega (arith, position_of-found byte bytes place found))
+
+  module _ (missing : position (λ each. eqb each byte) bytes ≡ None) where
+    pub before-all : bytes ≡ before byte bytes
+    before-all = sym (take_all (position_of byte bytes) bytes (omega (arith, position_of-missing byte bytes missing)))
+
+    pub behind-none : [] ≡ behind byte bytes
+    behind-none = let over : length bytes ≤ suc (position_of byte bytes) = omega (arith, position_of-missing byte bytes missing) in sym (drop_of_length-le bytes over)
+
 -- ---- starts_with
+
+-- the library's `starts_with`
+pub starts_with-library : (key bytes : List ℕ) → List.starts_with eqb bytes key ≡ starts_with key bytes
+unfolding starts_with
+starts_with-library [] bytes = refl
+starts_with-library (byte ∷ key) [] = refl
+starts_with-library (byte ∷ key) (first ∷ rest) = ap (λ (others : Bool). eqb byte first && others) (starts_with-library key rest)
 
 -- the bytes from `index` on, of a key and of what it is held against
 module _ (key bytes : List ℕ) (index : ℕ) where
@@ -132,6 +169,23 @@ starts_with_length (byte ∷ key) [] starts = absurd (false≢true starts)
 starts_with_length (byte ∷ key) (first ∷ rest) starts = omega (arith, starts_with_length key rest (and_right (eqb byte first) (starts_with key rest) starts))
 
 -- ---- is_same
+
+-- the library's `==`
+same-by : (one long rest : Bool) → (one && (long && rest)) ≡ (long && (one && rest))
+same-by true true rest = refl
+same-by true false rest = refl
+same-by false true rest = refl
+same-by false false rest = refl
+
+pub is_same-library : (name bytes : List ℕ) → pointwise eqb name bytes ≡ is_same name bytes
+unfolding is_same starts_with
+is_same-library [] [] = refl
+is_same-library [] (first ∷ rest) = rw (ne_eqb 0 (suc (length rest)) (λ same. absurd (omega (arith, same))))
+is_same-library (byte ∷ name) [] = rw (ne_eqb (suc (length name)) 0 (λ same. absurd (omega (arith, same))))
+is_same-library (byte ∷ name) (first ∷ rest) =
+    ap (λ (others : Bool). eqb byte first && others) (is_same-library name rest)
+    ∙ same-by (eqb byte first) (eqb (length name) (length rest)) (starts_with name rest)
+    ∙ ap (λ (long : Bool). long && (eqb byte first && starts_with name rest)) (sym (eqb-suc-suc (length name) (length rest)))
 
 module _ (name bytes : List ℕ) where
   pub is_same-other_length : (length name ≡ length bytes → ⊥) → is_same name bytes ≡ false
@@ -192,3 +246,37 @@ module _ (byte : ℕ) where
 pub cut-nothing : (byte : ℕ) (bytes : List ℕ) (first : ℕ) → length bytes ≤ first → cut byte (drop first bytes) ≡ last []
 unfolding cut
 cut-nothing byte bytes first over = rw (drop_of_length-le bytes over)
+
+-- the pieces as a list, which the library's `split` gives
+unfoldable pub pieces_listed : Pieces → List (List ℕ)
+pieces_listed (last bytes) = bytes ∷ []
+pieces_listed (piece bytes others) = bytes ∷ pieces_listed others
+
+listed-longer : (byte : ℕ) (pieces : Pieces) → pieces_listed (longer byte pieces) ≡ onto_first byte (pieces_listed pieces)
+unfolding pieces_listed longer
+listed-longer byte (last bytes) = refl
+listed-longer byte (piece bytes others) = refl
+
+pub cut-split : (byte : ℕ) (bytes : List ℕ) → pieces_listed (cut byte bytes) ≡ slice_split (λ each. eqb each byte) bytes
+unfolding pieces_listed cut
+cut-split byte [] = refl
+cut-split byte (first ∷ rest) = by (eqb first byte) (cut-split byte rest)
+  where
+    by : (here : Bool) → pieces_listed (cut byte rest) ≡ slice_split (λ each. eqb each byte) rest
+        → pieces_listed (cond here (piece [] (cut byte rest)) (longer first (cut byte rest)))
+        ≡ cond here ([] ∷ slice_split (λ each. eqb each byte) rest) (onto_first first (slice_split (λ each. eqb each byte) rest))
+    by true same = ap {B = List (List ℕ)} (λ parts. [] ∷ parts) same
+    by false same = listed-longer first (cut byte rest) ∙ ap (onto_first first) same
+
+listed-by : (here : Bool) (first : ℕ) (pieces : Pieces) (len : ℕ) → length (pieces_listed pieces) ≤ len + 1
+    → length (pieces_listed (cond here (piece [] pieces) (longer first pieces))) ≤ suc len + 1
+unfolding pieces_listed longer
+listed-by true first pieces len few = omega (arith, few)
+listed-by false first (last bytes) len few = omega arith
+listed-by false first (piece bytes others) len few = omega (arith, few)
+
+-- one more than there are bytes at most
+pub pieces_few : (byte : ℕ) (bytes : List ℕ) → length (pieces_listed (cut byte bytes)) ≤ length bytes + 1
+unfolding pieces_listed cut
+pieces_few byte [] = omega arith
+pieces_few byte (first ∷ rest) = listed-by (eqb first byte) first (cut byte rest) (length rest) (pieces_few byte rest)

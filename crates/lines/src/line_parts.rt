@@ -5,7 +5,7 @@ ghost use Rattle.ascii.specs.Bytes.{every};
 ghost use Rattle.lines.specs.Lines.{cut, comma};
 ghost use Rattle.lines.specs.LineParts.{no_leading_zero, number_of, flag_of, type_in, type_of, word_at, is_alphanumeric, message_type_of, is_visible, admitted_bytes, value_of};
 
-use crate::lines::{is_same, position_of};
+use crate::lines::is_same;
 use counts::count::parse_count;
 
 // An admitted value V: how many bytes it has, and its bytes, four to a word, the first highest, 0 behind the last.
@@ -22,19 +22,10 @@ pub struct Admitted {
     pub word7: u32,
 }
 
-fn is_between(low: u8, high: u8, byte: u8) -> bool
-    ensures { result ≡ is_between low high byte }
-{
-    low <= byte && byte <= high
-}
-
 fn has_no_leading_zero(bytes: &[u8]) -> bool
     ensures { result ≡ no_leading_zero bytes.now }
 {
-    if bytes.len() <= 1 {
-        return true;
-    }
-    bytes[0] != b'0'
+    !matches!(bytes, [b'0', _, ..])
 }
 
 // TAG, COUNT, DELIMITER, N: 32-bit, without leading zeros; 0 is allowed.
@@ -44,27 +35,18 @@ pub fn parse_number(bytes: &[u8]) -> Option<u32>
     if !has_no_leading_zero(bytes) {
         return None;
     }
-    let count = parse_count(bytes)?;
-    if count < 0x1_0000_0000 {
-        return Some(count as u32);
-    }
-    None
+    u32::try_from(parse_count(bytes)?).ok()
 }
 
 // R: 1 for required, else 0.
 pub fn parse_flag(bytes: &[u8]) -> Option<bool>
     ensures { result ≡ flag_of bytes.now }
 {
-    if bytes.len() != 1 {
-        return None;
+    match bytes {
+        [b'1'] => Some(true),
+        [b'0'] => Some(false),
+        _ => None,
     }
-    if bytes[0] == b'1' {
-        return Some(true);
-    }
-    if bytes[0] == b'0' {
-        return Some(false);
-    }
-    None
 }
 
 // The place of the name among the names, which commas part.
@@ -72,19 +54,10 @@ fn type_in(names: &[u8], name: &[u8]) -> Option<u32>
     requires { length names.now < 1000 }
     ensures { result ≡ type_in name.now 0 (cut comma names.now) }
 {
-    let mut number: u32 = 0;
-    let mut first = 0;
-    loop {
-        let past = position_of(names, first, b',');
-        if is_same(&names[first..past], name) {
-            return Some(number);
-        }
-        if past == names.len() {
-            return None;
-        }
-        number += 1;
-        first = past + 1;
-    }
+    let place = names
+        .split(|byte| *byte == b',')
+        .position(|each| is_same(each, name))?;
+    u32::try_from(place).ok()
 }
 
 // TYPE: spelled as a FieldType.
@@ -97,16 +70,11 @@ pub fn parse_type(name: &[u8]) -> Option<u32>
     )
 }
 
-// The byte at the index, 0 behind the last.
-fn byte_at(bytes: &[u8], index: usize) -> u32
-    ensures byte { result ≡ get_or bytes.now index 0 }
-    ensures small { result < 256 }
+// The byte at the index, 0 after the last.
+fn byte_at(bytes: &[u8], index: usize) -> u8
+    ensures { result ≡ get_or bytes.now index 0 }
 {
-    if index < bytes.len() {
-        bytes[index] as u32
-    } else {
-        0
-    }
+    bytes.get(index).copied().unwrap_or(0)
 }
 
 // Four bytes from `first` on as one word, the first highest.
@@ -114,74 +82,34 @@ pub fn word_at(bytes: &[u8], first: usize) -> u32
     requires { first < 1000 }
     ensures { result ≡ word_at first bytes.now }
 {
-    let byte0 = byte_at(bytes, first);
-    let byte1 = byte_at(bytes, first + 1);
-    let byte2 = byte_at(bytes, first + 2);
-    let byte3 = byte_at(bytes, first + 3);
-    byte0 * 0x100_0000 + byte1 * 0x1_0000 + byte2 * 0x100 + byte3
+    u32::from_be_bytes([
+        byte_at(bytes, first),
+        byte_at(bytes, first + 1),
+        byte_at(bytes, first + 2),
+        byte_at(bytes, first + 3),
+    ])
 }
 
-// The Rust's u8::is_ascii_alphanumeric.
-fn is_ascii_alphanumeric(byte: u8) -> bool
-    ensures { result ≡ is_alphanumeric byte }
-{
-    if is_between(b'0', b'9', byte) {
-        return true;
-    }
-    if is_between(b'A', b'Z', byte) {
-        return true;
-    }
-    is_between(b'a', b'z', byte)
-}
-
+#[tactic(auto, unfolding(ascii::specs::Notation::is_between, crate::specs::LineParts::is_alphanumeric))]
 fn all_alphanumeric(bytes: &[u8]) -> bool
     ensures { result ≡ every is_alphanumeric bytes.now }
 {
-    let mut index = 0;
-    while index < bytes.len() {
-        let byte = bytes[index];
-        if !is_ascii_alphanumeric(byte) {
-            return false;
-        }
-        index += 1;
-    }
-    true
+    bytes.iter().all(|byte| byte.is_ascii_alphanumeric())
 }
 
 // T: 1 to 4 letters or digits.
+#[tactic(auto, unfolding(ascii::specs::Notation::is_between, crate::specs::LineParts::message_type_of))]
 pub fn parse_message_type(bytes: &[u8]) -> Option<u32>
     ensures { result ≡ message_type_of bytes.now }
 {
-    if bytes.len() < 1 {
-        return None;
-    }
-    if 4 < bytes.len() {
-        return None;
-    }
-    if !all_alphanumeric(bytes) {
-        return None;
-    }
-    Some(word_at(bytes, 0))
+    ((1..=4).contains(&bytes.len()) && all_alphanumeric(bytes)).then(|| word_at(bytes, 0))
 }
 
-fn is_visible(byte: u8) -> bool
-    ensures { result ≡ is_visible byte }
-{
-    is_between(0x21, 0x7E, byte)
-}
-
+#[tactic(auto, unfolding(ascii::specs::Notation::is_between))]
 fn all_visible(bytes: &[u8]) -> bool
     ensures { result ≡ every is_visible bytes.now }
 {
-    let mut index = 0;
-    while index < bytes.len() {
-        let byte = bytes[index];
-        if !is_visible(byte) {
-            return false;
-        }
-        index += 1;
-    }
-    true
+    bytes.iter().all(|byte| byte.is_ascii_graphic())
 }
 
 fn admitted_of(bytes: &[u8]) -> Admitted
@@ -202,17 +130,9 @@ fn admitted_of(bytes: &[u8]) -> Admitted
 }
 
 // V: 1 to 32 bytes, 21 to 7E hexadecimal.
+#[tactic(auto, unfolding(ascii::specs::Notation::is_between, crate::specs::LineParts::value_of))]
 pub fn parse_value(bytes: &[u8]) -> Option<Admitted>
     ensures { result ≡ value_of bytes.now }
 {
-    if bytes.len() < 1 {
-        return None;
-    }
-    if 32 < bytes.len() {
-        return None;
-    }
-    if !all_visible(bytes) {
-        return None;
-    }
-    Some(admitted_of(bytes))
+    ((1..=32).contains(&bytes.len()) && all_visible(bytes)).then(|| admitted_of(bytes))
 }

@@ -1,9 +1,8 @@
--- `lines::line_parts::word_at` meets its contract: four bytes, each below 256.
-use native.Mathlib.Omega.{arith}
+-- `lines::line_parts::word_at` meets its contract: the sum of four bytes.
+use Rattle.std.proofs.Common.{◌∙◌}
 use Rattle.lines.specs.LineParts.{word_at}
 use Rattle.lines.proofs.line_parts.word_at.Goals as goal
 
--- pub fn word_at(bytes: &[u8], first: usize) -> u32
 pub returns : goal.returns
 unfolding word_at
-returns c = omega (arith, c.byte_at-byte0.ensures.byte, c.byte_at-byte1.ensures.byte, c.byte_at-byte2.ensures.byte, c.byte_at-byte3.ensures.byte)
+returns c = c.from_be_bytes.ensures ∙ rw (c.byte_at.ensures, c.byte_at-2.ensures, c.byte_at-3.ensures, c.byte_at-4.ensures)

@@ -1,7 +1,10 @@
 -- `lines::lines::before` meets its contract, by specs/LinesLaws.antt.
-use Rattle.lines.specs.LinesLaws.{before-found}
+use Rattle.std.proofs.Common.{◌∙◌, sym}
+use Rattle.lines.specs.LinesLaws.{before-place, before-all}
 use Rattle.lines.proofs.lines.before.Goals as goal
 
--- pub fn before(bytes: &[u8], byte: u8) -> &[u8]
-pub returns : goal.returns
-returns c = before-found _ _ _ c.position_of-place.ensures.place
+pub returns-in-Some : goal.returns-in-Some
+returns-in-Some c = before-place _ _ _ (sym c.position.ensures ∙ c.in-Some.is)
+
+pub returns-in-None : goal.returns-in-None
+returns-in-None c = before-all _ _ (sym c.position.ensures ∙ c.in-None.is)
