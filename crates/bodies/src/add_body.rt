@@ -57,11 +57,11 @@ pub fn add_body(
     let mut so_far = builder;
     loop {
         match body_line(dictionary, at) {
-            BodyLine::Field(tag, required) => {
+            Some(BodyLine::Field(tag, required)) => {
                 so_far = add_field(trace, so_far, tag, collect && required)?;
                 at += 1;
             }
-            BodyLine::Group(count, delimiter, required) => {
+            Some(BodyLine::Group(count, delimiter, required)) => {
                 let group = GroupLine {
                     count,
                     delimiter,
@@ -74,15 +74,13 @@ pub fn add_body(
                 at = past;
                 so_far = filled;
             }
-            BodyLine::Use(name, required) => {
+            Some(BodyLine::Use(name, required)) => {
                 so_far = add_component(
                     dictionary, name, required, depth_left, path, collect, trace, so_far,
                 )?;
                 at += 1;
             }
-            BodyLine::Other => {
-                return Ok((at + 1, so_far));
-            }
+            None => return Ok((at + 1, so_far)),
         }
     }
 }

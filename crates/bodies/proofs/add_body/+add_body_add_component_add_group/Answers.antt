@@ -18,61 +18,61 @@ pub add_body-body_line-requires : goal.add_body-body_line-requires
 add_body-body_line-requires t c = body-inside c.args.dictionary.words32 c.args.dictionary.accepted c.loop-tag.invariant
 
 -- so_far = add_field(trace, so_far, tag, collect && required)?;
-pub add_body-returns-in_err-so_far-in-Field : goal.add_body-returns-in_err-so_far-in-Field
-add_body-returns-in_err-so_far-in-Field t c =
-    let needed : c.if-collect.add_field ≡ (c.args.collect && c.in-Field.required) =
+pub add_body-returns-in_err-so_far-in-Some-Field : goal.add_body-returns-in_err-so_far-in-Some-Field
+add_body-returns-in_err-so_far-in-Some-Field t c =
+    let needed : c.if-collect.add_field ≡ (c.args.collect && c.in-Some-Field.required) =
     elim c.if-collect.branch [ add_body-then-collect w ↦ rw (w.add_field-is, w.if-collect.true) refl | add_body-else-collect w ↦ rw (w.add_field-is, w.if-collect.false) refl ] in
     let p = err_from_is_err_and c.from_residual.result c.from_residual.ensures.1 in
-    rw (p.1, p.2) (body-field_over c.args.dictionary.words32 c.args.dictionary.accepted c.loop-tag.invariant _ _ _ c.in-Field.ensures needed _ _ c.in_err-so_far-in-Field.ensures.change)
+    rw (p.1, p.2) (body-field_over c.args.dictionary.words32 c.args.dictionary.accepted c.loop-tag.invariant _ _ _ (rw c.in-Some-Field.field-0-is at c.in-Some-Field.ensures) needed _ _ c.in_err-so_far-in-Some-Field.ensures.change)
 
 pub add_body-overflow_add-at : goal.add_body-overflow_add-at
 add_body-overflow_add-at t c = record { fits = body-next c.args.dictionary.words32 c.args.dictionary.accepted c.loop-tag.invariant }
 
-pub add_body-loop-tag-smaller-in-Field : goal.add_body-loop-tag-smaller-in-Field
-add_body-loop-tag-smaller-in-Field t c = omega (arith, body-inside c.args.dictionary.words32 c.args.dictionary.accepted c.loop-tag.invariant)
+pub add_body-loop-tag-smaller-in-Some-Field : goal.add_body-loop-tag-smaller-in-Some-Field
+add_body-loop-tag-smaller-in-Some-Field t c = omega (arith, body-inside c.args.dictionary.words32 c.args.dictionary.accepted c.loop-tag.invariant)
 
-pub add_body-loop-tag-preserved-in-Field : goal.add_body-loop-tag-preserved-in-Field
-add_body-loop-tag-preserved-in-Field t c =
-    let needed : c.if-collect.add_field ≡ (c.args.collect && c.in-Field.required) =
+pub add_body-loop-tag-preserved-in-Some-Field : goal.add_body-loop-tag-preserved-in-Some-Field
+add_body-loop-tag-preserved-in-Some-Field t c =
+    let needed : c.if-collect.add_field ≡ (c.args.collect && c.in-Some-Field.required) =
     elim c.if-collect.branch [ add_body-then-collect w ↦ rw (w.add_field-is, w.if-collect.true) refl | add_body-else-collect w ↦ rw (w.add_field-is, w.if-collect.false) refl ] in
-    body-field c.args.dictionary.words32 c.args.dictionary.accepted c.loop-tag.invariant _ _ _ c.in-Field.ensures needed _ _ c.in_ok-so_far-in-Field.ensures.change c.in_ok-so_far-in-Field.ensures.grows c.add_field.auto.trace
+    body-field c.args.dictionary.words32 c.args.dictionary.accepted c.loop-tag.invariant _ _ _ (rw c.in-Some-Field.field-0-is at c.in-Some-Field.ensures) needed _ _ c.in_ok-so_far-in-Some-Field.ensures.change c.in_ok-so_far-in-Some-Field.ensures.grows c.add_field.auto.trace
 
 -- first: at + 1,
 pub add_body-overflow_add-group : goal.add_body-overflow_add-group
 add_body-overflow_add-group t c = record { fits = body-next c.args.dictionary.words32 c.args.dictionary.accepted c.loop-tag.invariant }
 
 pub add_body-add_group-requires : goal.add_body-add_group-requires
-add_body-add_group-requires t c = (omega (arith, c.decreases, c.loop-tag.invariant.grown.spent), (record { deep = c.requires.0.deep; fits = c.loop-tag.invariant.grown.fits }, group-there c.args.dictionary.words32 c.args.dictionary.accepted c.loop-tag.invariant _ _ _ c.in-Group.ensures))
+add_body-add_group-requires t c = (omega (arith, c.decreases, c.loop-tag.invariant.grown.spent), (record { deep = c.requires.0.deep; fits = c.loop-tag.invariant.grown.fits }, group-there c.args.dictionary.words32 c.args.dictionary.accepted c.loop-tag.invariant _ _ _ (rw c.in-Some-Group.field-0-is at c.in-Some-Group.ensures)))
 
-pub add_body-returns-in_err-past-in-Group : goal.add_body-returns-in_err-past-in-Group
-add_body-returns-in_err-past-in-Group t c =
-    let p = err_from_is_err_and c.from_residual-in_err-past-in-Group.result c.from_residual-in_err-past-in-Group.ensures.1 in
-    rw (p.1, p.2) (body-group_over c.args.dictionary.words32 c.args.dictionary.accepted c.loop-tag.invariant _ _ _ c.in-Group.ensures _ _ c.in_err-past-in-Group.ensures)
+pub add_body-returns-in_err-past-in-Some-Group : goal.add_body-returns-in_err-past-in-Some-Group
+add_body-returns-in_err-past-in-Some-Group t c =
+    let p = err_from_is_err_and c.from_residual-in_err-past-in-Some-Group.result c.from_residual-in_err-past-in-Some-Group.ensures.1 in
+    rw (p.1, p.2) (body-group_over c.args.dictionary.words32 c.args.dictionary.accepted c.loop-tag.invariant _ _ _ (rw c.in-Some-Group.field-0-is at c.in-Some-Group.ensures) _ _ c.in_err-past-in-Some-Group.ensures)
 
-pub add_body-loop-tag-preserved-in-Group : goal.add_body-loop-tag-preserved-in-Group
-add_body-loop-tag-preserved-in-Group t c = body-group c.args.dictionary.words32 c.args.dictionary.accepted c.loop-tag.invariant _ _ _ c.in-Group.ensures _ _ _ c.in_ok-past-in-Group.ensures c.add_group.auto.trace
+pub add_body-loop-tag-preserved-in-Some-Group : goal.add_body-loop-tag-preserved-in-Some-Group
+add_body-loop-tag-preserved-in-Some-Group t c = body-group c.args.dictionary.words32 c.args.dictionary.accepted c.loop-tag.invariant _ _ _ (rw c.in-Some-Group.field-0-is at c.in-Some-Group.ensures) _ _ _ c.in_ok-past-in-Some-Group.ensures c.add_group.auto.trace
 
 -- so_far = add_component(
-pub add_body-returns-in_err-so_far-in-Use : goal.add_body-returns-in_err-so_far-in-Use
-add_body-returns-in_err-so_far-in-Use t c =
-    let p = err_from_is_err_and c.from_residual-in_err-so_far-in-Use.result c.from_residual-in_err-so_far-in-Use.ensures.1 in
-    rw (p.1, p.2) (body-use_over c.args.dictionary.words32 c.args.dictionary.accepted c.loop-tag.invariant _ _ c.in-Use.ensures _ _ c.in_err-so_far-in-Use.ensures)
+pub add_body-returns-in_err-so_far-in-Some-Use : goal.add_body-returns-in_err-so_far-in-Some-Use
+add_body-returns-in_err-so_far-in-Some-Use t c =
+    let p = err_from_is_err_and c.from_residual-in_err-so_far-in-Some-Use.result c.from_residual-in_err-so_far-in-Some-Use.ensures.1 in
+    rw (p.1, p.2) (body-use_over c.args.dictionary.words32 c.args.dictionary.accepted c.loop-tag.invariant _ _ (rw c.in-Some-Use.field-0-is at c.in-Some-Use.ensures) _ _ c.in_err-so_far-in-Some-Use.ensures)
 
-pub add_body-overflow_add-at-in-Use : goal.add_body-overflow_add-at-in-Use
-add_body-overflow_add-at-in-Use t c = record { fits = body-next c.args.dictionary.words32 c.args.dictionary.accepted c.loop-tag.invariant }
+pub add_body-overflow_add-at-in-Some-Use : goal.add_body-overflow_add-at-in-Some-Use
+add_body-overflow_add-at-in-Some-Use t c = record { fits = body-next c.args.dictionary.words32 c.args.dictionary.accepted c.loop-tag.invariant }
 
 pub add_body-loop-tag-smaller : goal.add_body-loop-tag-smaller
 add_body-loop-tag-smaller t c = omega (arith, body-inside c.args.dictionary.words32 c.args.dictionary.accepted c.loop-tag.invariant)
 
 pub add_body-loop-tag-preserved : goal.add_body-loop-tag-preserved
-add_body-loop-tag-preserved t c = body-use c.args.dictionary.words32 c.args.dictionary.accepted c.loop-tag.invariant _ _ c.in-Use.ensures _ _ c.in_ok-so_far-in-Use.ensures c.add_component.auto.trace
+add_body-loop-tag-preserved t c = body-use c.args.dictionary.words32 c.args.dictionary.accepted c.loop-tag.invariant _ _ (rw c.in-Some-Use.field-0-is at c.in-Some-Use.ensures) _ _ c.in_ok-so_far-in-Some-Use.ensures c.add_component.auto.trace
 
--- return Ok((at + 1, so_far));
+-- None => return Ok((at + 1, so_far)),
 pub add_body-overflow_add-result : goal.add_body-overflow_add-result
 add_body-overflow_add-result t c = record { fits = body-next c.args.dictionary.words32 c.args.dictionary.accepted c.loop-tag.invariant }
 
-pub add_body-returns-in-Other : goal.add_body-returns-in-Other
-add_body-returns-in-Other t c = body-ends c.args.dictionary.words32 c.args.dictionary.accepted c.loop-tag.invariant _ refl c.in-Other.ensures
+pub add_body-returns-in-None : goal.add_body-returns-in-None
+add_body-returns-in-None t c = body-ends c.args.dictionary.words32 c.args.dictionary.accepted c.loop-tag.invariant _ refl c.in-None.ensures
 
 -- let node = spend(builder, name, depth_left)?;
 pub add_component-returns-in_err-node : goal.add_component-returns-in_err-node

@@ -1,20 +1,29 @@
 -- `bodies::body_line::line_from` meets its contract, a kind at a time.
-use Rattle.std.proofs.Common.{eq-eqb, ne_eqb}
+use Rattle.std.proofs.Common.{sym, ◌∙◌, eq-eqb, ne_eqb}
 use Rattle.bodies.specs.BodyLines.{read_from}
 use Rattle.bodies.proofs.body_line.line_from.Goals as goal
 
-pub returns-then-kind-eq-FIELD : goal.returns-then-kind-eq-FIELD
+-- Some(BodyLine::Field(words[1], words[2] == 1))
+pub returns-then-kind-from : goal.returns-then-kind-from
 unfolding read_from
-returns-then-kind-eq-FIELD c = rw (eq-eqb _ 7 c.if-kind-eq-FIELD.true)
+returns-then-kind-from c = rw (eq-eqb _ 7 (c.if-kind-from.true ∙ c.from.ensures.outcome))
 
-pub returns-then-kind-eq-GROUP : goal.returns-then-kind-eq-GROUP
+-- Some(BodyLine::Group(words[1], words[2], words[3] == 1))
+pub returns-then-kind-from-2 : goal.returns-then-kind-from-2
 unfolding read_from
-returns-then-kind-eq-GROUP c = rw (ne_eqb _ 7 c.if-kind-eq-FIELD.false, eq-eqb _ 8 c.if-kind-eq-GROUP.true)
+returns-then-kind-from-2 c =
+    rw (ne_eqb _ 7 (λ same. c.if-kind-from.false (same ∙ sym c.from.ensures.outcome)), eq-eqb _ 8 (c.if-kind-from-2.true ∙ c.from-else-kind-from.ensures.outcome))
 
-pub returns-then-kind-eq-USE : goal.returns-then-kind-eq-USE
+-- Some(BodyLine::Use(words[1], words[2] == 1))
+pub returns-then-kind-from-3 : goal.returns-then-kind-from-3
 unfolding read_from
-returns-then-kind-eq-USE c = rw (ne_eqb _ 7 c.if-kind-eq-FIELD.false, ne_eqb _ 8 c.if-kind-eq-GROUP.false, eq-eqb _ 9 c.if-kind-eq-USE.true)
+returns-then-kind-from-3 c =
+    rw (ne_eqb _ 7 (λ same. c.if-kind-from.false (same ∙ sym c.from.ensures.outcome)), ne_eqb _ 8 (λ same. c.if-kind-from-2.false (same ∙ sym c.from-else-kind-from.ensures.outcome)),
+    eq-eqb _ 9 (c.if-kind-from-3.true ∙ c.from-else-kind-from-2.ensures.outcome))
 
-pub returns-else-kind-eq-USE : goal.returns-else-kind-eq-USE
+-- None
+pub returns-else-kind-from-3 : goal.returns-else-kind-from-3
 unfolding read_from
-returns-else-kind-eq-USE c = rw (ne_eqb _ 7 c.if-kind-eq-FIELD.false, ne_eqb _ 8 c.if-kind-eq-GROUP.false, ne_eqb _ 9 c.if-kind-eq-USE.false)
+returns-else-kind-from-3 c =
+    rw (ne_eqb _ 7 (λ same. c.if-kind-from.false (same ∙ sym c.from.ensures.outcome)), ne_eqb _ 8 (λ same. c.if-kind-from-2.false (same ∙ sym c.from-else-kind-from.ensures.outcome)),
+    ne_eqb _ 9 (λ same. c.if-kind-from-3.false (same ∙ sym c.from-else-kind-from-2.ensures.outcome)))
