@@ -1,8 +1,9 @@
 -- Laws of `BuildPromises.antt`, and the steps of the functions of src/build.rt: the line that opens the header or the trailer, the three bodies of the message
 -- level one behind the other, and the choice of the message. Assumes nothing.
-use Rattle.std.specs.Prelude.{◌≡◌, Bool, not, ◌&&◌, ◌||◌, eqb, get_or, drop, Option, Some, None, Result, Ok, Err}
+use Rattle.std.specs.Prelude.{◌≡◌, Bool, ◌&&◌, ◌||◌, eqb, length, get_or, take, drop, Option, Some, None, Result, Ok, Err}
 use Rattle.std.proofs.Math.Path.{refl, sym, ap}
-use Rattle.std.proofs.Common.{◌∙◌, arith, add-one, drop-cons}
+use Rattle.std.specs.List.Sorted.{IsPartitionedBy, IsPartitionPoint}
+use Rattle.std.proofs.Common.{◌∙◌, arith, add-one, drop-cons, get_or-take, get_or-drop}
 use Prim.Native.Nat.{ℕ, suc, ◌+◌, ◌*◌, ◌≤◌, ◌<◌}
 use Rattle.std.proofs.Math.Bool.{true, false}
 use Rattle.std.proofs.lemmas.Bool.{false≢true}
@@ -15,6 +16,7 @@ use Rattle.layouts.specs.Limits.{gate_limits}
 use Rattle.records.specs.Records.{Words32}
 use Rattle.dictionary.specs.DictionaryWords.{is_of, name_of, place_of, word_lines}
 use Rattle.dictionary.specs.DictionaryCheck.{stands_at, is_dictionary}
+use Rattle.dictionary.specs.DictionaryRecords.{records_in, length-first_chunks, record_numbered}
 use Rattle.definitions.specs.Definitions as Words
 use Rattle.expansion.specs.declared.builder.Builder as Code
 use Rattle.expansion.specs.declared.builder.Stop.{Stop}
@@ -32,41 +34,56 @@ use Rattle.bodies.specs.FillLaws.{first-fill}
 use Rattle.bodies.specs.ExpansionPromises.{fill_at, Uses}
 use Rattle.build.specs.BuildPromises.{built_of, top_frame, Built, Traced}
 
--- ---- header_of: the place is halved in
+-- ---- header_of: the definitions stand before the line that opens the header, and none after it
 
-pub record HeaderSoFar (words : List ℕ) (first past : ℕ) : Type 0 where
-  pub from : first ≤ place_of 3 0 (word_lines words)
-  pub to : place_of 3 0 (word_lines words) ≤ past
-  pub inside : past ≤ get_or words 0 0
+-- the record defines a tag or a value that it admits
+abbrev pub defines : List ℕ → Bool
+defines one = eqb (get_or one 0 0) 1 || eqb (get_or one 0 0) 2
 
 module _ (words : List ℕ) (small : Words32 words) (passed : is_dictionary words ≡ true) where
-  pub header-starts : HeaderSoFar words 0 (get_or words 0 0)
-  header-starts = record { from = omega arith; to = omega (arith, header-comes words small passed); inside = omega arith }
+  defines-line : (number : ℕ) (other : List ℕ) → number < get_or words 0 0
+      → defines (get_or (records_in words) number other) ≡ is_definition (get_or (word_lines words) number Unknown)
+  unfolding is_of
+  defines-line number other inside =
+      let here : 4 + 10 * number + 0 ≡ 4 + 10 * number = omega arith in
+      rw (
+        record_numbered words number other inside,
+        get_or-take 10 (drop (4 + 10 * number) words) 0 0 (omega arith),
+        get_or-drop (4 + 10 * number) words 0 0,
+        here,
+        kind_at words small passed number inside,
+      ) refl
 
-  module _ (first past middle : ℕ) (so_far : HeaderSoFar words first past) (from : first ≤ middle) (below : middle < past) where
-    abbrev defines : Bool
-    defines = eqb (get_or words (4 + 10 * middle) 0) 1 || eqb (get_or words (4 + 10 * middle) 0) 2
+  defines-before : (number : ℕ) (other : List ℕ) → number < place_of 3 0 (word_lines words) → defines (get_or (records_in words) number other) ≡ true
+  defines-before number other before =
+      defines-line number other (omega (arith, header-comes words small passed)) ∙ (definitions-first words small passed).before_it number before
 
-    defines-line : defines ≡ is_definition (get_or (word_lines words) middle Unknown)
-    unfolding is_of
-    defines-line = rw (kind_at words small passed middle (omega (arith, so_far.inside))) refl
+  defines-behind : (number : ℕ) (other : List ℕ) → place_of 3 0 (word_lines words) ≤ number → number < get_or words 0 0
+      → defines (get_or (records_in words) number other) ≡ false
+  defines-behind number other behind inside =
+      defines-line number other inside ∙ (definitions-first words small passed).behind_it number behind (omega (arith, lines-counted words))
 
-    -- a line on the wrong side of the header
-    wrong_side : (side : Bool) → defines ≡ side → defines ≡ not side → ⊥
-    wrong_side true one other = false≢true (sym other ∙ one)
-    wrong_side false one other = false≢true (sym one ∙ other)
+  header-parted : IsPartitionedBy defines (records_in words)
+  header-parted first second other low inside there =
+      let before : place_of 3 0 (word_lines words) ≤ second → ⊥ = λ behind.
+      false≢true (sym (defines-behind second other behind (omega (arith, length-first_chunks (get_or words 0 0) (drop 4 words)))) ∙ there) in
+      defines-before first other (omega (arith, before))
 
-    pub header-above : defines ≡ true → HeaderSoFar words (middle + 1) past
-    header-above test =
-        let other : place_of 3 0 (word_lines words) ≤ middle → ⊥ = λ before.
-        wrong_side true test (defines-line ∙ (definitions-first words small passed).behind_it middle before (omega (arith, lines-counted words, so_far.inside))) in
-        record { from = omega (arith, other); to = so_far.to; inside = so_far.inside }
+  header-found : (place : ℕ) → place ≤ length (records_in words)
+      → IsPartitionPoint (λ one. defines one ≡ true) (λ one. defines one ≡ false) (records_in words) place
+      → place ≡ place_of 3 0 (word_lines words)
+  header-found place inside point =
+      let count = length-first_chunks (get_or words 0 0) (drop 4 words) in
+      let above : place < place_of 3 0 (word_lines words) → ⊥ = λ less.
+      false≢true (sym (point.1 place [] (omega arith) (omega (arith, count, header-comes words small passed))) ∙ defines-before place [] less) in
+      let below : place_of 3 0 (word_lines words) < place → ⊥ = λ more.
+      false≢true (sym (defines-behind (place_of 3 0 (word_lines words)) [] (omega arith) (header-comes words small passed)) ∙ point.0 (place_of 3 0 (word_lines words)) [] (omega arith) more) in
+      omega (arith, above, below)
 
-    pub header-below : defines ≡ false → HeaderSoFar words first middle
-    header-below test =
-        let other : middle < place_of 3 0 (word_lines words) → ⊥ = λ behind.
-        wrong_side false test (defines-line ∙ (definitions-first words small passed).before_it middle behind) in
-        record { from = so_far.from; to = omega (arith, other); inside = omega (arith, so_far.inside) }
+  pub header-lent : (records : List (List ℕ)) (place : ℕ) → records ≡ records_in words → place ≤ length records
+      → (IsPartitionedBy defines records → IsPartitionPoint (λ one. defines one ≡ true) (λ one. defines one ≡ false) records place)
+      → place ≡ place_of 3 0 (word_lines words)
+  header-lent records place are inside point = header-found place (rw are at inside) (rw are at (point (rw are header-parted)))
 
 -- ---- trailer_of: the loop over the lines before the one that opens a block
 

@@ -12,40 +12,26 @@ use definitions::definitions::message_of;
 use dictionary::dictionary::Dictionary;
 use dictionary::dictionary_check::stands_at;
 use expansion::builder::{Builder, Stop};
+use records::record_kind::RecordKind;
 use refusals::refusal::Refusal;
 
 // Document 01: "top 0; over 32 refuses". So 33 depths are left at the top.
 const DEPTHS: usize = 33;
 
-// The kinds of the records that define a tag and an admitted value, and of the one that opens the trailer.
-const DEFINITION: u32 = 1;
-
-const VALUE: u32 = 2;
-
-const BEGIN_TRAILER: u32 = 4;
-
 // A record of this kind defines a tag or a value that it admits.
 fn is_definition(kind: u32) -> bool
     ensures { result ≡ (kind ≡ᵇ 1 || kind ≡ᵇ 2) }
 {
-    kind == DEFINITION || kind == VALUE
+    kind == u32::from(RecordKind::Def) || kind == u32::from(RecordKind::Value)
 }
 
 // The place of the line that opens the header: the definitions stand before it, and none after it. So it is found by halving.
 fn header_of(dictionary: Dictionary<'_>) -> usize
     ensures { result ≡ place_of 3 0 (word_lines dictionary.entry.words.now) }
 {
-    let mut first = 0;
-    let mut past = dictionary.words[0] as usize;
-    while first < past {
-        let middle = (first + past) / 2;
-        if is_definition(dictionary.words[4 + 10 * middle]) {
-            first = middle + 1;
-        } else {
-            past = middle;
-        }
-    }
-    first
+    dictionary
+        .records()
+        .partition_point(|record| is_definition(record[0]))
 }
 
 // The place of the line that opens the trailer, which stands after the header's.
@@ -55,7 +41,7 @@ fn trailer_of(dictionary: Dictionary<'_>, header: usize) -> usize
 {
     let mut at = header as u32;
     loop {
-        if stands_at(dictionary.words, BEGIN_TRAILER, 0, at) {
+        if stands_at(dictionary.words, u32::from(RecordKind::BeginTrailer), 0, at) {
             return at as usize;
         }
         at += 1;

@@ -18,12 +18,18 @@ returns-then-kind-from-2 c =
 pub returns-then-kind-from-3 : goal.returns-then-kind-from-3
 unfolding read_from
 returns-then-kind-from-3 c =
-    rw (ne_eqb _ 7 (λ same. c.if-kind-from.false (same ∙ sym c.from.ensures.outcome)), ne_eqb _ 8 (λ same. c.if-kind-from-2.false (same ∙ sym c.from-else-kind-from.ensures.outcome)),
-    eq-eqb _ 9 (c.if-kind-from-3.true ∙ c.from-else-kind-from-2.ensures.outcome))
+    rw (
+      ne_eqb _ 7 (λ same. c.if-kind-from.false (same ∙ sym c.from.ensures.outcome)),
+      ne_eqb _ 8 (λ same. c.if-kind-from-2.false (same ∙ sym c.from-else-kind-from.ensures.outcome)),
+      eq-eqb _ 9 (c.if-kind-from-3.true ∙ c.from-else-kind-from-2.ensures.outcome),
+    )
 
 -- None
 pub returns-else-kind-from-3 : goal.returns-else-kind-from-3
 unfolding read_from
 returns-else-kind-from-3 c =
-    rw (ne_eqb _ 7 (λ same. c.if-kind-from.false (same ∙ sym c.from.ensures.outcome)), ne_eqb _ 8 (λ same. c.if-kind-from-2.false (same ∙ sym c.from-else-kind-from.ensures.outcome)),
-    ne_eqb _ 9 (λ same. c.if-kind-from-3.false (same ∙ sym c.from-else-kind-from-2.ensures.outcome)))
+    rw (
+      ne_eqb _ 7 (λ same. c.if-kind-from.false (same ∙ sym c.from.ensures.outcome)),
+      ne_eqb _ 8 (λ same. c.if-kind-from-2.false (same ∙ sym c.from-else-kind-from.ensures.outcome)),
+      ne_eqb _ 9 (λ same. c.if-kind-from-3.false (same ∙ sym c.from-else-kind-from-2.ensures.outcome)),
+    )
