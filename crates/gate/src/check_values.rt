@@ -3,7 +3,6 @@ ghost use Rattle.std.specs.Prelude.{◌≡◌};
 ghost use Rattle.verdicts.specs.Verdicts.{judged_of, verdicts_in};
 ghost use Rattle.outcomes.specs.Answers.{words_outcome};
 
-use outcomes::answers::words_outcome;
 use outcomes::outcome::Outcome;
 use verdicts::verdicts_call::check_values;
 
@@ -18,6 +17,5 @@ pub fn gate_verdicts(
     ensures outcome { result ≡ words_outcome (judged_of dictionary.now fields.now message.now verdicts.old) }
     ensures memory { verdicts.new ≡ verdicts_in dictionary.now fields.now message.now strict verdicts.old }
 {
-    let judged = check_values(dictionary, fields, message, strict, verdicts);
-    words_outcome(judged)
+    Outcome::from(check_values(dictionary, fields, message, strict, verdicts))
 }

@@ -4,7 +4,6 @@ ghost use Rattle.expand.specs.ExpandCall.{expanded_of, expanded_in};
 ghost use Rattle.outcomes.specs.Answers.{expand_outcome};
 
 use expand::expand_call::expand;
-use outcomes::answers::expand_outcome;
 use outcomes::outcome::Outcome;
 
 // `words`: how many words the layout takes; `extra`: the nodes spent.
@@ -12,6 +11,5 @@ pub fn gate_expand(dictionary: &[u32], message_type: &[u8], layout: &mut [u32]) 
     ensures outcome { result ≡ expand_outcome (expanded_of dictionary.now message_type.now (length layout.old)) }
     ensures memory { layout.new ≡ expanded_in dictionary.now message_type.now layout.old }
 {
-    let expanded = expand(dictionary, message_type, layout);
-    expand_outcome(expanded)
+    Outcome::from(expand(dictionary, message_type, layout))
 }

@@ -6,7 +6,7 @@ ghost use Rattle.gate.specs.MembersOutcome.{members_outcome};
 
 use layouts::layout_words::stretch_at;
 use levels::members::level_of;
-use outcomes::outcome::{Outcome, answered, refused};
+use outcomes::outcome::Outcome;
 
 // `words`: how many members the level has that the path of count tags leads to; `extra`: where they stand in the layout's words.
 pub fn gate_level_members(layout: &[u32], path: &[u32]) -> Outcome
@@ -18,8 +18,8 @@ pub fn gate_level_members(layout: &[u32], path: &[u32]) -> Outcome
             let place = 1 + level;
             let members = stretch_at(layout, place);
             let first = layout[place] as usize;
-            answered(members.len(), first)
+            Outcome::answered(members.len(), first)
         }
-        Err(refusal) => refused(refusal),
+        Err(refusal) => Outcome::from(refusal),
     }
 }

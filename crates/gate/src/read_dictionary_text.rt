@@ -3,7 +3,6 @@ ghost use Rattle.std.specs.Prelude.{◌≡◌, length};
 ghost use Rattle.read_dictionary.specs.ReadDictionary.{read_of, read_in};
 ghost use Rattle.outcomes.specs.Answers.{words_outcome};
 
-use outcomes::answers::words_outcome;
 use outcomes::outcome::Outcome;
 use read_dictionary::read_dictionary::read_dictionary;
 
@@ -12,6 +11,5 @@ pub fn gate_read_dictionary(text: &[u8], dictionary: &mut [u32]) -> Outcome
     ensures outcome { result ≡ words_outcome (read_of text.now (length dictionary.old)) }
     ensures memory { dictionary.new ≡ read_in text.now dictionary.old }
 {
-    let read = read_dictionary(text, dictionary);
-    words_outcome(read)
+    Outcome::from(read_dictionary(text, dictionary))
 }

@@ -3,7 +3,6 @@ ghost use Rattle.std.specs.Prelude.{◌≡◌, length};
 ghost use Rattle.read_layout.specs.ReadLayout.{read_outcome, read_words};
 ghost use Rattle.outcomes.specs.Answers.{words_outcome};
 
-use outcomes::answers::words_outcome;
 use outcomes::outcome::Outcome;
 use read_layout::read_layout::read_layout;
 
@@ -12,6 +11,5 @@ pub fn gate_read_layout(text: &[u8], layout: &mut [u32]) -> Outcome
     ensures outcome { result ≡ words_outcome (read_outcome text.now (length layout.old)) }
     ensures memory { layout.new ≡ read_words text.now layout.old }
 {
-    let read = read_layout(text, layout);
-    words_outcome(read)
+    Outcome::from(read_layout(text, layout))
 }

@@ -3,7 +3,6 @@ ghost use Rattle.std.specs.Prelude.{◌≡◌};
 ghost use Rattle.walk.specs.WalkCall.{walked_of, events_in};
 ghost use Rattle.outcomes.specs.Answers.{walk_outcome};
 
-use outcomes::answers::walk_outcome;
 use outcomes::outcome::Outcome;
 use walk::walk_call::walk_group;
 
@@ -19,6 +18,5 @@ pub fn gate_walk_group(
     ensures outcome { result ≡ walk_outcome (walked_of layout.now fields.now message.now position count_tag events.old) }
     ensures memory { events.new ≡ events_in layout.now fields.now message.now position count_tag events.old }
 {
-    let walked = walk_group(layout, fields, message, position, count_tag, events);
-    walk_outcome(walked)
+    Outcome::from(walk_group(layout, fields, message, position, count_tag, events))
 }

@@ -3,7 +3,6 @@ ghost use Rattle.std.specs.Prelude.{◌≡◌};
 ghost use Rattle.validator.specs.MessageCall.{walked_of, events_in};
 ghost use Rattle.outcomes.specs.Answers.{words_outcome};
 
-use outcomes::answers::words_outcome;
 use outcomes::outcome::Outcome;
 use validator::message_call::walk_message;
 
@@ -18,6 +17,5 @@ pub fn gate_walk_message(
     ensures outcome { result ≡ words_outcome (walked_of dictionary.now layout.now fields.now message.now events.old) }
     ensures memory { events.new ≡ events_in dictionary.now layout.now fields.now message.now events.old }
 {
-    let walked = walk_message(dictionary, layout, fields, message, events);
-    words_outcome(walked)
+    Outcome::from(walk_message(dictionary, layout, fields, message, events))
 }

@@ -2,37 +2,43 @@
 ghost use Rattle.std.specs.Prelude.{◌≡◌};
 ghost use Rattle.outcomes.specs.Answers.{words_outcome, expand_outcome, walk_outcome};
 
-use crate::outcome::{Outcome, answered, refused};
+use crate::outcome::Outcome;
 use expand::expand_call::Expanded;
 use refusals::refusal::Refusal;
 use walk::walk_call::Walked;
 
 // An answer of `read_dictionary`, `read_layout`, `walk_message` or `check_values`: the words written.
-pub fn words_outcome(answer: Result<usize, Refusal>) -> Outcome
-    ensures { result ≡ words_outcome answer }
-{
-    match answer {
-        Ok(words) => answered(words, 0),
-        Err(refusal) => refused(refusal),
+impl From<Result<usize, Refusal>> for Outcome {
+    ghost from_gives = { λ answer outcome. outcome ≡ words_outcome answer };
+
+    fn from(answer: Result<usize, Refusal>) -> Self {
+        match answer {
+            Ok(words) => Outcome::answered(words, 0),
+            Err(refusal) => Outcome::from(refusal),
+        }
     }
 }
 
 // An answer of `expand`: the words written, and the nodes spent.
-pub fn expand_outcome(answer: Result<Expanded, Refusal>) -> Outcome
-    ensures { result ≡ expand_outcome answer }
-{
-    match answer {
-        Ok(Expanded { nodes, words }) => answered(words, nodes),
-        Err(refusal) => refused(refusal),
+impl From<Result<Expanded, Refusal>> for Outcome {
+    ghost from_gives = { λ answer outcome. outcome ≡ expand_outcome answer };
+
+    fn from(answer: Result<Expanded, Refusal>) -> Self {
+        match answer {
+            Ok(Expanded { nodes, words }) => Outcome::answered(words, nodes),
+            Err(refusal) => Outcome::from(refusal),
+        }
     }
 }
 
 // An answer of `walk_group`: the words written, and the position after the group.
-pub fn walk_outcome(answer: Result<Walked, Refusal>) -> Outcome
-    ensures { result ≡ walk_outcome answer }
-{
-    match answer {
-        Ok(Walked { position, words }) => answered(words, position),
-        Err(refusal) => refused(refusal),
+impl From<Result<Walked, Refusal>> for Outcome {
+    ghost from_gives = { λ answer outcome. outcome ≡ walk_outcome answer };
+
+    fn from(answer: Result<Walked, Refusal>) -> Self {
+        match answer {
+            Ok(Walked { position, words }) => Outcome::answered(words, position),
+            Err(refusal) => Outcome::from(refusal),
+        }
     }
 }

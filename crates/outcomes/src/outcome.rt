@@ -14,24 +14,29 @@ pub struct Outcome {
     pub extra: u64,
 }
 
-pub fn refused(refusal: Refusal) -> Outcome
-    ensures outcome { result ≡ refused_with refusal }
-{
-    Outcome {
-        refusal: refusal.number(),
-        place: refusal.place(),
-        words: 0,
-        extra: 0,
+// A refusal: document 01's number of it, and its place.
+impl From<Refusal> for Outcome {
+    ghost from_gives = { λ refusal outcome. outcome ≡ refused_with refusal };
+
+    fn from(refusal: Refusal) -> Self {
+        Outcome {
+            refusal: refusal.number(),
+            place: refusal.place(),
+            words: 0,
+            extra: 0,
+        }
     }
 }
 
-pub fn answered(words: usize, extra: usize) -> Outcome
-    ensures outcome { result ≡ answered_with words extra }
-{
-    Outcome {
-        refusal: 0,
-        place: 0,
-        words: words as u64,
-        extra: extra as u64,
+impl Outcome {
+    pub fn answered(words: usize, extra: usize) -> Self
+        ensures outcome { result ≡ answered_with words extra }
+    {
+        Outcome {
+            refusal: 0,
+            place: 0,
+            words: words as u64,
+            extra: extra as u64,
+        }
     }
 }

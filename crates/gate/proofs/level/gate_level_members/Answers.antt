@@ -9,7 +9,7 @@ use Rattle.gate.proofs.level.gate_level_members.Goals as goal
 
 -- let place = 1 + level;
 pub overflow_add-place : goal.overflow_add-place
-overflow_add-place c = omega (arith, (reached_inside gate_limits c.args.layout.now c.args.path.now c.in-Ok.level (sym c.level_of.ensures.outcome ∙ c.in-Ok.is)).places, c.shared_slice_known-1.given 0)
+overflow_add-place c = omega (arith, (reached_inside gate_limits c.args.layout.now c.args.path.now c.in-Ok.level (sym c.level_of.ensures.outcome ∙ c.in-Ok.is)).places)
 
 -- let members = stretch_at(layout, place);
 pub stretch_at-members-requires : goal.stretch_at-members-requires
@@ -17,7 +17,7 @@ stretch_at-members-requires c = reached_inside gate_limits c.args.layout.now c.a
 
 -- let first = layout[place] as usize;
 pub offset_bounds-layout-place : goal.offset_bounds-layout-place
-offset_bounds-layout-place c = omega (arith, (reached_inside gate_limits c.args.layout.now c.args.path.now c.in-Ok.level (sym c.level_of.ensures.outcome ∙ c.in-Ok.is)).places, c.shared_slice_known-1.given 0)
+offset_bounds-layout-place c = omega (arith, (reached_inside gate_limits c.args.layout.now c.args.path.now c.in-Ok.level (sym c.level_of.ensures.outcome ∙ c.in-Ok.is)).places)
 
 pub bounds-layout-place : goal.bounds-layout-place
 bounds-layout-place c = omega (arith, (reached_inside gate_limits c.args.layout.now c.args.path.now c.in-Ok.level (sym c.level_of.ensures.outcome ∙ c.in-Ok.is)).places)
@@ -31,6 +31,6 @@ returns-in-Ok c = record {
 
 pub returns-in-Err : goal.returns-in-Err
 returns-in-Err c = record {
-  outcome = (hands_out_none _ _ _ _ (sym c.level_of.ensures.outcome ∙ c.in-Err.is) c.refused.ensures.outcome).0;
-  part = (hands_out_none _ _ _ _ (sym c.level_of.ensures.outcome ∙ c.in-Err.is) c.refused.ensures.outcome).1;
+  outcome = (hands_out_none _ _ _ _ (sym c.level_of.ensures.outcome ∙ c.in-Err.is) c.from.ensures).0;
+  part = (hands_out_none _ _ _ _ (sym c.level_of.ensures.outcome ∙ c.in-Err.is) c.from.ensures).1;
 }
