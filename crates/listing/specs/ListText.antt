@@ -13,7 +13,7 @@ use Rattle.std.specs.Prelude.{ℕ, zero, suc, ◌+◌, ◌*◌, ◌-◌, ◌≤�
 use Rattle.ascii.specs.Notation.{◌≤ᵇ◌, ◌≡ᵇ◌}
 use Rattle.listing.specs.declared.list_text.Shape.{Shape}
 use Rattle.list_lines.specs.ListLines.{type_line, event_line, verdict_line, refused_line}
-use Rattle.message_text.specs.MessageType.{stretch, part_of}
+use Rattle.message_text.specs.MessageType.{part_of}
 use Rattle.refusals.specs.declared.refusal.Refusal.{Refusal}
 
 -- "An event is five 64-bit words: kind, group's count tag, depth, a, b."
@@ -26,7 +26,7 @@ words_lines events zero index = []
 words_lines events (suc left) index = words_line events index ++ words_lines events left (suc index)
 
 abbrev pub type_of : Shape → List ℕ → List ℕ
-type_of shape message = part_of (stretch shape.first shape.past) message
+type_of shape message = part_of shape.message_type message
 
 -- ---- line by line
 
@@ -62,8 +62,8 @@ module _ (message events verdicts : List ℕ) where
 -- ---- what a list is printed from
 
 pub record HeldShape (shape : Shape) (message events verdicts : List ℕ) : Type 0 where
-  pub type_ordered : shape.first ≤ shape.past
-  pub type_inside : shape.past ≤ length message
+  pub type_ordered : shape.message_type.first ≤ shape.message_type.past
+  pub type_inside : shape.message_type.past ≤ length message
   pub few_bytes : length message ≤ 65536
   pub event_words_lem : 5 * shape.events ≤ length events
   pub verdict_words : shape.fields ≤ length verdicts

@@ -1,5 +1,6 @@
 -- Laws of `ListText.antt`: each line fits the room for lines, and the lines, one after the other, are the list. Assumes nothing.
 use Rattle.std.specs.Prelude.{◌≡◌, refl, Bool, true, false, eqb, leb, take, drop, if◌then◌else◌, Result, Ok, Err}
+use Rattle.std.specs.Coded.{Unit-prop, le_prop}
 use Rattle.std.proofs.Common.{ap, length-append, length-take, length-drop}
 use Prim.Native.Nat.{ℕ, zero, suc, ◌+◌, ◌-◌, ◌≤◌, ◌<◌}
 use mathlib.Core.List.{List, [], ◌++◌, append_assoc, append-nil}
@@ -22,6 +23,11 @@ use Rattle.listing.specs.ListText.{HeldShape, Held, words_line, words_lines, typ
 pub held-shape : (listed : Result Shape Refusal) (shape : Shape) (message events verdicts : List ℕ) → listed ≡ Ok shape → Held listed message events verdicts
     → HeldShape shape message events verdicts
 held-shape listed shape message events verdicts full held = rw full at held
+
+-- there is one proof of it at most
+pub held-prop : (listed : Result Shape Refusal) (message events verdicts : List ℕ) → IsProp (Held listed message events verdicts)
+held-prop (Ok shape) message events verdicts = hlevel le_prop
+held-prop (Err refusal) message events verdicts = Unit-prop
 
 -- ---- full_line
 
@@ -97,7 +103,7 @@ module _ (message events verdicts : List ℕ) (index : ℕ) where
   unfolding full_line
   full_line-few shape held =
       let type-few = type_line-few (type_of shape message) shape.fields in
-      let part = part-few (shape.past - shape.first) shape.first message in
+      let part = part-few (shape.message_type.past - shape.message_type.first) shape.message_type.first message in
       let taken : length (take shape.fields verdicts) ≡ shape.fields = length-take-le shape.fields verdicts held.verdict_words in
       line-by (eqb index 0) _ _ (omega (arith, type-few, part, held.few_bytes))
       (line-by (leb index shape.events) _ _ (omega (arith, words_line-few events (index - 1)))

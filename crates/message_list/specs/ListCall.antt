@@ -23,7 +23,7 @@ use Rattle.refusals.specs.declared.refusal.Refusal.{Refusal}
 
 -- the type's stretch, the number of fields, and five words an event
 abbrev pub shape_of : Stretch → ℕ → ℕ → Shape
-shape_of type fields words = record { first = type.first; past = type.past; fields = fields; events = words / 5 }
+shape_of type fields words = record { message_type = type; fields = fields; events = words / 5 }
 
 -- ---- verdicts, not strict
 

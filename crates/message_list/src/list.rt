@@ -32,8 +32,7 @@ fn list_verdicts(
 {
     let words = check_values(dictionary, fields, message, false, verdicts)?;
     Ok(Shape {
-        first: message_type.first,
-        past: message_type.past,
+        message_type,
         fields: words,
         events: event_words / 5,
     })
