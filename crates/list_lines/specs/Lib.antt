@@ -2,4 +2,5 @@
 -- examples in the one with `Cases`.
 pub mod ListLines
 pub mod ListLinesLaws
+pub mod PrintedNumbers
 pub mod ListLinesCases

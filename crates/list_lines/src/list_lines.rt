@@ -3,6 +3,7 @@ ghost use Rattle.std.specs.Prelude.{◌+◌, ◌≤◌, length};
 ghost use Rattle.list_lines.specs.ListLines.{numeral_of, labelled, type_line, kind_name, event_line, verdict_digits, verdict_line, refused_line};
 ghost use Rattle.list_lines.specs.ListLinesLaws.{Put};
 
+use itoa::Buffer;
 use refusals::refusal::Refusal;
 
 // Writes the bytes from `at` on, and gives the place after them.
@@ -15,18 +16,12 @@ fn put_text(out: &mut [u8], at: usize, text: &[u8]) -> usize
     past
 }
 
-// Writes the number in decimal. The gate has no heap, so no text is made of it: its digits go into the lent bytes.
+// Writes the number in decimal.
 fn put_number(out: &mut [u8], at: usize, number: u64) -> usize
     requires { at + 20 ≤ length out.old }
     ensures { Put out.old out.new at result (numeral_of number) }
 {
-    if number < 10 {
-        out[at] = b'0' + number as u8;
-        return at + 1;
-    }
-    let last = put_number(out, at, number / 10);
-    out[last] = b'0' + (number % 10) as u8;
-    last + 1
+    put_text(out, at, Buffer::new().format(number).as_bytes())
 }
 
 // Writes the label and the number.
