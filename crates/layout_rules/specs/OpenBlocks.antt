@@ -6,8 +6,8 @@
 --   held_members level blocks                   the members of the open levels, the innermost last
 --   held_tags level blocks                      the count tags of the groups that are closed in them
 --   kept_of count delimiter around blocks       what is kept of the block that is opened with these tags in this level
---   BlocksHold kept blocks                      the open blocks are kept
-use Rattle.std.specs.Prelude.{◌≡◌, ℕ, not, List, [], ◌∷◌, ◌++◌, length, get_or, if◌then◌else◌, Option, None}
+--   kept_blocks blocks                          what is kept of the open blocks, the outermost first
+use Rattle.std.specs.Prelude.{ℕ, not, List, [], ◌∷◌, ◌++◌, length, if◌then◌else◌, Option, None}
 use Rattle.layouts.specs.Layout.{Level, members_of, count_tags_of}
 use Rattle.layouts.specs.LayoutRules.{is_ascending, ◌∈ᵇ◌, are_among}
 use Rattle.layout_rules.specs.declared.layout_rules.OpenBlock.{OpenBlock}
@@ -37,10 +37,6 @@ unfoldable pub held_tags : Level → List Block → List ℕ
 held_tags level [] = count_tags_of level
 held_tags level (block_of count delimiter flag around ∷ blocks) = held_tags around blocks ++ count_tags_of level
 
--- what stands where no block is kept
-abbrev pub no_block : OpenBlock
-no_block = record { count = 0; delimiter = 0; members = 0; tags = 0 }
-
 abbrev pub kept_of : ℕ → ℕ → Level → List Block → OpenBlock
 kept_of count delimiter around blocks = record {
   count = count;
@@ -49,7 +45,7 @@ kept_of count delimiter around blocks = record {
   tags = length (held_tags around blocks);
 }
 
-abbrev pub BlocksHold : List OpenBlock → List Block → Type 0
-BlocksHold kept [] = Unit
-BlocksHold kept (block_of count delimiter flag around ∷ blocks) =
-    ((other : OpenBlock) → get_or kept (length blocks) other ≡ kept_of count delimiter around blocks) × BlocksHold kept blocks
+-- the open blocks as they are kept, the outermost first
+unfoldable pub kept_blocks : List Block → List OpenBlock
+kept_blocks [] = []
+kept_blocks (block_of count delimiter flag around ∷ blocks) = kept_blocks blocks ++ (kept_of count delimiter around blocks ∷ [])

@@ -1,8 +1,8 @@
 -- Laws of `OpenBlocks.antt`, in its order. Assumes nothing.
-use Rattle.std.specs.Prelude.{◌≡◌, ℕ, ◌+◌, ◌-◌, ◌≤◌, ◌<◌, Bool, true, false, length, set, take, drop, Option, Some, None}
+use Rattle.std.specs.Prelude.{◌≡◌, ℕ, ◌+◌, Bool, true, false, length, take, drop, Option, Some, None}
 use Rattle.std.specs.Option.{is_some}
 use Rattle.std.proofs.Math.Path.{refl, sym, ap}
-use Rattle.std.proofs.Common.{◌∙◌, arith, add-one, length-append, get_or-set_same, get_or-set_other, take-suc-set, take-add, take_at, drop_at, take-take, length-take-le}
+use Rattle.std.proofs.Common.{◌∙◌, arith, length-append, take_at, drop_at}
 use mathlib.Core.List.{List, [], ◌∷◌, ◌++◌, map, append_assoc, append-nil}
 use Rattle.ascending.specs.Sort.{is_in}
 use Rattle.ascending.specs.Search.{rank_in, is_found}
@@ -12,7 +12,7 @@ use Rattle.layouts.specs.LayoutRules.{is_ascending, ◌∈ᵇ◌, are_among}
 use Rattle.layout_rules.specs.declared.layout_rules.OpenBlock.{OpenBlock}
 use Rattle.layout_text.specs.LayoutOfText.{with_member, with_required, with_group, groups_then, empty_level, Block, block_of}
 use Rattle.layout_rules.specs.FirstBroken.{broken_at, own_broken, top_broken}
-use Rattle.layout_rules.specs.OpenBlocks.{group_broken, level_broken, held_members, held_tags, BlocksHold}
+use Rattle.layout_rules.specs.OpenBlocks.{group_broken, level_broken, held_members, held_tags, kept_of, kept_blocks}
 
 -- ---- is_member
 
@@ -123,50 +123,34 @@ module _ (level : Level) (blocks : List Block) (count delimiter : ℕ) (flag : B
   unfolding held_tags
   held-tags_opened = append-nil (held_tags level blocks)
 
--- what stands on top of a row whose first `count` words are these and those
-module _ (row these those : List ℕ) (count first : ℕ) (within : count ≤ length row) (held : take count row ≡ these ++ those) (starts : first ≡ length these) where
-  pub on_top_count : count ≡ first + length those
-  on_top_count = omega (arith, length-take-le count row within, ap length held, length-append these those)
+-- what a row holds that is these and those, where `first` is how many these are
+module _ (row these those : List ℕ) (first : ℕ) (held : row ≡ these ++ those) (starts : first ≡ length these) where
+  pub on_top_count : length row ≡ first + length those
+  on_top_count = omega (arith, ap length held, length-append these those, starts)
 
-  pub on_top : take (count - first) (drop first row) ≡ those
-  on_top =
-      let sum : first + (count - first) ≡ count = omega (arith, on_top_count) in
-      let whole : take first row ++ take (count - first) (drop first row) ≡ these ++ those = sym (take-add first (count - first) row) ∙ ap (λ (many : ℕ). take many row) sum ∙ held in
-      sym (drop_at (take first row) (take (count - first) (drop first row)) first (length-take-le first row (omega (arith, on_top_count))))
-      ∙ ap (drop first) whole
-      ∙ drop_at these those first (sym starts)
+  pub on_top : drop first row ≡ those
+  on_top = ap (drop first) held ∙ drop_at these those first (sym starts)
 
   pub below_top : take first row ≡ these
-  below_top = sym (take-take first count row (omega (arith, on_top_count))) ∙ ap (take first) held ∙ take_at these those first (sym starts)
+  below_top = ap (take first) held ∙ take_at these those first (sym starts)
 
--- one more word on top
-pub pushed : (row held : List ℕ) (count word : ℕ) → count < length row → take count row ≡ held → take (count + 1) (set row count word) ≡ held ++ (word ∷ [])
-pushed row held count word inside is = rw add-one (take-suc-set row count word inside ∙ ap (λ (before : List ℕ). before ++ (word ∷ [])) is)
+-- ---- kept_blocks
 
--- ---- BlocksHold
+pub kept_blocks-length : (blocks : List Block) → length (kept_blocks blocks) ≡ length blocks
+unfolding kept_blocks
+kept_blocks-length [] = refl
+kept_blocks-length (block_of count delimiter flag around ∷ blocks) =
+    omega (arith, length-append (kept_blocks blocks) (kept_of count delimiter around blocks ∷ []), kept_blocks-length blocks)
 
-blocks-later : (kept : List OpenBlock) (at : ℕ) (block : OpenBlock) (blocks : List Block) → length blocks ≤ at → BlocksHold kept blocks → BlocksHold (set kept at block) blocks
-blocks-later kept at block [] later hold = hold
-blocks-later kept at block (block_of count delimiter flag around ∷ blocks) later hold = (
-  λ other. get_or-set_other kept at (length blocks) block other (λ (same : length blocks ≡ at). omega arith) ∙ hold.0 other,
-  blocks-later kept at block blocks (omega arith) hold.1,
-)
-
-pub blocks-opened : (kept : List OpenBlock) (depth count delimiter members tags : ℕ) → depth < length kept → (level : Level) (blocks : List Block) (flag : Bool) → depth ≡ length blocks
-    → members ≡ length (held_members level blocks) → tags ≡ length (held_tags level blocks) → BlocksHold kept blocks
-    → BlocksHold (set kept depth (record { count = count; delimiter = delimiter; members = members; tags = tags })) (block_of count delimiter flag level ∷ blocks)
-blocks-opened kept depth count delimiter members tags room level blocks flag deep of_members of_tags hold =
-    let block : OpenBlock = record { count = count; delimiter = delimiter; members = members; tags = tags } in (
-      λ other. rw (← deep, ← of_members, ← of_tags) (get_or-set_same kept depth block other room),
-      blocks-later kept depth block blocks (omega arith) hold,
-    )
+-- the innermost block that is kept
+pub last-kept : (others these : List OpenBlock) (block this : OpenBlock) → others ++ (block ∷ []) ≡ these ++ (this ∷ []) → (others ≡ these) × (block ≡ this)
+last-kept others these block this same =
+    let long : length others ≡ length these = omega (arith, ap length same, length-append others (block ∷ []), length-append these (this ∷ [])) in
+    let front : others ≡ these = sym (take_at others (block ∷ []) (length others) refl) ∙ ap (take (length others)) same ∙ take_at these (this ∷ []) (length others) (sym long) in
+    let back : ◌≡◌ {A = List OpenBlock} (block ∷ []) (this ∷ []) = sym (drop_at others (block ∷ []) (length others) refl) ∙ ap (drop (length others)) same ∙ drop_at these (this ∷ []) (length others) (sym long) in
+    (front, cc)
 
 -- ---- is_member: no place is found where the tag is none of the words
 
 pub member-missing : (words : List ℕ) (tag : ℕ) (found : Option ℕ) → found ≡ rank_in words tag → found ≡ None → is_in tag words ≡ false
 member-missing words tag found is nowhere = sym (member-found words tag found is) ∙ ap is_some nowhere
-
--- ---- BlocksHold: a block that is opened leaves those around it as they are kept
-
-pub blocks-kept : (kept : List OpenBlock) (depth : ℕ) (block : OpenBlock) (blocks : List Block) → depth ≡ length blocks → BlocksHold kept blocks → BlocksHold (set kept depth block) blocks
-blocks-kept kept depth block blocks deep hold = blocks-later kept depth block blocks (omega arith) hold

@@ -9,6 +9,7 @@ ghost use Rattle.layout_text.specs.InOrder.{InOrder};
 ghost use Rattle.layout_rules.specs.FirstBroken.{first_broken};
 ghost use Rattle.layout_rules.specs.OpenBlocks.{group_broken, level_broken};
 
+use crate::stack::Stack;
 use ascending::search::{binary_search, is_strictly_ascending};
 use layout_text::level_line::{LevelLine, LevelLines};
 
@@ -84,48 +85,35 @@ pub fn first_broken(text: &[u8]) -> Option<(u32, u32)>
     requires { (length text.now ≤ 65536) × InOrder Members 0 (lines_at text.now 0) }
     ensures { result ≡ first_broken (layout_of text.now) }
 {
-    // no heap: a member line has 8 bytes at least, a block 12, and at most 40 blocks are open
-    let mut members = [0u32; 8192];
-    let mut tags = [0u32; 5461];
-    let mut blocks = [NO_BLOCK; 40];
-    let mut member_count = 0;
-    let mut tag_count = 0;
-    let mut depth = 0;
+    // a member line has 8 bytes at least, a block 12, and at most 40 blocks are open
+    let mut members: Stack<u32, 8192> = Stack::new(0);
+    let mut tags: Stack<u32, 5461> = Stack::new(0);
+    let mut blocks: Stack<OpenBlock, 40> = Stack::new(NO_BLOCK);
     for line in LevelLines::new(text, 0) {
         match line {
-            LevelLine::MemberLine(tag) => {
-                members[member_count] = tag;
-                member_count += 1;
-            }
-            LevelLine::GroupLine(count, delimiter, _) => {
-                blocks[depth] = OpenBlock {
-                    count,
-                    delimiter,
-                    members: member_count,
-                    tags: tag_count,
-                };
-                depth += 1;
-            }
+            LevelLine::MemberLine(tag) => members.push(tag),
+            LevelLine::GroupLine(count, delimiter, _) => blocks.push(OpenBlock {
+                count,
+                delimiter,
+                members: members.len(),
+                tags: tags.len(),
+            }),
             LevelLine::EndLine => {
-                depth -= 1;
-                let block = blocks[depth];
-                let from_member = block.members;
-                let from_tag = block.tags;
-                let broken = group_broken(
-                    &members[from_member..member_count],
-                    block.delimiter,
-                    &tags[from_tag..tag_count],
-                    block.count,
-                );
+                let Some(block) = blocks.pop() else {
+                    continue;
+                };
+                let own_members = members.after(block.members);
+                let own_tags = tags.after(block.tags);
+                let broken = group_broken(own_members, block.delimiter, own_tags, block.count);
                 if broken.is_some() {
                     return broken;
                 }
-                member_count = from_member;
-                tags[from_tag] = block.count;
-                tag_count = from_tag + 1;
+                members.truncate(block.members);
+                tags.truncate(block.tags);
+                tags.push(block.count);
             }
             _ => {}
         }
     }
-    top_broken(&members[..member_count], &tags[..tag_count])
+    top_broken(members.as_slice(), tags.as_slice())
 }

@@ -2,3 +2,4 @@
 #![tactic(auto)]
 
 pub mod layout_rules;
+pub mod stack;
