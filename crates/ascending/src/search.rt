@@ -49,8 +49,8 @@ pub struct Ascending<'a> {
 
 impl Ascending<'_> {
     // The place of the tag among the words, if it is there.
-    pub fn binary_search(&self, tag: u32) -> Option<usize>
-        ensures { result ≡ rank_in self.now.words.now tag }
+    pub fn binary_search(self, tag: u32) -> Option<usize>
+        ensures { result ≡ rank_in self.entry.words.now tag }
     {
         binary_search(self.words, tag)
     }

@@ -48,24 +48,24 @@ impl<'a> FieldTable<'a> {
     }
 
     // How many fields the table has.
-    pub fn len(&self) -> usize
-        ensures { result ≡ row_count self.now.fields.now }
+    pub fn len(self) -> usize
+        ensures { result ≡ row_count self.entry.fields.now }
     {
         self.fields.len() / 3
     }
 
     // The tag of the field at `index`.
-    pub fn tag_at(&self, index: usize) -> u32
-        requires { index < row_count self.now.fields.now }
-        ensures { result ≡ tag_of self.now.fields.now index }
+    pub fn tag_at(self, index: usize) -> u32
+        requires { index < row_count self.fields.now }
+        ensures { result ≡ tag_of self.entry.fields.now index }
     {
         self.fields[3 * index]
     }
 
     // The value of the field at `index`, a part of the message.
-    pub fn value_at(&self, index: usize) -> &'a [u8]
-        requires { index < row_count self.now.fields.now }
-        ensures { result.now ≡ (fields_of self.now.fields.now self.now.message.now).value_at index }
+    pub fn value_at(self, index: usize) -> &'a [u8]
+        requires { index < row_count self.fields.now }
+        ensures { result.now ≡ (fields_of self.entry.fields.now self.entry.message.now).value_at index }
     {
         let first = self.fields[3 * index + 1] as usize;
         let past = self.fields[3 * index + 2] as usize;
@@ -73,9 +73,9 @@ impl<'a> FieldTable<'a> {
     }
 
     // The count that the field at `index` declares as a count field.
-    pub fn count_at(&self, index: usize) -> Option<u64>
-        requires { index < row_count self.now.fields.now }
-        ensures { result ≡ count_at (fields_of self.now.fields.now self.now.message.now) index }
+    pub fn count_at(self, index: usize) -> Option<u64>
+        requires { index < row_count self.fields.now }
+        ensures { result ≡ count_at (fields_of self.entry.fields.now self.entry.message.now) index }
     {
         parse_count(self.value_at(index))
     }

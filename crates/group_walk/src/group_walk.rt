@@ -1,5 +1,6 @@
 // The walk of a group and the scan of an entry, which call each other: a call falls on the fields left and the depth left. Ported from walk.rs,
 // `walk_group` and `scan_entry`; the Visitor is the event space.
+ghost use Rattle.walk_steps.specs.WalkWords.{GroupRead};
 ghost use Rattle.group_walk.specs.WalkPromises.{WalkAsks, Walks, ScanAsks, Scans};
 
 use ascending::search::Ascending;
@@ -9,7 +10,7 @@ use field_table::field_table::FieldTable;
 use layouts::layout_words::Layout;
 use walk_steps::group_events::{put_end, put_event, put_repeat, put_start};
 use walk_steps::group_steps::{EntryStep, Turn, opening_at, step_at};
-use walk_steps::layout_input::entry_level;
+use walk_steps::layout_input::{GroupSpec, group_spec};
 
 // The first field behind a group, and the place behind the events' words.
 #[derive(Clone, Copy)]
@@ -31,36 +32,36 @@ pub struct EntryEnd {
 // sorted, the tags the scope around the group accepts. The tags seen in an entry are kept in a set of the level's width.
 #[cycle(scan_entry_scan_wide_walk_group)]
 pub fn walk_group(
-    table: &FieldTable<'_>,
-    layout: &Layout<'_>,
-    enclosing: &Ascending<'_>,
+    table: FieldTable<'_>,
+    layout: Layout<'_>,
+    enclosing: Ascending<'_>,
     group: usize,
     index: usize,
     depth: u32,
     events: &mut [u64],
     at: usize,
 ) -> GroupEnd
-    requires { WalkAsks layout.now.words.now group index depth at }
-    ensures { Walks layout.now.words.now table.now.fields.now table.now.message.now
-        enclosing.now.words.now group index depth events.old events.new at result.at result.next }
+    requires { WalkAsks layout.words.now group index depth at }
+    ensures { Walks layout.entry.words.now table.entry.fields.now table.entry.message.now
+        enclosing.entry.words.now group index depth events.old events.new at result.at result.next }
 {
     if table.len() <= index {
         return GroupEnd { next: index, at };
     }
-    let tag = layout.count_tag_at(group);
+    let spec = group_spec(layout, group); // with the groups nested in its entries
+    let tag = spec.count_tag;
     if 32 < depth {
         let deep = put_event(events, at, tag, depth, Kind::Deep);
         let next = index + 1;
         return GroupEnd { next, at: deep };
     }
     let declared = table.count_at(index);
-    let level = entry_level(layout, group);
     let mut to = put_start(events, at, tag, depth, index, declared);
     let mut cursor = index + 1;
     let mut entries: u64 = 0;
     let mut unparseable = false;
     loop {
-        match opening_at(table, &level, enclosing, declared, entries, cursor) {
+        match opening_at(table, spec, enclosing, declared, entries, cursor) {
             Turn::Over => break,
             Turn::Entry => {}
             Turn::Lead(member) => {
@@ -68,15 +69,15 @@ pub fn walk_group(
                 unparseable = true;
             }
         }
-        if level.members.words.len() <= 256 {
-            let entry = scan_entry(table, layout, group, cursor, depth, events, to);
+        if spec.members.words.len() <= 256 {
+            let entry = scan_entry(table, layout, spec, group, cursor, depth, events, to);
             let close = Kind::Close(entries, entry.seen);
             to = put_event(events, entry.at, tag, depth, close);
             cursor = entry.next;
             unparseable |= entry.unparseable; // by each entry
             entries += 1;
         } else {
-            let entry = scan_wide(table, layout, group, cursor, depth, events, to);
+            let entry = scan_wide(table, layout, spec, group, cursor, depth, events, to);
             let close = Kind::Close(entries, entry.seen);
             to = put_event(events, entry.at, tag, depth, close);
             cursor = entry.next;
@@ -95,28 +96,30 @@ pub fn walk_group(
 // at the first field that is not a member (the end of the group). For a level of up to 256 members.
 #[cycle(scan_entry_scan_wide_walk_group)]
 fn scan_entry(
-    table: &FieldTable<'_>,
-    layout: &Layout<'_>,
+    table: FieldTable<'_>,
+    layout: Layout<'_>,
+    spec: GroupSpec<'_>,
     group: usize,
     start: usize,
     depth: u32,
     events: &mut [u64],
     at: usize,
 ) -> EntryEnd
-    requires { ScanAsks layout.now.words.now table.now.fields.now table.now.message.now
+    requires asks { ScanAsks layout.words.now table.fields.now table.message.now
         group start depth at 256 }
-    ensures { Scans layout.now.words.now table.now.fields.now table.now.message.now
+    requires spec { GroupRead layout.words.now group spec.count_tag spec.delimiter
+        spec.members.words.now spec.tags.words.now spec.first }
+    ensures { Scans layout.entry.words.now table.entry.fields.now table.entry.message.now
         group start depth events.old events.new at result.at result.next result.seen
         result.unparseable }
 {
-    let tag = layout.count_tag_at(group);
-    let level = entry_level(layout, group); // with the groups nested in the entry
+    let tag = spec.count_tag;
     let mut seen = EntryTags::new();
     let mut cursor = start;
     let mut unparseable = false;
     let mut to = at;
     loop {
-        match step_at(table, &level, start, cursor) {
+        match step_at(table, spec, start, cursor) {
             EntryStep::Stop => break,
             EntryStep::Plain(rank, member) => {
                 let (with, fresh) = seen.insert_rank(rank);
@@ -134,7 +137,7 @@ fn scan_entry(
                 let nested = walk_group(
                     table,
                     layout,
-                    &level.members,
+                    spec.members,
                     inner,
                     cursor,
                     below,
@@ -146,7 +149,7 @@ fn scan_entry(
             }
         }
     }
-    let count = seen.close(level.members.words.len());
+    let count = seen.close(spec.members.words.len());
     EntryEnd {
         next: cursor,
         at: to,
@@ -159,28 +162,30 @@ fn scan_entry(
 // three call each other, and a cycle of calls gets no proof where one of them is generic.
 #[cycle(scan_entry_scan_wide_walk_group)]
 fn scan_wide(
-    table: &FieldTable<'_>,
-    layout: &Layout<'_>,
+    table: FieldTable<'_>,
+    layout: Layout<'_>,
+    spec: GroupSpec<'_>,
     group: usize,
     start: usize,
     depth: u32,
     events: &mut [u64],
     at: usize,
 ) -> EntryEnd
-    requires { ScanAsks layout.now.words.now table.now.fields.now table.now.message.now
+    requires asks { ScanAsks layout.words.now table.fields.now table.message.now
         group start depth at 8192 }
-    ensures { Scans layout.now.words.now table.now.fields.now table.now.message.now
+    requires spec { GroupRead layout.words.now group spec.count_tag spec.delimiter
+        spec.members.words.now spec.tags.words.now spec.first }
+    ensures { Scans layout.entry.words.now table.entry.fields.now table.entry.message.now
         group start depth events.old events.new at result.at result.next result.seen
         result.unparseable }
 {
-    let tag = layout.count_tag_at(group);
-    let level = entry_level(layout, group);
+    let tag = spec.count_tag;
     let mut seen = WideEntryTags::new();
     let mut cursor = start;
     let mut unparseable = false;
     let mut to = at;
     loop {
-        match step_at(table, &level, start, cursor) {
+        match step_at(table, spec, start, cursor) {
             EntryStep::Stop => break,
             EntryStep::Plain(rank, member) => {
                 let (with, fresh) = seen.insert_rank(rank);
@@ -198,7 +203,7 @@ fn scan_wide(
                 let nested = walk_group(
                     table,
                     layout,
-                    &level.members,
+                    spec.members,
                     inner,
                     cursor,
                     below,
@@ -210,7 +215,7 @@ fn scan_wide(
             }
         }
     }
-    let count = seen.close(level.members.words.len());
+    let count = seen.close(spec.members.words.len());
     EntryEnd {
         next: cursor,
         at: to,

@@ -37,43 +37,43 @@ pub struct Layout<'a> {
 
 impl<'a> Layout<'a> {
     // How many groups the layout has over all levels.
-    pub fn group_count(&self) -> usize
-        ensures { result ≡ group_count self.now.words.now }
+    pub fn group_count(self) -> usize
+        ensures { result ≡ group_count self.entry.words.now }
     {
         self.words[0] as usize
     }
 
     // The count tag of a group.
-    pub fn count_tag_at(&self, number: usize) -> u32
-        requires { number < group_count self.now.words.now }
-        ensures { result ≡ count_tag_at self.now.words.now number }
+    pub fn count_tag_at(self, number: usize) -> u32
+        requires { number < group_count self.words.now }
+        ensures { result ≡ count_tag_at self.entry.words.now number }
     {
         let groups = self.group_count();
         self.words[7 + 3 * groups + number]
     }
 
     // The delimiter of a group.
-    pub fn delimiter_at(&self, number: usize) -> u32
-        requires { number < group_count self.now.words.now }
-        ensures { result ≡ delimiter_at self.now.words.now number }
+    pub fn delimiter_at(self, number: usize) -> u32
+        requires { number < group_count self.words.now }
+        ensures { result ≡ delimiter_at self.entry.words.now number }
     {
         let groups = self.group_count();
         self.words[7 + 4 * groups + number]
     }
 
     // Whether a group is required.
-    pub fn is_required_at(&self, number: usize) -> bool
-        requires { number < group_count self.now.words.now }
-        ensures { result ≡ (flag_at self.now.words.now number ≡ᵇ 1) }
+    pub fn is_required_at(self, number: usize) -> bool
+        requires { number < group_count self.words.now }
+        ensures { result ≡ (flag_at self.entry.words.now number ≡ᵇ 1) }
     {
         let groups = self.group_count();
         self.words[7 + 5 * groups + number] == 1
     }
 
     // The members of a level, a part of the words, in strictly ascending order.
-    pub fn members_at(&self, level: usize) -> Ascending<'a>
-        requires { level ≤ group_count self.now.words.now }
-        ensures { result.words.now ≡ level_members self.now.words.now level }
+    pub fn members_at(self, level: usize) -> Ascending<'a>
+        requires { level ≤ group_count self.words.now }
+        ensures { result.words.now ≡ level_members self.entry.words.now level }
     {
         Ascending {
             words: stretch_at(self.words, 1 + level),
@@ -81,9 +81,9 @@ impl<'a> Layout<'a> {
     }
 
     // The required tags of a level, a part of the words.
-    pub fn required_at(&self, level: usize) -> &'a [u32]
-        requires { level ≤ group_count self.now.words.now }
-        ensures { result.now ≡ level_required self.now.words.now level }
+    pub fn required_at(self, level: usize) -> &'a [u32]
+        requires { level ≤ group_count self.words.now }
+        ensures { result.now ≡ level_required self.entry.words.now level }
     {
         let groups = self.group_count();
         stretch_at(self.words, 3 + groups + level)
@@ -91,9 +91,9 @@ impl<'a> Layout<'a> {
 
     // The count tags of the groups that stand in a level, a part of the words, in strictly
     // ascending order.
-    pub fn count_tags_at(&self, level: usize) -> Ascending<'a>
-        requires { level ≤ group_count self.now.words.now }
-        ensures { result.words.now ≡ level_count_tags self.now.words.now level }
+    pub fn count_tags_at(self, level: usize) -> Ascending<'a>
+        requires { level ≤ group_count self.words.now }
+        ensures { result.words.now ≡ level_count_tags self.entry.words.now level }
     {
         let groups = self.group_count();
         Ascending {
@@ -102,9 +102,9 @@ impl<'a> Layout<'a> {
     }
 
     // The number of the first group that stands in a level.
-    pub fn first_group_of(&self, level: usize) -> usize
-        requires { level ≤ group_count self.now.words.now }
-        ensures { result ≡ first_group self.now.words.now level }
+    pub fn first_group_of(self, level: usize) -> usize
+        requires { level ≤ group_count self.words.now }
+        ensures { result ≡ first_group self.entry.words.now level }
     {
         let groups = self.group_count();
         let place = self.words[5 + 2 * groups + level] as usize;

@@ -11,9 +11,9 @@ use refusals::refusal::Refusal;
 
 // The number of the entry level of the group with this count tag that stands in the level, if there
 // is one.
-pub fn nested_level(layout: &Layout<'_>, level: usize, tag: u32) -> Option<usize>
-    requires { level ≤ group_count layout.now.words.now }
-    ensures { result ≡ nested_level layout.now.words.now level tag }
+pub fn nested_level(layout: Layout<'_>, level: usize, tag: u32) -> Option<usize>
+    requires { level ≤ group_count layout.words.now }
+    ensures { result ≡ nested_level layout.entry.words.now level tag }
 {
     let rank = layout.count_tags_at(level).binary_search(tag)?;
     let number = layout.first_group_of(level) + rank;
@@ -28,7 +28,7 @@ pub fn level_of(words: &[u32], path: &[u32]) -> Result<usize, Refusal>
     let layout = layout_of(words).ok_or(Refusal::RuleBroken(0, 0))?;
     let mut level = 0;
     for tag in path {
-        level = nested_level(&layout, level, *tag).ok_or(Refusal::NoSuchGroup(*tag))?;
+        level = nested_level(layout, level, *tag).ok_or(Refusal::NoSuchGroup(*tag))?;
     }
     Ok(level)
 }

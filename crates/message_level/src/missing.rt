@@ -45,16 +45,16 @@ fn put_absent_tag(seen: &SeenSet<'_>, tag: u32, events: &mut [u64], at: usize) -
 // The same for the top group of this number, if it is required.
 fn put_absent_group(
     seen: &SeenSet<'_>,
-    layout: &Layout<'_>,
+    layout: Layout<'_>,
     number: usize,
     events: &mut [u64],
     at: usize,
 ) -> usize
-    requires number_bound { number < group_count layout.now.words.now }
+    requires number_bound { number < group_count layout.words.now }
     requires at_bound { at + 5 < 2 ^ 63 }
     ensures wrote { (tags : List ℕ) → SeenTags seen.now.defined.tags.words.now seen.now.words.now tags
         → Wrote events.old events.new at result
-        (missing_groups tags (required_from layout.now.words.now number 1)) }
+        (missing_groups tags (required_from layout.entry.words.now number 1)) }
     ensures near { result ≤ at + 5 }
 {
     if !layout.is_required_at(number) {
@@ -86,16 +86,16 @@ fn put_missing_tags(
 // The required groups by ascending count tag: the first so many groups.
 fn put_missing_groups(
     seen: &SeenSet<'_>,
-    layout: &Layout<'_>,
+    layout: Layout<'_>,
     groups: usize,
     events: &mut [u64],
     at: usize,
 ) -> usize
-    requires groups_inside { groups ≤ group_count layout.now.words.now }
+    requires groups_inside { groups ≤ group_count layout.words.now }
     requires groups_bound { at + 5 * groups < 2 ^ 62 }
     ensures { (tags : List ℕ) → SeenTags seen.now.defined.tags.words.now seen.now.words.now tags
         → Wrote events.old events.new at result
-        (missing_groups tags (required_from layout.now.words.now 0 groups)) }
+        (missing_groups tags (required_from layout.entry.words.now 0 groups)) }
 {
     let mut to = at;
     for number in 0..groups {
@@ -107,16 +107,16 @@ fn put_missing_groups(
 // All that is missing.
 pub fn put_missing(
     seen: &SeenSet<'_>,
-    layout: &Layout<'_>,
+    layout: Layout<'_>,
     events: &mut [u64],
     at: usize,
 ) -> usize
     requires at_bound { at ≤ 102400 }
     ensures { (tags : List ℕ) → SeenTags seen.now.defined.tags.words.now seen.now.words.now tags
         → Wrote events.old events.new at result
-        (missing_tags tags (level_required layout.now.words.now 0)
+        (missing_tags tags (level_required layout.entry.words.now 0)
         ++ missing_groups tags
-        (required_from layout.now.words.now 0 (length (level_count_tags layout.now.words.now 0)))) }
+        (required_from layout.entry.words.now 0 (length (level_count_tags layout.entry.words.now 0)))) }
 {
     let required = layout.required_at(0);
     let to = put_missing_tags(seen, required, events, at);

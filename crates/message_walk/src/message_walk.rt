@@ -29,10 +29,10 @@ fn put_twice(events: &mut [u64], at: usize, tag: u32, fresh: bool) -> usize
 }
 
 // Foreign, where the tag has no place at the message level. The Rust's FieldNotAllowedForMessage.
-fn put_foreign(layout: &Layout<'_>, events: &mut [u64], at: usize, tag: u32) -> usize
+fn put_foreign(layout: Layout<'_>, events: &mut [u64], at: usize, tag: u32) -> usize
     requires { at + 5 < 2 ^ 63 }
     ensures { Wrote events.old events.new at result
-        (foreign_unless (top_members layout.now.words.now tag) tag) }
+        (foreign_unless (top_members layout.entry.words.now tag) tag) }
 {
     let top = layout.members_at(0);
     let Some(_) = top.binary_search(tag) else {
@@ -43,15 +43,15 @@ fn put_foreign(layout: &Layout<'_>, events: &mut [u64], at: usize, tag: u32) -> 
 
 // The field at `index`, of this defined tag: the walk of the top group that it begins, or foreign.
 fn walk_place(
-    layout: &Layout<'_>,
-    table: &FieldTable<'_>,
+    layout: Layout<'_>,
+    table: FieldTable<'_>,
     index: usize,
     tag: u32,
     events: &mut [u64],
     at: usize,
 ) -> GroupEnd
-    requires { PlaceAsks table.now.fields.now index tag at }
-    ensures { Placed layout.now.words.now table.now.fields.now table.now.message.now index tag
+    requires { PlaceAsks table.fields.now index tag at }
+    ensures { Placed layout.entry.words.now table.entry.fields.now table.entry.message.now index tag
         events.old events.new at result.at result.next }
 {
     let Some(group) = top_group(layout, tag) else {
@@ -60,23 +60,23 @@ fn walk_place(
         return GroupEnd { next, at: past };
     };
     let top = layout.members_at(0);
-    walk_group(table, layout, &top, group, index, 0, events, at)
+    walk_group(table, layout, top, group, index, 0, events, at)
 }
 
 // A turn of the loop, at the field at `index`: an undefined tag is skipped.
 fn walk_field(
     defined: &DefinedTags<'_>,
-    layout: &Layout<'_>,
-    table: &FieldTable<'_>,
+    layout: Layout<'_>,
+    table: FieldTable<'_>,
     index: usize,
     seen: &mut [u64],
     events: &mut [u64],
     at: usize,
 ) -> GroupEnd
-    requires { TurnAsks table.now.fields.now seen.old index at }
+    requires { TurnAsks table.fields.now seen.old index at }
     ensures { (tags : List ℕ) → SeenTags defined.now.tags.words.now seen.old tags
-        → Turned defined.now.tags.words.now layout.now.words.now table.now.fields.now
-        table.now.message.now tags index seen.new events.old events.new at result.at result.next }
+        → Turned defined.now.tags.words.now layout.entry.words.now table.entry.fields.now
+        table.entry.message.now tags index seen.new events.old events.new at result.at result.next }
 {
     let tag = table.tag_at(index);
     let Some(rank) = defined.tags.binary_search(tag) else {
@@ -91,14 +91,14 @@ fn walk_field(
 // The loop. Gives the place behind the events' words; `seen` holds the tags seen.
 pub fn walk_fields(
     defined: &DefinedTags<'_>,
-    layout: &Layout<'_>,
-    table: &FieldTable<'_>,
+    layout: Layout<'_>,
+    table: FieldTable<'_>,
     seen: &mut [u64],
     events: &mut [u64],
 ) -> usize
     requires { seen.old ≡ no_ranks seen_words }
-    ensures { Walked defined.now.tags.words.now layout.now.words.now table.now.fields.now
-        table.now.message.now seen.new events.old events.new result }
+    ensures { Walked defined.now.tags.words.now layout.entry.words.now table.entry.fields.now
+        table.entry.message.now seen.new events.old events.new result }
 {
     let rows = table.len();
     let mut index = 0; // not a `for`: the walk of a group passes over its fields

@@ -17,8 +17,8 @@ use message_walk::message_walk::walk_fields;
 use refusals::refusal::Refusal;
 
 // As many words as a walk can need: five for each of 5 N events of the loop over N fields, for each required tag and for each group of the top.
-fn most_words(layout: &Layout<'_>, table: &FieldTable<'_>) -> usize
-    ensures { result ≡ most_words layout.now.words.now (row_count table.now.fields.now) }
+fn most_words(layout: Layout<'_>, table: FieldTable<'_>) -> usize
+    ensures { result ≡ most_words layout.entry.words.now (row_count table.entry.fields.now) }
 {
     let rows = table.len();
     let required = layout.required_at(0).len();
@@ -29,12 +29,12 @@ fn most_words(layout: &Layout<'_>, table: &FieldTable<'_>) -> usize
 // The walk once the lent words are accepted: the loop, then what is missing. Gives the place behind the events' words.
 fn walk_level(
     dictionary: Dictionary<'_>,
-    layout: &Layout<'_>,
-    table: &FieldTable<'_>,
+    layout: Layout<'_>,
+    table: FieldTable<'_>,
     events: &mut [u64],
 ) -> usize
     ensures { Wrote events.old events.new 0 result
-        (walk_of dictionary.entry.words.now layout.now.words.now table.now.fields.now table.now.message.now) }
+        (walk_of dictionary.entry.words.now layout.entry.words.now table.entry.fields.now table.entry.message.now) }
 {
     let defined = DefinedTags::new(defined_tags(dictionary));
     let mut words = [0u64; 171];
@@ -49,14 +49,14 @@ fn walk_level(
 // The walk where the event space may be short: a pass that is lent no space counts the words that are needed.
 fn count_first(
     dictionary: Dictionary<'_>,
-    layout: &Layout<'_>,
-    table: &FieldTable<'_>,
+    layout: Layout<'_>,
+    table: FieldTable<'_>,
     events: &mut [u64],
 ) -> Result<usize, Refusal>
     ensures outcome { result ≡ space_answer
-        (walk_of dictionary.entry.words.now layout.now.words.now table.now.fields.now table.now.message.now) events.old }
+        (walk_of dictionary.entry.words.now layout.entry.words.now table.entry.fields.now table.entry.message.now) events.old }
     ensures memory { events.new ≡ space_with
-        (walk_of dictionary.entry.words.now layout.now.words.now table.now.fields.now table.now.message.now) events.old }
+        (walk_of dictionary.entry.words.now layout.entry.words.now table.entry.fields.now table.entry.message.now) events.old }
 {
     let needed = walk_level(dictionary, layout, table, &mut events[..0]);
     if events.len() < needed {
@@ -69,14 +69,14 @@ fn count_first(
 // The walk once the lent words are accepted: one pass where the event space holds whatever it may need.
 fn walk_accepted(
     dictionary: Dictionary<'_>,
-    layout: &Layout<'_>,
-    table: &FieldTable<'_>,
+    layout: Layout<'_>,
+    table: FieldTable<'_>,
     events: &mut [u64],
 ) -> Result<usize, Refusal>
     ensures outcome { result ≡ space_answer
-        (walk_of dictionary.entry.words.now layout.now.words.now table.now.fields.now table.now.message.now) events.old }
+        (walk_of dictionary.entry.words.now layout.entry.words.now table.entry.fields.now table.entry.message.now) events.old }
     ensures memory { events.new ≡ space_with
-        (walk_of dictionary.entry.words.now layout.now.words.now table.now.fields.now table.now.message.now) events.old }
+        (walk_of dictionary.entry.words.now layout.entry.words.now table.entry.fields.now table.entry.message.now) events.old }
 {
     let most = most_words(layout, table);
     if events.len() < most {
@@ -105,5 +105,5 @@ pub fn walk_message(
     };
     let layout = layout_of(layout).ok_or(Refusal::RuleBroken(0, 0))?;
     let table = FieldTable::new(fields, message)?;
-    walk_accepted(dictionary, &layout, &table, events)
+    walk_accepted(dictionary, layout, table, events)
 }

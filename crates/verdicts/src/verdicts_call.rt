@@ -10,10 +10,10 @@ use refusals::refusal::Refusal;
 use verdict::verdict::{Verdict, check_value, record_of};
 
 // Writes the number of the record that defines each field's tag.
-fn write_records(dictionary: Dictionary<'_>, table: &FieldTable<'_>, verdicts: &mut [u64])
-    requires fields_in_bounds { row_count table.now.fields.now ≤ length verdicts.old }
-    ensures memory { verdicts.new ≡ filled_in (field_record dictionary.entry.words.now table.now.fields.now)
-        (row_count table.now.fields.now) verdicts.old }
+fn write_records(dictionary: Dictionary<'_>, table: FieldTable<'_>, verdicts: &mut [u64])
+    requires fields_in_bounds { row_count table.fields.now ≤ length verdicts.old }
+    ensures memory { verdicts.new ≡ filled_in (field_record dictionary.entry.words.now table.entry.fields.now)
+        (row_count table.entry.fields.now) verdicts.old }
 {
     for position in 0..table.len() {
         let tag = table.tag_at(position);
@@ -24,15 +24,15 @@ fn write_records(dictionary: Dictionary<'_>, table: &FieldTable<'_>, verdicts: &
 // The verdict on the field at `index`, whose tag has the record with this number.
 fn verdict_at(
     dictionary: Dictionary<'_>,
-    table: &FieldTable<'_>,
+    table: FieldTable<'_>,
     strict: bool,
     index: usize,
     number: usize,
 ) -> Verdict
-    requires index_bound { index < row_count table.now.fields.now }
-    requires number_value { number ≡ field_record dictionary.words.now table.now.fields.now index }
+    requires index_bound { index < row_count table.fields.now }
+    requires number_value { number ≡ field_record dictionary.words.now table.fields.now index }
     ensures { result ≡ field_verdict dictionary.entry.words.now strict
-        (fields_of table.now.fields.now table.now.message.now) index }
+        (fields_of table.entry.fields.now table.entry.message.now) index }
 {
     check_value(dictionary, number, table.value_at(index), strict)
 }
@@ -40,15 +40,15 @@ fn verdict_at(
 // Writes the verdict on each field over the number of its record.
 fn judge_values(
     dictionary: Dictionary<'_>,
-    table: &FieldTable<'_>,
+    table: FieldTable<'_>,
     strict: bool,
     verdicts: &mut [u64],
 )
-    requires fields_in_bounds { row_count table.now.fields.now ≤ length verdicts.old }
-    requires holds { Holds (field_record dictionary.words.now table.now.fields.now)
-        (row_count table.now.fields.now) verdicts.old }
-    ensures memory { verdicts.new ≡ written_in dictionary.entry.words.now table.now.fields.now
-        table.now.message.now strict verdicts.old }
+    requires fields_in_bounds { row_count table.fields.now ≤ length verdicts.old }
+    requires holds { Holds (field_record dictionary.words.now table.fields.now)
+        (row_count table.fields.now) verdicts.old }
+    ensures memory { verdicts.new ≡ written_in dictionary.entry.words.now table.entry.fields.now
+        table.entry.message.now strict verdicts.old }
 {
     for index in 0..table.len() {
         let number = verdicts[index] as usize;
@@ -61,13 +61,13 @@ fn judge_values(
 // value, whose jumps hang on the message (docs/SPEED.md).
 fn write_verdicts(
     dictionary: Dictionary<'_>,
-    table: &FieldTable<'_>,
+    table: FieldTable<'_>,
     strict: bool,
     verdicts: &mut [u64],
 )
-    requires fields_in_bounds { row_count table.now.fields.now ≤ length verdicts.old }
-    ensures memory { verdicts.new ≡ written_in dictionary.entry.words.now table.now.fields.now
-        table.now.message.now strict verdicts.old }
+    requires fields_in_bounds { row_count table.fields.now ≤ length verdicts.old }
+    ensures memory { verdicts.new ≡ written_in dictionary.entry.words.now table.entry.fields.now
+        table.entry.message.now strict verdicts.old }
 {
     write_records(dictionary, table, verdicts);
     judge_values(dictionary, table, strict, verdicts);
@@ -76,13 +76,13 @@ fn write_verdicts(
 // The verdicts, once the lent words are accepted.
 fn judge_fields(
     dictionary: Dictionary<'_>,
-    table: &FieldTable<'_>,
+    table: FieldTable<'_>,
     strict: bool,
     verdicts: &mut [u64],
 ) -> Result<usize, Refusal>
-    ensures outcome { result ≡ space_answer table.now.fields.now verdicts.old }
-    ensures memory { verdicts.new ≡ space_with dictionary.entry.words.now table.now.fields.now
-        table.now.message.now strict verdicts.old }
+    ensures outcome { result ≡ space_answer table.entry.fields.now verdicts.old }
+    ensures memory { verdicts.new ≡ space_with dictionary.entry.words.now table.entry.fields.now
+        table.entry.message.now strict verdicts.old }
 {
     let needed = table.len();
     if verdicts.len() < needed {
@@ -108,5 +108,5 @@ pub fn check_values(
         return Err(Refusal::UnknownForm(0));
     };
     let table = FieldTable::new(fields, message)?;
-    judge_fields(dictionary, &table, strict, verdicts)
+    judge_fields(dictionary, table, strict, verdicts)
 }

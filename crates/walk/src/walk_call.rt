@@ -21,8 +21,8 @@ pub struct Walked {
 }
 
 // As many words as a walk from the position on can need: five for each of 5 N - 2 events, where N fields are left.
-fn most_words(table: &FieldTable<'_>, position: usize) -> usize
-    ensures { result ≡ most_words (row_count table.now.fields.now) position }
+fn most_words(table: FieldTable<'_>, position: usize) -> usize
+    ensures { result ≡ most_words (row_count table.entry.fields.now) position }
 {
     let rows = table.len();
     if rows <= position {
@@ -34,23 +34,23 @@ fn most_words(table: &FieldTable<'_>, position: usize) -> usize
 
 // The walk where the event space may be short: a pass that is lent no space counts the words that are needed.
 fn count_first(
-    table: &FieldTable<'_>,
-    layout: &Layout<'_>,
+    table: FieldTable<'_>,
+    layout: Layout<'_>,
     position: usize,
     group: usize,
     events: &mut [u64],
 ) -> Result<Walked, Refusal>
-    requires { group < group_count layout.now.words.now }
-    ensures outcome { result ≡ space_answer (top_walk layout.now.words.now
-        table.now.fields.now table.now.message.now group position) events.old }
-    ensures memory { events.new ≡ space_with (top_walk layout.now.words.now
-        table.now.fields.now table.now.message.now group position) events.old }
+    requires { group < group_count layout.words.now }
+    ensures outcome { result ≡ space_answer (top_walk layout.entry.words.now
+        table.entry.fields.now table.entry.message.now group position) events.old }
+    ensures memory { events.new ≡ space_with (top_walk layout.entry.words.now
+        table.entry.fields.now table.entry.message.now group position) events.old }
 {
     let top = layout.members_at(0);
     let counted = group_walk::group_walk::walk_group(
         table,
         layout,
-        &top,
+        top,
         group,
         position,
         0,
@@ -62,7 +62,7 @@ fn count_first(
         return Err(Refusal::SpaceShort(needed as u64));
     }
     let end = group_walk::group_walk::walk_group(
-        table, layout, &top, group, position, 0, events, 0,
+        table, layout, top, group, position, 0, events, 0,
     );
     Ok(Walked {
         position: end.next,
@@ -72,16 +72,16 @@ fn count_first(
 
 // The walk of a top group, once the lent words are accepted: one pass where the event space holds whatever it may need.
 fn walk_top(
-    table: &FieldTable<'_>,
-    layout: &Layout<'_>,
+    table: FieldTable<'_>,
+    layout: Layout<'_>,
     position: usize,
     tag: u32,
     events: &mut [u64],
 ) -> Result<Walked, Refusal>
-    ensures outcome { result ≡ group_answer layout.now.words.now table.now.fields.now
-        table.now.message.now position tag events.old (group_of layout.now.words.now 0 tag) }
-    ensures memory { events.new ≡ group_space layout.now.words.now table.now.fields.now
-        table.now.message.now position tag events.old (group_of layout.now.words.now 0 tag) }
+    ensures outcome { result ≡ group_answer layout.entry.words.now table.entry.fields.now
+        table.entry.message.now position tag events.old (group_of layout.entry.words.now 0 tag) }
+    ensures memory { events.new ≡ group_space layout.entry.words.now table.entry.fields.now
+        table.entry.message.now position tag events.old (group_of layout.entry.words.now 0 tag) }
 {
     let Some(group) = top_group(layout, tag) else {
         return Err(Refusal::NoSuchGroup(tag));
@@ -92,7 +92,7 @@ fn walk_top(
     }
     let top = layout.members_at(0);
     let end = group_walk::group_walk::walk_group(
-        table, layout, &top, group, position, 0, events, 0,
+        table, layout, top, group, position, 0, events, 0,
     );
     Ok(Walked {
         position: end.next, // the first field after the group
@@ -115,5 +115,5 @@ pub fn walk_group(
 {
     let layout = layout_of(layout).ok_or(Refusal::RuleBroken(0, 0))?;
     let table = FieldTable::new(fields, message)?;
-    walk_top(&table, &layout, position, tag, events)
+    walk_top(table, layout, position, tag, events)
 }

@@ -7,7 +7,9 @@
 --   layout_of words              the layout: a group is its number, and its entry level has the number behind it
 --   input_of words fields message   all that a walk reads; "depth is 0 at the top and at most 32"
 --   top_members words            the level around a top group
-use Rattle.std.specs.Prelude.{ℕ, ◌+◌, Bool, List, Option, Some, None}
+--   GroupRead words group ..     a group as it is read from the words: its count tag, its delimiter, the members of its entry level, the count tags of
+--                               the groups nested in it and the number of the first of these
+use Rattle.std.specs.Prelude.{◌≡◌, ℕ, ◌+◌, Bool, List, Option, Some, None}
 use Rattle.ascending.specs.Search.{rank_in}
 use Rattle.layouts.specs.Limits.{gate_limits}
 use Rattle.layouts.specs.LayoutRules.{◌∈ᵇ◌}
@@ -39,3 +41,10 @@ input_of words fields message = record { layout = layout_of words; fields = fiel
 
 abbrev pub top_members : List ℕ → ℕ → Bool
 top_members words = among (level_members words 0)
+
+pub record GroupRead (words : List ℕ) (group count_tag delimiter : ℕ) (members tags : List ℕ) (first : ℕ) : Type 0 where
+  pub count_tag_is : count_tag ≡ count_tag_at words group
+  pub delimiter_is : delimiter ≡ delimiter_at words group
+  pub members_are : members ≡ level_members words (1 + group)
+  pub tags_are : tags ≡ level_count_tags words (1 + group)
+  pub first_is : first ≡ first_group words (1 + group)

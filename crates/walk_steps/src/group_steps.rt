@@ -7,7 +7,7 @@ ghost use Rattle.group_reading.specs.GroupSteps.{ends_group};
 ghost use Rattle.walk_steps.specs.WalkWords.{among, number_found};
 ghost use Rattle.walk_steps.specs.WordSteps.{member_step, entry_step, lead_by, turn_at};
 
-use crate::layout_input::EntryLevel;
+use crate::layout_input::GroupSpec;
 use ascending::search::Ascending;
 use field_table::field_table::FieldTable;
 
@@ -34,50 +34,50 @@ pub enum Turn {
 }
 
 // A field that is taken: plain, or the count field of a nested group.
-fn taken_step(level: &EntryLevel<'_>, rank: usize, tag: u32) -> EntryStep
+fn taken_step(spec: GroupSpec<'_>, rank: usize, tag: u32) -> EntryStep
     ensures { result ≡ member_step rank tag
-        (number_found level.now.first (rank_in level.now.tags.words.now tag)) }
+        (number_found spec.entry.first (rank_in spec.entry.tags.words.now tag)) }
 {
-    let Some(place) = level.tags.binary_search(tag) else {
+    let Some(place) = spec.tags.binary_search(tag) else {
         return EntryStep::Plain(rank, tag);
     };
-    EntryStep::Nested(rank, tag, level.first + place)
+    EntryStep::Nested(rank, tag, spec.first + place)
 }
 
 // What the field at the cursor is to an entry that begins at `start`. "One search answers both \"is it a member\" and its bitset slot."
 pub fn step_at(
-    table: &FieldTable<'_>,
-    level: &EntryLevel<'_>,
+    table: FieldTable<'_>,
+    spec: GroupSpec<'_>,
     start: usize,
     cursor: usize,
 ) -> EntryStep
-    ensures { result ≡ entry_step table.now.fields.now level.now.members.words.now
-        level.now.tags.words.now level.now.first level.now.delimiter start cursor }
+    ensures { result ≡ entry_step table.entry.fields.now spec.entry.members.words.now
+        spec.entry.tags.words.now spec.entry.first spec.entry.delimiter start cursor }
 {
     if table.len() <= cursor {
         return EntryStep::Stop;
     }
     let tag = table.tag_at(cursor);
-    let Some(rank) = level.members.binary_search(tag) else {
+    let Some(rank) = spec.members.binary_search(tag) else {
         return EntryStep::Stop;
     };
     if cursor == start {
-        return taken_step(level, rank, tag);
+        return taken_step(spec, rank, tag);
     }
-    if tag == level.delimiter {
+    if tag == spec.delimiter {
         return EntryStep::Stop;
     }
-    taken_step(level, rank, tag)
+    taken_step(spec, rank, tag)
 }
 
 // Whether a field after the declared entries belongs to the enclosing scope rather than to this group.
 fn ends_group(
     declared: Option<u64>,
     entries: u64,
-    enclosing: &Ascending<'_>,
+    enclosing: Ascending<'_>,
     tag: u32,
 ) -> bool
-    ensures { result ≡ ends_group declared entries (among enclosing.now.words.now) tag }
+    ensures { result ≡ ends_group declared entries (among enclosing.entry.words.now) tag }
 {
     let Some(number) = declared else {
         return false;
@@ -93,19 +93,19 @@ fn ends_group(
 
 // A field other than the delimiter: a member ahead of any delimiter, or not the group's.
 fn lead_at(
-    level: &EntryLevel<'_>,
-    enclosing: &Ascending<'_>,
+    spec: GroupSpec<'_>,
+    enclosing: Ascending<'_>,
     declared: Option<u64>,
     entries: u64,
     tag: u32,
 ) -> Turn
-    ensures { result ≡ lead_by (eqb entries 0) (tag ∈ᵇ level.now.members.words.now)
-        (ends_group declared entries (among enclosing.now.words.now) tag) tag }
+    ensures { result ≡ lead_by (eqb entries 0) (tag ∈ᵇ spec.entry.members.words.now)
+        (ends_group declared entries (among enclosing.entry.words.now) tag) tag }
 {
     if entries != 0 {
         return Turn::Over;
     }
-    let Some(_) = level.members.binary_search(tag) else {
+    let Some(_) = spec.members.binary_search(tag) else {
         return Turn::Over;
     };
     if ends_group(declared, entries, enclosing, tag) {
@@ -116,22 +116,22 @@ fn lead_at(
 
 // What the field at the cursor is to a group that has so many entries.
 pub fn opening_at(
-    table: &FieldTable<'_>,
-    level: &EntryLevel<'_>,
-    enclosing: &Ascending<'_>,
+    table: FieldTable<'_>,
+    spec: GroupSpec<'_>,
+    enclosing: Ascending<'_>,
     declared: Option<u64>,
     entries: u64,
     cursor: usize,
 ) -> Turn
-    ensures { result ≡ turn_at table.now.fields.now level.now.members.words.now
-        enclosing.now.words.now level.now.delimiter declared entries cursor }
+    ensures { result ≡ turn_at table.entry.fields.now spec.entry.members.words.now
+        enclosing.entry.words.now spec.entry.delimiter declared entries cursor }
 {
     if table.len() <= cursor {
         return Turn::Over;
     }
     let tag = table.tag_at(cursor);
-    if tag != level.delimiter {
-        return lead_at(level, enclosing, declared, entries, tag);
+    if tag != spec.delimiter {
+        return lead_at(spec, enclosing, declared, entries, tag);
     }
     if ends_group(declared, entries, enclosing, tag) {
         return Turn::Over;

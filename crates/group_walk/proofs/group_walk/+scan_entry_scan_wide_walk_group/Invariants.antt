@@ -8,13 +8,13 @@ use Prim.Native.Nat.{ℕ, ◌<◌}
 use Rattle.group_walk.proofs.group_walk.+scan_entry_scan_wide_walk_group.Given as goal
 
 abbrev pub decreases-scan_entry : goal.decreases-scan_entry
-decreases-scan_entry l = (row_count l.table.now.fields.now - l.start) + (33 - l.depth)
+decreases-scan_entry l = (row_count l.table.fields.now - l.start) + (33 - l.depth)
 
 abbrev pub decreases-scan_wide : goal.decreases-scan_wide
-decreases-scan_wide l = (row_count l.table.now.fields.now - l.start) + (33 - l.depth)
+decreases-scan_wide l = (row_count l.table.fields.now - l.start) + (33 - l.depth)
 
 abbrev pub decreases-walk_group : goal.decreases-walk_group
-decreases-walk_group l = (row_count l.table.now.fields.now - l.index) + (33 - l.depth)
+decreases-walk_group l = (row_count l.table.fields.now - l.index) + (33 - l.depth)
 
 abbrev pub invariant-scan_entry-loop-rank : goal.invariant-scan_entry-loop-rank
 invariant-scan_entry-loop-rank l = EntryWritten l.layout.words.now l.table.fields.now l.table.message.now l.group l.start l.depth l.initial.events l.at 4 l.events l.seen.words l.cursor l.unparseable l.to

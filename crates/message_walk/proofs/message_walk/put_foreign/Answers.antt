@@ -6,8 +6,8 @@ use borrow.Author.Rules.{rules}
 use Rattle.message_walk.proofs.message_walk.put_foreign.Goals as goal
 
 pub returns-in_default : goal.returns-in_default
-returns-in_default c = foreign_outside c.args.layout.now.words.now (is_layout-passed gate_limits _ c.args.layout.now.passed) _ c.members_at-top.ensures c.args.tag _ (λ ascends. c.binary_search.ensures) c.in_default.is c.put_event.ensures
+returns-in_default c = foreign_outside c.args.layout.words.now (is_layout-passed gate_limits _ c.args.layout.passed) _ c.members_at-top.ensures c.args.tag _ (λ ascends. c.binary_search.ensures) c.in_default.is c.put_event.ensures
 
 -- fn put_foreign(layout: &[u32], events: &mut [u64], at: usize, tag: u32) -> usize
 pub returns : goal.returns
-returns c = foreign_member c.args.layout.now.words.now (is_layout-passed gate_limits _ c.args.layout.now.passed) _ c.members_at-top.ensures c.args.tag _ (λ ascends. c.binary_search.ensures) _ c.in-Some.is _ _
+returns c = foreign_member c.args.layout.words.now (is_layout-passed gate_limits _ c.args.layout.passed) _ c.members_at-top.ensures c.args.tag _ (λ ascends. c.binary_search.ensures) _ c.in-Some.is _ _

@@ -7,18 +7,18 @@ use Rattle.message_walk.proofs.message_walk.walk_field.Goals as goal
 
 -- return GroupEnd { next, at };
 pub returns-in_default : goal.returns-in_default
-returns-in_default c = λ tags kept. turn-skips c.args.defined.now.tags.words.now c.args.layout.now.words.now c.args.table.now.fields.now c.args.table.now.message.now (lent_of c.args.defined.now.tags.ascends c.args.defined.now.few_tags c.args.layout.now.passed c.args.layout.now.few_groups c.args.table.now.accepted) c.args.seen.now c.args.index c.args.at c.requires _ c.tag_at-tag.ensures _ (λ ascends. c.binary_search.ensures) c.in_default.is _ tags kept
+returns-in_default c = λ tags kept. turn-skips c.args.defined.now.tags.words.now c.args.layout.words.now c.args.table.fields.now c.args.table.message.now (lent_of c.args.defined.now.tags.ascends c.args.defined.now.few_tags c.args.layout.passed c.args.layout.few_groups c.args.table.accepted) c.args.seen.now c.args.index c.args.at c.requires _ c.tag_at-tag.ensures _ (λ ascends. c.binary_search.ensures) c.in_default.is _ tags kept
 
 -- let fresh = insert(seen, rank);
 pub insert-fresh-requires : goal.insert-fresh-requires
-insert-fresh-requires c = rank_inside c.args.defined.now.tags.words.now c.args.layout.now.words.now c.args.table.now.fields.now c.args.table.now.message.now (lent_of c.args.defined.now.tags.ascends c.args.defined.now.few_tags c.args.layout.now.passed c.args.layout.now.few_groups c.args.table.now.accepted) c.args.seen.now c.args.index c.args.at c.requires _ c.tag_at-tag.ensures _ (λ ascends. c.binary_search.ensures) _ c.in-Some.is
+insert-fresh-requires c = rank_inside c.args.defined.now.tags.words.now c.args.layout.words.now c.args.table.fields.now c.args.table.message.now (lent_of c.args.defined.now.tags.ascends c.args.defined.now.few_tags c.args.layout.passed c.args.layout.few_groups c.args.table.accepted) c.args.seen.now c.args.index c.args.at c.requires _ c.tag_at-tag.ensures _ (λ ascends. c.binary_search.ensures) _ c.in-Some.is
 
 -- walk_place(layout, fields, message, index, tag, events, to)
 pub walk_place-requires : goal.walk_place-requires
-walk_place-requires c = record { inside = c.requires.inside; tag_is = c.tag_at-tag.ensures; room = omega (arith, twice-room c.args.defined.now.tags.words.now c.args.layout.now.words.now c.args.table.now.fields.now c.args.table.now.message.now (lent_of c.args.defined.now.tags.ascends c.args.defined.now.few_tags c.args.layout.now.passed c.args.layout.now.few_groups c.args.table.now.accepted) c.args.seen.now c.args.index c.args.at c.requires _ c.tag_at-tag.ensures _ (λ ascends. c.binary_search.ensures) _ c.in-Some.is _ _ c.insert-fresh.ensures.outcome c.insert-fresh.ensures.memory _ _ _ c.put_twice-to.ensures, c.requires.room) }
+walk_place-requires c = record { inside = c.requires.inside; tag_is = c.tag_at-tag.ensures; room = omega (arith, twice-room c.args.defined.now.tags.words.now c.args.layout.words.now c.args.table.fields.now c.args.table.message.now (lent_of c.args.defined.now.tags.ascends c.args.defined.now.few_tags c.args.layout.passed c.args.layout.few_groups c.args.table.accepted) c.args.seen.now c.args.index c.args.at c.requires _ c.tag_at-tag.ensures _ (λ ascends. c.binary_search.ensures) _ c.in-Some.is _ _ c.insert-fresh.ensures.outcome c.insert-fresh.ensures.memory _ _ _ c.put_twice-to.ensures, c.requires.room) }
 
 pub returns : goal.returns
-returns c = λ tags kept. turn-taken c.args.defined.now.tags.words.now c.args.layout.now.words.now c.args.table.now.fields.now c.args.table.now.message.now (lent_of c.args.defined.now.tags.ascends c.args.defined.now.few_tags c.args.layout.now.passed c.args.layout.now.few_groups c.args.table.now.accepted) c.args.seen.now c.args.index c.args.at c.requires _ c.tag_at-tag.ensures _ (λ ascends. c.binary_search.ensures) _ c.in-Some.is _ _ c.insert-fresh.ensures.outcome c.insert-fresh.ensures.memory _ _ _ c.put_twice-to.ensures _ _ _ c.walk_place.ensures tags kept
+returns c = λ tags kept. turn-taken c.args.defined.now.tags.words.now c.args.layout.words.now c.args.table.fields.now c.args.table.message.now (lent_of c.args.defined.now.tags.ascends c.args.defined.now.few_tags c.args.layout.passed c.args.layout.few_groups c.args.table.accepted) c.args.seen.now c.args.index c.args.at c.requires _ c.tag_at-tag.ensures _ (λ ascends. c.binary_search.ensures) _ c.in-Some.is _ _ c.insert-fresh.ensures.outcome c.insert-fresh.ensures.memory _ _ _ c.put_twice-to.ensures _ _ _ c.walk_place.ensures tags kept
 
 pub put_twice-to-requires : goal.put_twice-to-requires
-put_twice-to-requires c = omega (arith, c.requires.inside, c.requires.room, accepted-few _ _ c.args.table.now.accepted)
+put_twice-to-requires c = omega (arith, c.requires.inside, c.requires.room, accepted-few _ _ c.args.table.accepted)

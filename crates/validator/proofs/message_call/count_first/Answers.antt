@@ -6,12 +6,12 @@ use Rattle.validator.proofs.message_call.count_first.Goals as goal
 
 pub returns-then-events-needed : goal.returns-then-events-needed
 returns-then-events-needed c = record {
-  outcome = (space_short (walk_of c.args.dictionary.words.now c.args.layout.now.words.now c.args.table.now.fields.now c.args.table.now.message.now) c.args.events.now _ _ c.walk_level-needed.ensures c.if-events-needed.true).0;
-  memory = (space_short (walk_of c.args.dictionary.words.now c.args.layout.now.words.now c.args.table.now.fields.now c.args.table.now.message.now) c.args.events.now _ _ c.walk_level-needed.ensures c.if-events-needed.true).1;
+  outcome = (space_short (walk_of c.args.dictionary.words.now c.args.layout.words.now c.args.table.fields.now c.args.table.message.now) c.args.events.now _ _ c.walk_level-needed.ensures c.if-events-needed.true).0;
+  memory = (space_short (walk_of c.args.dictionary.words.now c.args.layout.words.now c.args.table.fields.now c.args.table.message.now) c.args.events.now _ _ c.walk_level-needed.ensures c.if-events-needed.true).1;
 }
 
 pub returns : goal.returns
 returns c = record {
-  outcome = (space-holds (walk_of c.args.dictionary.words.now c.args.layout.now.words.now c.args.table.now.fields.now c.args.table.now.message.now) c.args.events.now _ _ c.walk_level-needed.ensures c.if-events-needed.false _ _ c.walk_level-words.ensures).0;
-  memory = (space-holds (walk_of c.args.dictionary.words.now c.args.layout.now.words.now c.args.table.now.fields.now c.args.table.now.message.now) c.args.events.now _ _ c.walk_level-needed.ensures c.if-events-needed.false _ _ c.walk_level-words.ensures).1;
+  outcome = (space-holds (walk_of c.args.dictionary.words.now c.args.layout.words.now c.args.table.fields.now c.args.table.message.now) c.args.events.now _ _ c.walk_level-needed.ensures c.if-events-needed.false _ _ c.walk_level-words.ensures).0;
+  memory = (space-holds (walk_of c.args.dictionary.words.now c.args.layout.words.now c.args.table.fields.now c.args.table.message.now) c.args.events.now _ _ c.walk_level-needed.ensures c.if-events-needed.false _ _ c.walk_level-words.ensures).1;
 }

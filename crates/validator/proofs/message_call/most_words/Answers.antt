@@ -12,11 +12,11 @@ use Rattle.validator.proofs.message_call.most_words.Goals as goal
 pub overflow_mul-result-2 : goal.overflow_mul-result-2
 overflow_mul-result-2 c = omega (
   arith,
-  required-part_few c.args.layout.now.words.now (is_layout-passed gate_limits _ c.args.layout.now.passed) _ c.required_at-required.ensures,
-  groups-part_few c.args.layout.now.words.now (is_layout-passed gate_limits _ c.args.layout.now.passed) _ c.count_tags_at.ensures,
+  required-part_few c.args.layout.words.now (is_layout-passed gate_limits _ c.args.layout.passed) _ c.required_at-required.ensures,
+  groups-part_few c.args.layout.words.now (is_layout-passed gate_limits _ c.args.layout.passed) _ c.count_tags_at.ensures,
   c.len-rows.ensures,
-  c.args.layout.now.few_groups,
-  accepted-few _ _ c.args.table.now.accepted,
+  c.args.layout.few_groups,
+  accepted-few _ _ c.args.table.accepted,
 )
 
 -- fn most_words(layout: &[u32], fields: &[u32]) -> usize

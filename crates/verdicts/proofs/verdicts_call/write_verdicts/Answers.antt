@@ -12,4 +12,4 @@ judge_values-requires c = record {
 }
 
 pub returns : goal.returns
-returns c = record { memory = written_over c.args.dictionary.words.now c.args.table.now.fields.now c.args.table.now.message.now c.args.strict c.args.verdicts.now _ _ c.write_records.ensures.memory c.judge_values.ensures.memory }
+returns c = record { memory = written_over c.args.dictionary.words.now c.args.table.fields.now c.args.table.message.now c.args.strict c.args.verdicts.now _ _ c.write_records.ensures.memory c.judge_values.ensures.memory }

@@ -12,8 +12,8 @@ walk_group-counted-requires c = record { valid = c.requires; shallow = omega ari
 
 pub returns-then-events-needed : goal.returns-then-events-needed
 returns-then-events-needed c = record {
-  outcome = (space_short c.args.layout.now.words.now c.args.table.now.fields.now c.args.table.now.message.now (is_layout-passed gate_limits _ c.args.layout.now.passed) c.args.group c.args.position c.requires _ c.members_at-top.ensures c.args.events.now _ _ _ c.walk_group-counted.ensures c.if-events-needed.true).0;
-  memory = (space_short c.args.layout.now.words.now c.args.table.now.fields.now c.args.table.now.message.now (is_layout-passed gate_limits _ c.args.layout.now.passed) c.args.group c.args.position c.requires _ c.members_at-top.ensures c.args.events.now _ _ _ c.walk_group-counted.ensures c.if-events-needed.true).1;
+  outcome = (space_short c.args.layout.words.now c.args.table.fields.now c.args.table.message.now (is_layout-passed gate_limits _ c.args.layout.passed) c.args.group c.args.position c.requires _ c.members_at-top.ensures c.args.events.now _ _ _ c.walk_group-counted.ensures c.if-events-needed.true).0;
+  memory = (space_short c.args.layout.words.now c.args.table.fields.now c.args.table.message.now (is_layout-passed gate_limits _ c.args.layout.passed) c.args.group c.args.position c.requires _ c.members_at-top.ensures c.args.events.now _ _ _ c.walk_group-counted.ensures c.if-events-needed.true).1;
 }
 
 -- let end = group_walk::group_walk::walk_group(
@@ -22,6 +22,6 @@ walk_group-end-requires c = record { valid = c.requires; shallow = omega arith; 
 
 pub returns : goal.returns
 returns c = record {
-  outcome = (space-holds c.args.layout.now.words.now c.args.table.now.fields.now c.args.table.now.message.now (is_layout-passed gate_limits _ c.args.layout.now.passed) c.args.group c.args.position c.requires _ c.members_at-top.ensures c.args.events.now _ _ _ c.walk_group-counted.ensures c.if-events-needed.false _ _ _ c.walk_group-end.ensures).0;
-  memory = (space-holds c.args.layout.now.words.now c.args.table.now.fields.now c.args.table.now.message.now (is_layout-passed gate_limits _ c.args.layout.now.passed) c.args.group c.args.position c.requires _ c.members_at-top.ensures c.args.events.now _ _ _ c.walk_group-counted.ensures c.if-events-needed.false _ _ _ c.walk_group-end.ensures).1;
+  outcome = (space-holds c.args.layout.words.now c.args.table.fields.now c.args.table.message.now (is_layout-passed gate_limits _ c.args.layout.passed) c.args.group c.args.position c.requires _ c.members_at-top.ensures c.args.events.now _ _ _ c.walk_group-counted.ensures c.if-events-needed.false _ _ _ c.walk_group-end.ensures).0;
+  memory = (space-holds c.args.layout.words.now c.args.table.fields.now c.args.table.message.now (is_layout-passed gate_limits _ c.args.layout.passed) c.args.group c.args.position c.requires _ c.members_at-top.ensures c.args.events.now _ _ _ c.walk_group-counted.ensures c.if-events-needed.false _ _ _ c.walk_group-end.ensures).1;
 }

@@ -14,14 +14,14 @@ returns-in_default c = step-foreign _ _ _ _ _ _ _ (omega (arith, c.len.ensures, 
 
 pub returns-then-cursor-start : goal.returns-then-cursor-start
 returns-then-cursor-start c = step-taken _ _ _ _ _ _ _ (omega (arith, c.len.ensures, c.if-len-cursor.false)) _ c.tag_at-tag.ensures _ (sym c.binary_search.ensures ∙ c.in-Some.is)
-    (taken-first c.args.cursor c.args.start c.tag_at-tag.result c.args.level.now.delimiter c.if-cursor-start.true) _ c.taken_step.ensures
+    (taken-first c.args.cursor c.args.start c.tag_at-tag.result c.args.spec.delimiter c.if-cursor-start.true) _ c.taken_step.ensures
 
 -- return EntryStep::Stop;
-pub returns-then-tag-level : goal.returns-then-tag-level
-returns-then-tag-level c = step-delimiter _ _ _ _ _ _ _ (omega (arith, c.len.ensures, c.if-len-cursor.false)) _ c.tag_at-tag.ensures _ (sym c.binary_search.ensures ∙ c.in-Some.is)
-    c.if-cursor-start.false c.if-tag-level.true
+pub returns-then-tag-spec : goal.returns-then-tag-spec
+returns-then-tag-spec c = step-delimiter _ _ _ _ _ _ _ (omega (arith, c.len.ensures, c.if-len-cursor.false)) _ c.tag_at-tag.ensures _ (sym c.binary_search.ensures ∙ c.in-Some.is)
+    c.if-cursor-start.false c.if-tag-spec.true
 
 -- pub fn step_at(
 pub returns : goal.returns
 returns c = step-taken _ _ _ _ _ _ _ (omega (arith, c.len.ensures, c.if-len-cursor.false)) _ c.tag_at-tag.ensures _ (sym c.binary_search.ensures ∙ c.in-Some.is)
-    (taken-other c.args.cursor c.args.start c.tag_at-tag.result c.args.level.now.delimiter c.if-tag-level.false) _ c.taken_step-2.ensures
+    (taken-other c.args.cursor c.args.start c.tag_at-tag.result c.args.spec.delimiter c.if-tag-spec.false) _ c.taken_step-2.ensures

@@ -10,7 +10,7 @@ returns-in_default c = rw (sym c.binary_search.ensures ∙ c.in_default.is)
 
 -- EntryStep::Nested(rank, tag, first + place)
 pub overflow_add-result : goal.overflow_add-result
-overflow_add-result c = omega (arith, rank_in-inside _ _ _ (sym c.binary_search.ensures ∙ c.in-Some.is), c.args.level.now.few_groups)
+overflow_add-result c = omega (arith, rank_in-inside _ _ _ (sym c.binary_search.ensures ∙ c.in-Some.is), c.args.spec.few_groups)
 
 -- fn taken_step(tags: &[u32], first: usize, rank: usize, tag: u32) -> EntryStep
 pub returns : goal.returns

@@ -4,9 +4,9 @@ use Rattle.layouts.specs.LayoutCheckFacts.{is_layout-passed, count_tags-inside, 
 use Rattle.layouts.proofs.layout_words.Layout.count_tags_at.Goals as goal
 
 pub stretch_at-requires : goal.stretch_at-requires
-stretch_at-requires c = rw c.group_count-groups.ensures (count_tags-inside gate_limits _ (is_layout-passed gate_limits _ c.args.self.now.passed) _ c.requires)
+stretch_at-requires c = rw c.group_count-groups.ensures (count_tags-inside gate_limits _ (is_layout-passed gate_limits _ c.args.self.passed) _ c.requires)
 
 pub invariant_of-result : goal.invariant_of-result
 invariant_of-result c = record {
-  ascends = rw (c.stretch_at.ensures, c.group_count-groups.ensures) (count_tags-ascending gate_limits _ (is_layout-passed gate_limits _ c.args.self.now.passed) _ c.requires);
+  ascends = rw (c.stretch_at.ensures, c.group_count-groups.ensures) (count_tags-ascending gate_limits _ (is_layout-passed gate_limits _ c.args.self.passed) _ c.requires);
 }

@@ -4,7 +4,7 @@ use Rattle.layouts.specs.LayoutCheckFacts.{layout_heads, layout_first_group}
 use Rattle.layouts.proofs.layout_words.Layout.first_group_of.Goals as goal
 
 pub bounds-self-groups : goal.bounds-self-groups
-bounds-self-groups c = omega (arith, layout_heads _ c.args.self.now.passed, c.requires, c.group_count-groups.ensures)
+bounds-self-groups c = omega (arith, layout_heads _ c.args.self.passed, c.requires, c.group_count-groups.ensures)
 
 pub overflow_sub-result : goal.overflow_sub-result
-overflow_sub-result c = rw c.group_count-groups.ensures (layout_first_group _ c.args.self.now.passed _ c.requires)
+overflow_sub-result c = rw c.group_count-groups.ensures (layout_first_group _ c.args.self.passed _ c.requires)

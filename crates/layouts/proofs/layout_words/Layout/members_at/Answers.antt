@@ -4,7 +4,7 @@ use Rattle.layouts.specs.LayoutCheckFacts.{is_layout-passed, members_inside, mem
 use Rattle.layouts.proofs.layout_words.Layout.members_at.Goals as goal
 
 pub stretch_at-requires : goal.stretch_at-requires
-stretch_at-requires c = members_inside gate_limits _ (is_layout-passed gate_limits _ c.args.self.now.passed) _ c.requires
+stretch_at-requires c = members_inside gate_limits _ (is_layout-passed gate_limits _ c.args.self.passed) _ c.requires
 
 pub invariant_of-result : goal.invariant_of-result
-invariant_of-result c = record { ascends = rw c.stretch_at.ensures (members-ascending gate_limits _ (is_layout-passed gate_limits _ c.args.self.now.passed) _ c.requires) }
+invariant_of-result c = record { ascends = rw c.stretch_at.ensures (members-ascending gate_limits _ (is_layout-passed gate_limits _ c.args.self.passed) _ c.requires) }
