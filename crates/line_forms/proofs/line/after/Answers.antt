@@ -1,8 +1,11 @@
--- `line_forms::line::after` meets its contract: `strip_prefix` compares the first bytes with the key (specs/LineFormsLaws.antt).
-use Rattle.std.proofs.Common.{◌≡◌, ◌+◌, length}
-use Rattle.line_forms.specs.LineFormsLaws.{starts_with-pointwise, forget_last}
+-- `line_forms::line::after` meets its contract: bytes that start with the key are at least as long as it.
+use Rattle.std.proofs.Common.{sym, ◌∙◌}
+use Rattle.lines.specs.LinesLaws.{starts_with_length}
 use Rattle.line_forms.proofs.line.after.Goals as goal
 
--- fn after<'a>(bytes: &'a [u8], key: &[u8]) -> Option<&'a [u8]>
-pub returns : goal.returns
-returns c = forget_last _ _ _ (λ rest. length rest.now + length c.args.key.now ≡ length c.args.bytes.now) c.strip_prefix.result (rw (starts_with-pointwise c.args.key.now c.args.bytes.now) at c.strip_prefix.ensures.cases)
+-- return Some(&bytes[key.len()..]);
+pub slice_bounds-result-count : goal.slice_bounds-result-count
+slice_bounds-result-count c = starts_with_length _ _ (sym c.starts_with.ensures ∙ c.if-starts_with.true)
+
+pub slice_bounds-result-start : goal.slice_bounds-result-start
+slice_bounds-result-start c = starts_with_length _ _ (sym c.starts_with.ensures ∙ c.if-starts_with.true)
