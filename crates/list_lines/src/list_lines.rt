@@ -6,7 +6,8 @@ ghost use Rattle.list_lines.specs.ListLinesLaws.{Put};
 use itoa::Buffer;
 use refusals::refusal::Refusal;
 
-// Writes the bytes from `at` on, and gives the place after them.
+// Writes the bytes from `at` on, and gives the place after them. The gate has no heap, so a list is
+// written into lent bytes, and no text is made of it first.
 fn put_text(out: &mut [u8], at: usize, text: &[u8]) -> usize
     requires { at + length text.now ≤ length out.old }
     ensures { Put out.old out.new at result text.now }
@@ -44,7 +45,8 @@ pub fn put_type_line(out: &mut [u8], at: usize, message_type: &[u8], fields: u64
     put_text(out, end, b"\n")
 }
 
-// Writes the name of an event's kind. The kind is a number here since it is read from the words of an event, as C reads them.
+// Writes the name of an event's kind. The kind is a number here since it is read from the words of
+// an event, as C reads them.
 fn put_kind(out: &mut [u8], at: usize, kind: u64) -> usize
     requires { at + 8 ≤ length out.old }
     ensures { Put out.old out.new at result (kind_name kind) }

@@ -1,5 +1,5 @@
--- Laws of the letters of a T in a word (`Records.antt`): the tests of `holds_letters` and `letters_number`, which look at a byte at a time up to the first
--- that is 0. Assumes nothing.
+-- Laws of the letters of a T in a word (`Records.antt`): what a look at each byte says, up to the first that is 0, of `holds_letters` and of the number that the
+-- letters make. Assumes nothing.
 --
 --   second_of word, third_of word, fourth_of word    the letters from the second, third, fourth on
 --   number_behind high bytes                       the number that `high` makes with the bytes written behind it, where they are digits

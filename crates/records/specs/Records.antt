@@ -1,4 +1,4 @@
--- A record: a line of a dictionary text as ten words of 32 bits, the kind of the line first. A word that a kind does not use is 0.
+-- A record: a line of a dictionary text as ten words of 32 bits, the number of its kind first (`RecordKind.antt`). A word that a kind does not use is 0.
 --
 --   kind   line                       the words behind the kind
 --     1    def=TAG,TYPE               TAG, the place of TYPE among the names of `FieldType`, from 0
@@ -25,6 +25,7 @@
 --   holds_value left words        the words hold `left` bytes 21 to 7E, then 0
 --   record_of line                the ten words of a line
 --   line_from record              the line of ten words
+--   flag_from record              the flag in the third word, where it is the last that is used
 --   lines_from count words        the lines of so many records
 --   Words32 words                every word has 32 bits, as the words that are lent have
 use Rattle.std.specs.Prelude.{ℕ, zero, suc, ◌-◌, ◌/◌, ◌%◌, ◌^◌, ◌<◌, Bool, true, false, ◌&&◌, List, [], ◌∷◌, get_or, take, drop, replicate, if◌then◌else◌, Option, Some, None}

@@ -113,7 +113,8 @@ pub fn pair_at(words: &[u32], at: usize) -> u64
     words[at] as u64 + 0x1_0000_0000 * (words[at + 1] as u64)
 }
 
-// The words joined, which is 0 where each of them is: one test of it takes less than a jump for each.
+// The words joined, which is 0 where each of them is: one test of it takes less than a jump for
+// each word.
 fn joined(words: &[u32]) -> u32
     ensures { result ≡ fold bit_or 0 words.now }
 {
