@@ -5,7 +5,7 @@
 use Rattle.std.specs.Prelude.{◌≡◌, Bool, ◌&&◌, ◌||◌, cond, leb, ltb, eqb, drop, Option, Some, None, Result, Ok, Err}
 use Rattle.std.proofs.Math.Path.{refl, sym, ap}
 use Rattle.std.proofs.Common.{◌∙◌, take_at, get_or-drop}
-use Prim.Native.Nat.{ℕ, zero, suc, ◌+◌, ◌*◌, ◌-◌, ◌≤◌, ◌<◌}
+use Prim.Native.Nat.{ℕ, zero, suc, ◌+◌, ◌*◌, ◌≤◌, ◌<◌}
 use Rattle.std.proofs.Math.Bool.{true, false}
 use Rattle.std.proofs.lemmas.Bool.{false≢true}
 use mathlib.Core.List.{List, [], ◌∷◌, ◌++◌, map, append_assoc}
@@ -14,7 +14,6 @@ use Rattle.std.proofs.Math.ListN.{length, get_or, take, length-append, length-ma
 use Rattle.std.proofs.Math.Seq.{drop_at, get_or-append-add}
 use borrow.Author.Tests.{le-leb, lt-ltb, ltb-true, ltb-false, eqb-true, eqb-false, eq-eqb}
 use Rattle.ascii.specs.NotationLaws.{and_both}
-use Rattle.ascii.specs.Notation.{is_between}
 use Rattle.ascii.specs.Bytes.{non_empty}
 use Rattle.ascending.specs.Sort.{sorted, AscendingFrom, Ascending, once, how_often}
 use Rattle.ascending.specs.SortLaws.{sorted-ascending, sorted-as_often, sorted-length}

@@ -23,10 +23,9 @@ use Rattle.dictionary_order.specs.declared.dictionary_order.State.{State}
 use Rattle.texts.specs.declared.dictionary_text.Counts.{Counts}
 use Rattle.texts.specs.declared.dictionary_text.Defined.{Defined}
 use Rattle.texts.specs.declared.dictionary_text.Defined.TheVariants.{Tag, ComponentName, MessageName}
-use Rattle.lines.specs.Lines.{Pieces, last, piece, cut, lines_of, line_feed}
+use Rattle.lines.specs.Lines.{piece, cut, lines_of, line_feed}
 use Rattle.lines.specs.LinesLaws.{cut-first_piece}
 use Rattle.lines.specs.LineParts.{is_visible}
-use Rattle.line_forms.specs.LineForms.{line_of}
 use Rattle.dictionary_order.specs.DictionaryOrder.{start, step_of, after}
 use Rattle.texts.specs.DictionaryText.{counted, counts, defined_by, order_from, key_of, is_in, on_key, again_from, again_of, order_of, dictionary_text_of}
 use Rattle.records.specs.Records.{record_of, line_from, letters_text, lines_from, Words32}

@@ -5,7 +5,7 @@
 --   accepts state number total lines   lines from this number on, read in this state behind so many bytes, are those of an accepted text, but for row 5
 --   is_index kind at count words  the index at this place has the names of all records of this kind, each once, and where they stand
 --   is_dictionary words           the words begin with the arrangement of an accepted dictionary
-use Rattle.std.specs.Prelude.{◌≡◌, ℕ, zero, suc, ◌+◌, ◌*◌, Bool, true, false, ◌&&◌, List, [], ◌∷◌, length, get_or, take, drop, if◌then◌else◌, Result, Ok, Err}
+use Rattle.std.specs.Prelude.{ℕ, zero, suc, ◌+◌, ◌*◌, Bool, true, false, ◌&&◌, List, [], ◌∷◌, length, get_or, take, drop, if◌then◌else◌, Result, Ok, Err}
 use Rattle.ascii.specs.Notation.{◌≤ᵇ◌, ◌<ᵇ◌, ◌≡ᵇ◌}
 use Rattle.ascending.specs.Search.{is_strictly_ascending}
 use Rattle.line_forms.specs.declared.line.Line.{Line}

@@ -12,7 +12,7 @@ use Rattle.std.proofs.Math.ListN.{drop}
 use Rattle.std.proofs.Math.Seq.{drop-drop}
 use borrow.Author.Tests.{le-leb, lt-leb, leb-true, leb-false, eq-eqb, ne_eqb}
 use Rattle.ascii.specs.NotationLaws.{and_left, and_right, and-true, and-false, and_assoc}
-use Rattle.ascending.specs.Search.{is_strictly_above, is_strictly_ascending}
+use Rattle.ascending.specs.Search.{is_strictly_ascending}
 use Rattle.line_forms.specs.declared.line.Line.{Line}
 use Rattle.line_forms.specs.declared.line.Line.TheVariants.{Def, Value, BeginHeader, BeginTrailer, EndHeader, EndTrailer, Component, Message, Field, Group, Use, End, Member, RequiredTag, Unknown}
 use Rattle.refusals.specs.declared.refusal.Refusal.{Refusal}
@@ -246,76 +246,7 @@ module _ (words : List ℕ) (lines tags components messages : ℕ) (counted : Co
   pub counted-ends : (all : ℕ) → lines ≤ all → all ≤ lines → Counted all words tags components messages
   counted-ends all within over = let same : all ≡ lines = omega arith in rw same counted
 
--- ---- stands_each: the loop of `stands_in_order`
-
--- the words ascend strictly, and none is below `lowest`
-unfoldable pub ascends_from : ℕ → List ℕ → Bool
-ascends_from lowest [] = true
-ascends_from lowest (word ∷ rest) = leb lowest word && ascends_from (word + 1) rest
-
-above_from : (low : ℕ) (words : List ℕ) → is_strictly_above low words ≡ ascends_from (low + 1) words
-unfolding is_strictly_above ascends_from
-above_from low [] = refl
-above_from low (word ∷ rest) = rw (above_from word rest, add-one low)
-
-ascending_from : (words : List ℕ) → is_strictly_ascending words ≡ ascends_from 0 words
-unfolding is_strictly_ascending ascends_from
-ascending_from [] = refl
-ascending_from (word ∷ rest) = rw (le-leb 0 word (omega arith)) (above_from word rest)
-
--- the names before `place` ascend and stand where the index says, and the next one is not to be below `lowest`
-pub record InOrderSoFar (kind count at : ℕ) (words : List ℕ) (place lowest : ℕ) : Type 0 where
-  pub from : at ≤ place
-  pub within : place ≤ at + count
-  pub rest : (is_strictly_ascending (take count (drop at words)) && stands_each kind count at count words)
-      ≡ (ascends_from lowest (take (at + count - place) (drop place words)) && stands_each kind count place (at + count - place) words)
-
-pub order-begins : (kind count at : ℕ) (words : List ℕ) → InOrderSoFar kind count at words at 0
-order-begins kind count at words = record {
-  from = omega arith;
-  within = omega arith;
-  rest = let all : at + count - at ≡ count = omega arith in rw (all, ascending_from (take count (drop at words)));
-}
-
-module _ (kind count at : ℕ) (words : List ℕ) (place lowest : ℕ) (so_far : InOrderSoFar kind count at words place lowest) where
-  abbrev InOrder : Bool → Type 0
-  InOrder answer = answer ≡ (is_strictly_ascending (take count (drop at words)) && stands_each kind count at count words)
-
-  pub order-ends : at + count ≤ place → InOrder true
-  unfolding ascends_from stands_each
-  order-ends over = let none : at + count - place ≡ 0 = omega arith in sym (so_far.rest ∙ rw none)
-
-  module _ (inside : place < at + count) (stored : at + 2 * count ≤ length words) where
-    abbrev name : ℕ
-    name = get_or words place 0
-
-    abbrev left : ℕ
-    left = at + count - (place + 1)
-
-    abbrev stands : Bool
-    stands = stands_at kind name (get_or words (place + count) 0) words
-
-    next-name : (is_strictly_ascending (take count (drop at words)) && stands_each kind count at count words)
-        ≡ ((leb lowest name && ascends_from (name + 1) (take left (drop (place + 1) words))) && (stands && stands_each kind count (place + 1) left words))
-    unfolding ascends_from stands_each
-    next-name =
-        let more : at + count - place ≡ suc left = omega arith in
-        let names : drop place words ≡ name ∷ drop (place + 1) words = rw (add-one place) (drop-cons words place 0 (omega arith)) in
-        so_far.rest ∙ rw (more, names)
-
-    pub order-falls : (next : ℕ) → next ≡ name + 1 → next ≤ lowest → InOrder false
-    order-falls next is below = sym (next-name ∙ rw (lt-leb lowest name (omega (arith, is))))
-
-    pub order-fails : stands ≡ false → InOrder false
-    order-fails fails =
-        sym (next-name ∙ rw fails (and-false (leb lowest name && ascends_from (name + 1) (take left (drop (place + 1) words)))))
-
-    pub order-goes_on : (next : ℕ) → next ≡ name + 1 → lowest < next → stands ≡ true → InOrderSoFar kind count at words (place + 1) next
-    order-goes_on next is above holds = record {
-      from = omega (arith, so_far.from);
-      within = omega arith;
-      rest = next-name ∙ rw (is, le-leb lowest name (omega (arith, is)), holds);
-    }
+-- ---- stands_each
 
 -- the names and the numbers side by side
 pub stands_each-zip : (kind count at left : ℕ) (words : List ℕ) → at + count + left ≤ length words → left ≤ count

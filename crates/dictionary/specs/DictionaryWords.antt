@@ -16,7 +16,7 @@
 --   index_of kind lines           the names in ascending order, then the place of each
 --   dictionary_words lines        the words of the dictionary that has these lines
 --   word_lines words              the lines that the words tell; for the words of an accepted text its lines (`word_lines-arranged`, WordLinesLaws.antt)
-use Rattle.std.specs.Prelude.{ℕ, suc, ◌+◌, Bool, ◌&&◌, List, [], ◌∷◌, ◌++◌, map, length, get_or, drop, if◌then◌else◌}
+use Rattle.std.specs.Prelude.{ℕ, suc, Bool, ◌&&◌, List, [], ◌∷◌, ◌++◌, map, length, get_or, drop, if◌then◌else◌}
 use Rattle.ascii.specs.Notation.{◌≡ᵇ◌}
 use Rattle.ascending.specs.Sort.{sorted}
 use Rattle.line_forms.specs.declared.line.Line.{Line}

@@ -1,12 +1,12 @@
 -- Laws of `LineOrder.antt`: only a group block that opens changes the count tags. Assumes nothing.
-use Rattle.std.specs.Prelude.{◌≡◌, refl, ℕ, ◌-◌, Bool, true, false, cond, ◌&&◌, ◌||◌, ltb, eqb, get_or, Option, Result, Ok, Some}
+use Rattle.std.specs.Prelude.{◌≡◌, refl, ℕ, ◌-◌, Bool, true, false, cond, ◌&&◌, ◌||◌, ltb, eqb, get_or, Option, Result}
 use Rattle.refusals.specs.declared.refusal.Refusal.{Refusal}
 use Rattle.dictionary_order.specs.declared.dictionary_order.State.{State}
 use Rattle.dictionary_order.specs.declared.dictionary_order.Stage.{Stage}
 use Rattle.dictionary_order.specs.declared.dictionary_order.Stage.TheVariants.{Beginning, Definitions, InComponent, InMessage}
 use Rattle.dictionary_order.specs.declared.dictionary_order.Part.TheVariants.{Fields, Uses}
 use Rattle.dictionary_order.specs.DictionaryOrder.{is_at, is_from, goes_on_with, allowed_if, after, is_name, close_group, close_component, close_message, def_step, value_step, open_block, close_block, field_step, use_step, end_step}
-use Rattle.dictionary.specs.LineOrder.{state_of, kept_of, standing_of}
+use Rattle.dictionary.specs.LineOrder.{state_of, kept_of}
 
 -- the state after a line that is taken is made of what is kept of it
 pub state_again : (next : State) → state_of (kept_of next) next.counts ≡ next

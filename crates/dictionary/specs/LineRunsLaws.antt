@@ -1,14 +1,15 @@
 -- Laws of `LineRuns.antt`: the lines of a run, its loops turn by turn, and that a run may be passed over at once (`definitions-passed`, `fields-passed`).
 -- Assumes nothing.
-use Rattle.std.specs.Prelude.{◌≡◌, Bool, cond, ◌&&◌, List, eqb, ltb, leb, length, get_or, take, drop, Option, Some, None, IfSome, Ok}
+use Rattle.std.specs.Prelude.{◌≡◌, Bool, cond, ◌&&◌, List, ◌++◌, eqb, ltb, leb, length, get_or, take, drop, Option, Some, None, IfSome, Ok}
 use Rattle.std.proofs.Math.Path.{refl, ap}
-use Rattle.std.proofs.Common.{sym, ◌∙◌, suc-mul, mul-le-mul_left, length-take, length-drop, get_or-take, get_or-drop}
+use Rattle.std.proofs.Common.{sym, ◌∙◌, suc-mul, mul-le-mul_left, length-take, length-drop, get_or-take, get_or-drop, length-append, length-take-le, take_at, drop_at}
+use Rattle.std.proofs.lemmas.List.{drop-take, take-take}
 use Prim.Native.Nat.{ℕ, zero, suc, ◌+◌, ◌*◌, ◌-◌, ◌/◌, ◌%◌, ◌≤◌, ◌<◌}
 use Rattle.std.proofs.Math.Bool.{true, false}
 use native.Mathlib.Omega.{arith}
 use Rattle.std.specs.Int.Bits.{bit_or}
 use Rattle.std.proofs.Math.Seq.{drop-drop}
-use borrow.Author.Tests.{lt-ltb, le-leb, eq-eqb, eqb-true, eqb-false}
+use borrow.Author.Tests.{lt-ltb, le-leb, eqb-true, eqb-false}
 use Rattle.ascii.specs.Notation.{is_between}
 use Rattle.ascii.specs.NotationLaws.{and_left, and_right, is_between-from}
 use Rattle.lines.specs.LineParts.{is_visible}
@@ -269,6 +270,53 @@ module _ (words : List ℕ) (at : ℕ) (unused : is_unused 3 (take 10 (drop at w
   unfolding run_length length_of
   field_length kind flag =
       rw (kind_at words at ∙ kind, word_at words at 1 (omega arith), word_at words at 2 (omega arith), le-leb (get_or words (at + 2) 0) 1 flag, unused)
+
+-- ---- the records one after the other, as `chunks_exact` gives them
+
+-- the records that are left where so many were given
+abbrev pub records_left : ℕ → List ℕ → ℕ → ℕ → List ℕ
+records_left count words first lines = drop (10 * lines) (take (10 * count) (drop first words))
+
+pub record RecordTurn (count : ℕ) (words : List ℕ) (first lines : ℕ) (given left : List ℕ) : Type 0 where
+  pub inside : lines < count
+  pub is : given ≡ take 10 (drop (first + 10 * lines) words)
+  pub further : left ≡ records_left count words first (lines + 1)
+
+pub record_turns : (count : ℕ) (words : List ℕ) (first lines : ℕ) (rest given left : List ℕ) → first + 10 * count ≤ length words → lines ≤ count
+    → rest ≡ records_left count words first lines
+    → rest ≡ given ++ left
+    → length given ≡ 10
+    → RecordTurn count words first lines given left
+record_turns count words first lines rest given left fits within here parts ten =
+    let long : length (take (10 * count) (drop first words)) ≡ 10 * count = length-take-le (10 * count) (drop first words) (omega (arith, length-drop first words)) in
+    let left_len : length rest ≡ 10 * count - 10 * lines = ap length here ∙ length-drop (10 * lines) (take (10 * count) (drop first words)) ∙ rw long in
+    let inside : lines < count = omega (arith, left_len, ap length parts, length-append given left) in
+    let all : 10 * lines + (10 * count - 10 * lines) ≡ 10 * count = omega (arith, within) in
+    let next : 10 * lines + 10 ≡ 10 * (lines + 1) = omega arith in
+    let cut = rw all at (drop-take (10 * lines) (10 * count - 10 * lines) (drop first words)) in
+    record {
+      inside = inside;
+      is =
+          sym (take_at given left 10 ten) ∙ ap (take 10) (sym parts ∙ here ∙ cut)
+          ∙ take-take 10 (10 * count - 10 * lines) (drop (10 * lines) (drop first words)) (omega (arith, inside)) ∙ rw (drop-drop (10 * lines) first words);
+      further =
+          sym (drop_at given left 10 ten) ∙ ap (drop 10) (sym parts ∙ here) ∙ drop-drop 10 (10 * lines) (take (10 * count) (drop first words)) ∙ rw next;
+    }
+
+module _ (words : List ℕ) (at : ℕ) (given : List ℕ) (is : given ≡ take 10 (drop at words)) where
+  pub given-word : (index : ℕ) → index < 10 → get_or given index 0 ≡ get_or words (at + index) 0
+  given-word index inside = rw is (word_at words at index inside)
+
+  pub given-pair : (index : ℕ) → index < 9 → pair_at given index ≡ pair_at words (at + index)
+  given-pair index inside =
+      let next : at + (index + 1) ≡ at + index + 1 = omega arith in
+      rw (given-word index (omega arith), given-word (index + 1) (omega arith), next)
+
+  pub given-halves : (index low high : ℕ) → index < 9 → (low ≡ get_or given index 0) × (high ≡ get_or given (index + 1) 0)
+      → (low ≡ get_or words (at + index) 0) × (high ≡ get_or words (at + index + 1) 0)
+  given-halves index low high inside halves =
+      let next : at + (index + 1) ≡ at + index + 1 = omega arith in
+      (halves.0 ∙ given-word index (omega arith), halves.1 ∙ given-word (index + 1) (omega arith) ∙ rw next)
 
 -- ---- HoldsShort: the tests of `is_one_byte`
 

@@ -11,7 +11,7 @@ use crate::line_order::Standing;
 use dictionary_order::dictionary_order::{Part, Stage};
 use records::line_texts::type_length;
 use records::record_kind::RecordKind;
-use records::records::{holds_visible_part, pair_at};
+use records::records::{RECORD, holds_visible_part, pair_at};
 
 // How many lines stand in the run, how many bytes they have with their line feeds at most, and how many of them define a tag.
 #[derive(Clone, Copy, Default)]
@@ -75,17 +75,16 @@ fn definitions_run(count: usize, words: &[u32], first: usize) -> Option<Run>
     ensures run { IfSome result (λ run. IsRun true run.lines run.bytes run.tags (drop first words.now)) }
     ensures few { IfSome result (λ run. FewIn run count) }
 {
-    let mut lines: usize = 0;
-    let mut bytes: usize = 0;
-    let mut tags: usize = 0;
-    let mut names: u64 = 0;
-    let mut pair4: u64 = 0;
-    let mut pair6: u64 = 0;
-    let mut pair8: u64 = 0;
-    let mut at = first;
-    while lines < count {
-        let head = pair_at(words, at);
-        let next = pair_at(words, at + 2);
+    let mut lines = 0;
+    let mut bytes = 0;
+    let mut tags = 0;
+    let mut names = 0;
+    let mut pair4 = 0;
+    let mut pair6 = 0;
+    let mut pair8 = 0;
+    for record in words[first..first + 10 * count].chunks_exact(RECORD) {
+        let head = pair_at(record, 0);
+        let next = pair_at(record, 2);
         if head == ONE_BYTE {
             if !is_one_byte(next) {
                 break;
@@ -94,7 +93,7 @@ fn definitions_run(count: usize, words: &[u32], first: usize) -> Option<Run>
             if 34 <= next {
                 break;
             }
-            names = names | head;
+            names |= head;
             bytes += type_length(next as u32);
             tags += 1;
         } else {
@@ -103,11 +102,10 @@ fn definitions_run(count: usize, words: &[u32], first: usize) -> Option<Run>
             }
             bytes += 3;
         }
-        pair4 = pair4 | pair_at(words, at + 4);
-        pair6 = pair6 | pair_at(words, at + 6);
-        pair8 = pair8 | pair_at(words, at + 8);
+        pair4 |= pair_at(record, 4);
+        pair6 |= pair_at(record, 6);
+        pair8 |= pair_at(record, 8);
         lines += 1;
-        at += 10;
     }
     if pair4 | pair6 | pair8 != 0 {
         return None;
@@ -126,25 +124,23 @@ fn fields_run(count: usize, words: &[u32], first: usize) -> Option<Run>
     ensures run { IfSome result (λ run. IsRun false run.lines run.bytes run.tags (drop first words.now)) }
     ensures few { IfSome result (λ run. FewIn run count) }
 {
-    let mut lines: usize = 0;
-    let mut names: u64 = 0;
-    let mut flags: u64 = 0;
-    let mut pair4: u64 = 0;
-    let mut pair6: u64 = 0;
-    let mut pair8: u64 = 0;
-    let mut at = first;
-    while lines < count {
-        let head = pair_at(words, at);
+    let mut lines = 0;
+    let mut names = 0;
+    let mut flags = 0;
+    let mut pair4 = 0;
+    let mut pair6 = 0;
+    let mut pair8 = 0;
+    for record in words[first..first + 10 * count].chunks_exact(RECORD) {
+        let head = pair_at(record, 0);
         if head % 0x1_0000_0000 != RecordKind::Field as u64 {
             break;
         }
-        names = names | head;
-        flags = flags | pair_at(words, at + 2);
-        pair4 = pair4 | pair_at(words, at + 4);
-        pair6 = pair6 | pair_at(words, at + 6);
-        pair8 = pair8 | pair_at(words, at + 8);
+        names |= head;
+        flags |= pair_at(record, 2);
+        pair4 |= pair_at(record, 4);
+        pair6 |= pair_at(record, 6);
+        pair8 |= pair_at(record, 8);
         lines += 1;
-        at += 10;
     }
     if flags / 2 | pair4 | pair6 | pair8 != 0 {
         return None;

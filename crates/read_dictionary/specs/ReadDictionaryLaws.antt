@@ -11,7 +11,6 @@ use Rattle.std.proofs.Math.Seq.{sets, length-sets}
 use Rattle.std.proofs.lemmas.List.Edits.{sets-eq}
 use Rattle.std.proofs.lemmas.Bool.{lt-leb}
 use Rattle.ascii.specs.Bytes.{non_empty}
-use Rattle.ascii.specs.Notation.{is_between}
 use Rattle.ascending.specs.Sort.{how_often}
 use Rattle.refusals.specs.declared.refusal.Refusal.{Refusal}
 use Rattle.refusals.specs.declared.refusal.Refusal.TheVariants.{UnknownForm, NotAllowed, SpaceShort}

@@ -1,12 +1,11 @@
 -- Laws of `TextCheck.antt`: the loop of `read_lines`, turn by turn, and what its end says of row 5. Assumes nothing.
-use Rattle.std.specs.Prelude.{◌≡◌, ℕ, ◌+◌, ◌*◌, ◌-◌, ◌≤◌, ◌<◌, Bool, true, false, cond, ◌&&◌, ◌||◌, List, [], ◌∷◌, ◌++◌, ltb, get_or, set, take, drop, Option, Some, None, Result, Ok, Err}
+use Rattle.std.specs.Prelude.{◌≡◌, ℕ, ◌+◌, ◌*◌, ◌-◌, ◌≤◌, Bool, true, false, cond, ◌&&◌, ◌||◌, List, [], ◌∷◌, ◌++◌, ltb, get_or, set, take, drop, Option, Some, None, Result, Ok, Err}
 use Rattle.std.proofs.Math.Path.{refl, ap}
-use Rattle.std.proofs.Common.{sym, ◌∙◌, append-nil, arith, length-append, length-drop, take_at, length-take-le, le-ltb}
-use Rattle.std.proofs.Math.Dec.{eqb, leb}
+use Rattle.std.proofs.Common.{sym, ◌∙◌, append-nil, arith, length-append, take_at, length-take-le, le-ltb}
+use Rattle.std.proofs.Math.Dec.{eqb}
 use Rattle.std.proofs.Math.ListN.{length}
 use Rattle.std.proofs.lemmas.List.Edits.{sets, sets-eq}
 use Rattle.std.proofs.Math.Seq.{length-sets}
-use Rattle.ascii.specs.Notation.{is_between}
 use Rattle.ascending.specs.Search.{is_strictly_ascending}
 use Rattle.ascending.specs.SearchLaws.{is_strictly_ascending-true}
 use Rattle.ascending.specs.Sort.{sorted, how_often, AsOften}

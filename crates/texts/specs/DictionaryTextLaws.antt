@@ -1,10 +1,11 @@
 -- Laws of `DictionaryText.antt`: the loops over the lines of a text, turn by turn. Of the text a `rest` is left, whose first line is read next; no byte is
 -- left behind its last line. Assumes nothing.
-use Rattle.std.specs.Prelude.{◌≡◌, refl, ℕ, ◌+◌, ◌*◌, ◌-◌, ◌≤◌, ◌<◌, Bool, true, false, ◌||◌, List, [], ◌∷◌, ◌++◌, ltb, length, take, set, Option, Some, None, Ok, Err}
+use Rattle.std.specs.Prelude.{◌≡◌, refl, ℕ, ◌+◌, ◌*◌, ◌-◌, ◌≤◌, ◌<◌, Bool, true, false, ◌||◌, List, [], ◌∷◌, ◌++◌, ltb, length, get_or, drop, take, set, Option, Some, None, Ok, Err}
 use Rattle.std.specs.List.{list_any}
-use Rattle.std.proofs.Common.{sym, ap, ◌∙◌, arith, rules, add-one, eqb, length-set, length-append, take-suc-set}
-use borrow.Author.Tests.{ltb-true, ltb-false}
+use Rattle.std.proofs.Common.{sym, ap, ◌∙◌, arith, rules, add-one, eqb, length-set, length-append, take-suc-set, drop_of_length-le}
+use borrow.Author.Tests.{ltb-true, ltb-false, eq-eqb, ne_eqb}
 use Rattle.ascii.specs.Bytes.{non_empty}
+use Rattle.ascii.specs.BytesLaws.{drop-step}
 use Rattle.refusals.specs.declared.refusal.Refusal.{Refusal}
 use Rattle.refusals.specs.declared.refusal.Refusal.TheVariants.{UnknownForm}
 use Rattle.line_forms.specs.declared.line.Line.{Line}
@@ -107,6 +108,19 @@ module _ (text rest : List ℕ) (state : State) (read : Counts) (so_far : OrderS
         }
 
 -- ---- is_in
+
+module _ (key : ℕ) (keys : List ℕ) (index : ℕ) where
+  pub is_in-here : index < length keys → get_or keys index 0 ≡ key → is_in key (drop index keys) ≡ true
+  unfolding is_in
+  is_in-here inside same = rw (drop-step keys index inside, eq-eqb _ _ same)
+
+  pub is_in-further : index < length keys → (get_or keys index 0 ≡ key → ⊥) → is_in key (drop index keys) ≡ is_in key (drop (index + 1) keys)
+  unfolding is_in
+  is_in-further inside other = rw (drop-step keys index inside, ne_eqb _ _ other)
+
+  pub is_in-end : length keys ≤ index → is_in key (drop index keys) ≡ false
+  unfolding is_in
+  is_in-end over = rw (drop_of_length-le keys over)
 
 pub is_in-any : (key : ℕ) (keys : List ℕ) → list_any (λ next. eqb next key) keys ≡ is_in key keys
 unfolding is_in

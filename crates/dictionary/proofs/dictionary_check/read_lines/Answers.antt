@@ -1,5 +1,5 @@
 -- `dictionary::dictionary_check::read_lines` meets its contract: its tests are those of the two halves of `accepts` (specs/DictionaryCheckLaws.antt).
-use Rattle.std.proofs.Common.{◌≡◌, ◌∙◌, sym, ap, arith, true, is_some}
+use Rattle.std.proofs.Common.{◌∙◌, sym, arith}
 use Rattle.dictionary.specs.DictionaryCheckLaws.{accepts-not_taken, accepts-short, accepts-long, takes-known}
 use Rattle.dictionary.proofs.dictionary_check.read_lines.Goals as goal
 use Rattle.dictionary.proofs.dictionary_check.read_lines.Goals.{then-read-le65536-via-then-read-le65536, then-read-le65536-via-else-read-le65536+then-text_length-le65536}

@@ -1,14 +1,9 @@
 -- `dictionary::dictionary_check::take_lines` meets its contract. The loop's invariant is `TakesSoFar` and `Counted`; the laws are those of specs/DictionaryCheckLaws.antt.
-use mathlib.Core.Path.{sym, ◌∙◌}
-use mathlib.Core.Bool.{false≢true}
 use Prim.Native.Nat.{◌-◌}
 use lib.ListN.{drop}
-use native.Mathlib.Omega.{arith}
-use borrow.Author.Tests.{not-true, not-false}
 use Rattle.dictionary.specs.LineOrder.{state_of}
 use Rattle.dictionary.specs.LinesTaken.{Counted}
-use Rattle.dictionary.specs.DictionaryCheckLaws.{TakesSoFar, takes-begins, takes-ends, takes-short, takes-faulty, takes-goes_on, counted-begins, counted-goes_on, counted-few, counted-ends}
-use borrow.Author.Rules.{rules}
+use Rattle.dictionary.specs.DictionaryCheckLaws.{TakesSoFar}
 use Rattle.dictionary.proofs.dictionary_check.take_lines.Given as goal
 
 abbrev pub invariant-loop-done : goal.invariant-loop-done

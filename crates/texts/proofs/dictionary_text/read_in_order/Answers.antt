@@ -5,7 +5,7 @@ use Rattle.refusals.specs.declared.refusal.Refusal.TheVariants.{UnknownForm}
 use Rattle.dictionary_order.specs.DictionaryOrder.{start}
 use Rattle.texts.specs.declared.dictionary_text.Counts.{Counts}
 use Rattle.texts.specs.DictionaryText.{counts}
-use Rattle.texts.specs.DictionaryTextLaws.{OrderSoFar, order-begins, order-counts, order-stops, order-breaks, order-faulty, order-turns}
+use Rattle.texts.specs.DictionaryTextLaws.{OrderSoFar, order-begins, order-stops, order-breaks, order-faulty, order-turns}
 use Rattle.texts.proofs.dictionary_text.read_in_order.Goals as goal
 
 -- for line in TextLines::new(text) {
