@@ -27,7 +27,8 @@ fn may_end(standing: Standing) -> bool
     matches!(standing.stage, Stage::AfterTrailer | Stage::AfterMessage)
 }
 
-// What was read of lines that are accepted: how many bytes their text has at most, and how many of them define a tag, a component, a message.
+// What was read of lines that are accepted: how many bytes their text has at most, and how many of
+// them define a tag, a component, a message.
 #[derive(Clone, Copy, Default)]
 struct LinesRead {
     bytes: usize,
@@ -36,7 +37,8 @@ struct LinesRead {
     messages: usize,
 }
 
-// Takes the lines of so many records, one after the other. A text with no block open may end after them.
+// Takes the lines of so many records, one after the other. A text with no block open may end after
+// them.
 fn take_lines(words: &[u32], lines: usize) -> Option<LinesRead>
     requires { (lines ≤ 4294967295) × (4 + 10 * lines ≤ length words.now) }
     ensures accepted { is_some result ≡ takes start 1 (lines_from lines (drop 4 words.now)) }
@@ -71,7 +73,8 @@ fn take_lines(words: &[u32], lines: usize) -> Option<LinesRead>
     may_end(standing).then_some(read)
 }
 
-// Whether the lines of records are those of an accepted text, but for what is defined again. The bytes of the text are counted only where it may have too many.
+// Whether the lines of records are those of an accepted text, but for what is defined again. The
+// bytes of the text are counted only where it may have too many.
 fn read_lines(words: &[u32], lines: usize) -> Option<LinesRead>
     requires { (lines ≤ 4294967295) × (4 + 10 * lines ≤ length words.now) }
     ensures accepted { is_some result ≡ accepts start 1 0 (lines_from lines (drop 4 words.now)) }
@@ -97,7 +100,8 @@ pub fn stands_at(words: &[u32], kind: u32, name: u32, number: u32) -> bool
     words[at] == kind && words[at + 1] == name
 }
 
-// The index at this place has the names of all records of this kind in ascending order, each once, and where they stand.
+// The index at this place has the names of all records of this kind in ascending order, each once,
+// and where they stand.
 fn is_index(words: &[u32], kind: u32, at: usize, count: usize, counted: usize) -> bool
     requires in_bounds { (4 ≤ length words.now) × ((4 + 10 * get_or words.now 0 0 ≤ length words.now) × (at + 2 * count ≤ length words.now)) }
     requires counted { counted ≡ count_of kind (get_or words.now 0 0) (drop 4 words.now) }

@@ -1,4 +1,5 @@
-// The words of a dictionary: a record for each line of its text, and the index of what it defines; their check.
+// The words of a dictionary: a record for each line of its text, and the index of what it defines;
+// their check.
 #![tactic(auto)]
 
 pub mod dictionary;

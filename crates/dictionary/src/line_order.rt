@@ -1,4 +1,5 @@
-// The order of the lines of a dictionary text, as in dictionary_order, where the count tags of the open group blocks stand in an array that is lent, so that no line copies them.
+// The order of the lines of a dictionary text, as in dictionary_order, where the count tags of the
+// open group blocks stand in an array that is lent, so that no line copies them.
 ghost use Rattle.std.specs.Prelude.{◌≡◌, ℕ, ◌≤◌};
 ghost use Rattle.dictionary_order.specs.declared.dictionary_order.State.{State};
 ghost use Rattle.dictionary_order.specs.DictionaryOrder.{start, opened_block, closed_block, def_step, value_step, open_block, close_block, field_step, group_step, use_step, end_step, step_of, after};
@@ -7,7 +8,8 @@ ghost use Rattle.dictionary.specs.LineOrder.{state_of, kept_of, standing_of, Fol
 use dictionary_order::dictionary_order::{Part, Stage};
 use line_forms::line::Line;
 
-// The state after a line without the count tags of the open group blocks: see State in dictionary_order.
+// The state after a line without the count tags of the open group blocks: see State in
+// dictionary_order.
 #[derive(Clone, Copy)]
 pub struct Standing {
     pub stage: Stage,
@@ -153,7 +155,8 @@ fn end_step(
     }
 }
 
-// What the line does: where it is taken, what stands after it. A group block that opens leaves its count tag among those lent.
+// What the line does: where it is taken, what stands after it. A group block that opens leaves its
+// count tag among those lent.
 #[tactic(auto, unfolding(dictionary_order::specs::DictionaryOrder::step_of, ascii::specs::Notation::is_between))]
 pub fn next_standing(standing: Standing, counts: &mut [u32; 40], line: Line) -> Option<Standing>
     requires { standing.depth ≤ 40 }

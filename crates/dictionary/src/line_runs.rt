@@ -1,8 +1,10 @@
-// Runs of lines that leave the standing as it is: definitions with their values, the fields of a body. Most lines of a dictionary stand in one, so they are
-// passed over without building the line of each.
+// Runs of lines that leave the standing as it is: definitions with their values, the fields of a
+// body. Most lines of a dictionary stand in one, so they are passed over without building the line
+// of each.
 //
-// Two words of a record are read as one number, `head` the first two and `next` those behind them. What the records of a run must not have is joined over the
-// run and tested once: a test of each record takes longer.
+// Two words of a record are read as one number, `head` the first two and `next` those behind them.
+// What the records of a run must not have is joined over the run and tested once: a test of each
+// record takes longer.
 ghost use Rattle.std.specs.Prelude.{◌≡◌, true, false, ◌+◌, ◌*◌, ◌/◌, ◌%◌, ◌≤◌, length, drop, IfSome};
 ghost use Rattle.dictionary.specs.LinesTaken.{count_one};
 ghost use Rattle.dictionary.specs.LineRuns.{HoldsShort, FewDigits, IsRun, FewIn, is_among_definitions, PassedOver};
@@ -13,7 +15,8 @@ use records::line_texts::type_length;
 use records::record_kind::RecordKind;
 use records::records::{RECORD, holds_visible_part, pair_at};
 
-// How many lines stand in the run, how many bytes they have with their line feeds at most, and how many of them define a tag.
+// How many lines stand in the run, how many bytes they have with their line feeds at most, and how
+// many of them define a tag.
 #[derive(Clone, Copy, Default)]
 pub struct Run {
     pub lines: usize,
@@ -68,8 +71,10 @@ fn is_short_value(head: u64, next: u64) -> bool
     holds_visible_part(len as u32, next as u32)
 }
 
-// A run of definitions with values of at most four bytes. `bytes` counts those of the type names and what longer values have beside those of one byte; the
-// other bytes follow from the number of lines, of tags and of the digits that a tag has at most. None where a record has a word that its kind does not use.
+// A run of definitions with values of at most four bytes. `bytes` counts those of the type names
+// and what longer values have beside those of one byte; the other bytes follow from the number of
+// lines, of tags and of the digits that a tag has at most. None where a record has a word that its
+// kind does not use.
 fn definitions_run(count: usize, words: &[u32], first: usize) -> Option<Run>
     requires { (count ≤ 4294967295) × (first + 10 * count ≤ length words.now) }
     ensures run { IfSome result (λ run. IsRun true run.lines run.bytes run.tags (drop first words.now)) }
@@ -164,8 +169,8 @@ fn is_among_definitions(standing: Standing) -> bool
         && standing.depth == 0
 }
 
-// A run at the head of these records that leaves this standing as it is; None where one was not clean before or is not now, so that no record is looked at again
-// and again.
+// A run at the head of these records that leaves this standing as it is; None where one was not
+// clean before or is not now, so that no record is looked at again and again.
 pub fn run_after(
     standing: Standing,
     clean: bool,

@@ -5,7 +5,8 @@ ghost use Rattle.dictionary_order.specs.DictionaryOrder.{opened_block, closed_bl
 use line_forms::line::Line;
 use refusals::refusal::Refusal;
 
-// Which part of the text is being read: what was read last where no block is open, or the open block.
+// Which part of the text is being read: what was read last where no block is open, or the open
+// block.
 #[derive(Clone, Copy)]
 pub enum Stage {
     Beginning,

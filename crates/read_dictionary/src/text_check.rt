@@ -1,5 +1,7 @@
-// The check of a dictionary text, where no name is compared with all before it: the names are kept while the lines are read in order, and sorted. Only where one
-// is defined again does texts search for the first such line. A line that defines a name has at least five bytes, its line feed with it.
+// The check of a dictionary text, where no name is compared with all before it: the names are kept
+// while the lines are read in order, and sorted. Only where one is defined again does texts search
+// for the first such line. A line that defines a name has at least five bytes, its line feed with
+// it.
 ghost use Rattle.std.specs.Prelude.{◌≡◌, ◌≤◌, length};
 ghost use Rattle.std.proofs.lemmas.List.Edits.{sets};
 ghost use Rattle.ascending.specs.Search.{is_strictly_ascending};
@@ -60,7 +62,8 @@ fn keep_name(
     }
 }
 
-// Reads the text from the top, refusals 2 to 4, and keeps the names that its lines define. `read` is what was counted up to the end or to the line that is refused.
+// Reads the text from the top, refusals 2 to 4, and keeps the names that its lines define. `read`
+// is what was counted up to the end or to the line that is refused.
 fn read_lines(
     text: &[u8],
     read: &mut Counts,
@@ -98,7 +101,8 @@ fn are_once_each(names: &mut [u32]) -> bool
     is_strictly_ascending(names)
 }
 
-// Reads a dictionary text: what it has, or its first faulty line. The call's own memory for the names takes 157,296 bytes.
+// Reads a dictionary text: what it has, or its first faulty line. The call's own memory for the
+// names takes 157,296 bytes.
 pub fn check_text(text: &[u8]) -> Result<Counts, Refusal>
     ensures outcome { result ≡ dictionary_text_of text.now }
 {

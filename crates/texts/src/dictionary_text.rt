@@ -105,7 +105,8 @@ fn key_of(defined: Option<Defined>) -> Option<u64>
     }
 }
 
-// Finds what is defined again: refusal 5. A line that defines something has at least five bytes, its line feed with it.
+// Finds what is defined again: refusal 5. A line that defines something has at least five bytes,
+// its line feed with it.
 fn first_again(text: &[u8]) -> Option<u64>
     requires { length text.now ≤ 65536 }
     ensures { result ≡ again_of text.now }
