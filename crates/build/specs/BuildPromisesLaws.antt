@@ -1,19 +1,22 @@
 -- Laws of `BuildPromises.antt`, and the steps of the functions of src/build.rt: the line that opens the header or the trailer, the three bodies of the message
 -- level one behind the other, and the choice of the message. Assumes nothing.
-use Rattle.std.specs.Prelude.{◌≡◌, Bool, ◌&&◌, ◌||◌, eqb, length, get_or, take, drop, Option, Some, None, Result, Ok, Err}
+use Rattle.std.specs.Prelude.{◌≡◌, Bool, cond, not, ◌&&◌, ◌||◌, eqb, length, get_or, take, drop, Option, Some, None, Result, Ok, Err}
 use Rattle.std.proofs.Math.Path.{refl, sym, ap}
+use Rattle.std.specs.List.{position, position_or_len}
+use Rattle.std.proofs.Math.Seq.{take-length}
 use Rattle.std.specs.List.Sorted.{IsPartitionedBy, IsPartitionPoint}
-use Rattle.std.proofs.Common.{◌∙◌, arith, add-one, drop-cons, get_or-take, get_or-drop}
-use Prim.Native.Nat.{ℕ, suc, ◌+◌, ◌*◌, ◌≤◌, ◌<◌}
+use Rattle.std.proofs.Common.{◌∙◌, arith, add-one, drop-cons, get_or-take, get_or-drop, length-drop, lt-ltb}
+use Prim.Native.Nat.{ℕ, suc, ◌+◌, ◌-◌, ◌*◌, ◌≤◌, ◌<◌}
 use Rattle.std.proofs.Math.Bool.{true, false}
 use Rattle.std.proofs.lemmas.Bool.{false≢true}
 use mathlib.Core.List.{List, [], ◌∷◌}
 use Rattle.refusals.specs.declared.refusal.Refusal.{Refusal}
 use Rattle.refusals.specs.declared.refusal.Refusal.TheVariants.{TypeNotDefined}
-use Rattle.line_forms.specs.declared.line.Line.TheVariants.{Unknown}
+use Rattle.line_forms.specs.declared.line.Line.{Line}
+use Rattle.line_forms.specs.declared.line.Line.TheVariants.{Def, Value, BeginHeader, BeginTrailer, EndHeader, EndTrailer, Component, Message, Field, Group, Use, End, Member, RequiredTag, Unknown}
 use Rattle.lines.specs.LineParts.{message_type_of}
 use Rattle.layouts.specs.Limits.{gate_limits}
-use Rattle.records.specs.Records.{Words32}
+use Rattle.records.specs.Records.{record_of, Words32}
 use Rattle.dictionary.specs.DictionaryWords.{is_of, name_of, place_of, word_lines}
 use Rattle.dictionary.specs.DictionaryCheck.{stands_at, is_dictionary}
 use Rattle.dictionary.specs.DictionaryRecords.{records_in, length-first_chunks, record_numbered}
@@ -25,7 +28,7 @@ use Rattle.expansion.specs.Dictionary.{Body, uses_of}
 use Rattle.bodies.specs.AcceptedPlaces.{is_definition, place-behind}
 use Rattle.bodies.specs.DictionaryInWords.{dictionary_in}
 use Rattle.definitions.specs.WordLinesLaws.{lines-counted}
-use Rattle.bodies.specs.DictionaryLookups.{body_at, kind_at, stands-line, definitions-first, header-comes, Begins, header-begins, trailer-begins, message-found, message-missing}
+use Rattle.bodies.specs.DictionaryLookups.{body_at, kind_at, stands-line, definitions-first, header-comes, trailer-comes, Begins, header-begins, trailer-begins, message-found, message-missing}
 use Rattle.expansion.specs.Expansion.{Work, Builder, OpenLevel, empty_level, nothing_spent, each_use, add_envelope, add_message, build, outcome_of, expand_of, Expanded, finish}
 use Rattle.expansion.specs.Expansion as Definition
 use Rattle.expansion.specs.Trace.{First, run, Fits, Grows, Adds}
@@ -85,46 +88,104 @@ module _ (words : List ℕ) (small : Words32 words) (passed : is_dictionary word
       → place ≡ place_of 3 0 (word_lines words)
   header-lent records place are inside point = header-found place (rw are at inside) (rw are at (point (rw are header-parted)))
 
--- ---- trailer_of: the loop over the lines before the one that opens a block
+-- ---- trailer_of: the first record behind the header's that opens the trailer
 
-pub record BlockSoFar (words : List ℕ) (kind at : ℕ) : Type 0 where
-  pub ahead : place_of kind 0 (word_lines words) ≡ at + place_of kind 0 (drop at (word_lines words))
+-- the record opens the trailer
+abbrev pub opens : List ℕ → Bool
+opens one = eqb (get_or one 0 0) 4
 
-pub trailer-starts : (words : List ℕ) → Words32 words → is_dictionary words ≡ true → (header : ℕ) → header ≡ place_of 3 0 (word_lines words) → BlockSoFar words 4 header
-trailer-starts words small passed header same = record {
-  ahead =
-      rw same
+opens-end : (number : Option ℕ) (letters : Option ℕ) → opens (record_of (End number letters)) ≡ (is_of 4 (End number letters) && eqb (name_of (End number letters)) 0)
+unfolding is_of name_of record_of
+opens-end number (Some letters) = refl
+opens-end (Some number) None = refl
+opens-end None None = refl
+
+opens-line : (line : Line) → opens (record_of line) ≡ (is_of 4 line && eqb (name_of line) 0)
+unfolding is_of name_of record_of
+opens-line (Def tag place) = refl
+opens-line (Value admitted) = refl
+opens-line BeginHeader = refl
+opens-line BeginTrailer = refl
+opens-line EndHeader = refl
+opens-line EndTrailer = refl
+opens-line (Component name) = refl
+opens-line (Message letters app) = refl
+opens-line (Field tag required) = refl
+opens-line (Group count delimiter required) = refl
+opens-line (Use name required) = refl
+opens-line (End number letters) = opens-end number letters
+opens-line (Member tag) = refl
+opens-line (RequiredTag tag) = refl
+opens-line Unknown = refl
+
+-- the first record that passes the test stands where the line does
+position-by : (test here : Bool) (place count : ℕ) → test ≡ here → count ≡ place → cond (not test) (1 + count) 0 ≡ cond here 0 (suc place)
+position-by true true place count same more = refl
+position-by false false place count same more = let next : 1 + count ≡ suc count = omega arith in next ∙ ap suc more
+position-by true false place count same more = absurd (false≢true (sym same))
+position-by false true place count same more = absurd (false≢true same)
+
+place-position : (records : List (List ℕ)) (lines : List Line) → length records ≡ length lines
+    → ((place : ℕ) → place < length records → opens (get_or records place []) ≡ (is_of 4 (get_or lines place Unknown) && eqb (name_of (get_or lines place Unknown)) 0))
+    → position_or_len opens records ≡ place_of 4 0 lines
+unfolding place_of
+place-position [] [] count same = refl
+place-position (one ∷ rest) [] count same = absurd (omega (arith, count))
+place-position [] (line ∷ others) count same = absurd (omega (arith, count))
+place-position (one ∷ rest) (line ∷ others) count same =
+    position-by (opens one) (is_of 4 line && eqb (name_of line) 0) (place_of 4 0 others) (position_or_len opens rest) (same 0 (omega arith))
+    (place-position rest others (omega (arith, count)) (λ place inside. same (suc place) (omega arith)))
+
+module _ (words : List ℕ) (small : Words32 words) (passed : is_dictionary words ≡ true) (header : ℕ) (is-header : header ≡ place_of 3 0 (word_lines words)) where
+  trailer-ahead : place_of 4 0 (word_lines words) ≡ header + place_of 4 0 (drop header (word_lines words))
+  trailer-ahead =
+      rw is-header
       (place-behind 4 0 (word_lines words) (place_of 3 0 (word_lines words)) (omega arith) (omega (arith, header-comes words small passed, lines-counted words))
-      (definitions-first words small passed).before_it);
-}
+      (definitions-first words small passed).before_it)
 
-module _ (words : List ℕ) (small : Words32 words) (passed : is_dictionary words ≡ true) (kind at : ℕ) (comes : place_of kind 0 (word_lines words) < get_or words 0 0)
-    (so_far : BlockSoFar words kind at) where
-  pub block_inside : at < get_or words 0 0
-  block_inside = omega (arith, so_far.ahead, comes)
+  pub header-within : header ≤ get_or words 0 0
+  header-within = omega (arith, is-header, header-comes words small passed)
 
-  abbrev here : Bool
-  here = is_of kind (get_or (word_lines words) at Unknown) && eqb (name_of (get_or (word_lines words) at Unknown)) 0
+  opens-behind : (place : ℕ) → header + place < get_or words 0 0
+      → opens (get_or (drop header (records_in words)) place [])
+      ≡ (is_of 4 (get_or (drop header (word_lines words)) place Unknown) && eqb (name_of (get_or (drop header (word_lines words)) place Unknown)) 0)
+  opens-behind place inside =
+      let here : 4 + 10 * (header + place) + 0 ≡ 4 + 10 * (header + place) = omega arith in
+      rw (
+        get_or-drop header (records_in words) place [],
+        get_or-drop header (word_lines words) place Unknown,
+        record_numbered words (header + place) [] inside,
+        get_or-take 10 (drop (4 + 10 * (header + place)) words) 0 0 (omega arith),
+        get_or-drop (4 + 10 * (header + place)) words 0 0,
+        here,
+        kind_at words small passed (header + place) inside,
+      )
+      (opens-line (get_or (word_lines words) (header + place) Unknown))
 
-  here-is : stands_at kind 0 at words ≡ here
-  here-is = stands-line words small passed kind 0 at block_inside
+  trailer-position : position_or_len opens (drop header (records_in words)) ≡ place_of 4 0 (drop header (word_lines words))
+  trailer-position =
+      let count = length-first_chunks (get_or words 0 0) (drop 4 words) in
+      place-position (drop header (records_in words)) (drop header (word_lines words))
+      (omega (arith, length-drop header (records_in words), length-drop header (word_lines words), count, lines-counted words))
+      (λ place inside. opens-behind place (omega (arith, length-drop header (records_in words), count)))
 
-  rest-is : drop at (word_lines words) ≡ get_or (word_lines words) at Unknown ∷ drop (at + 1) (word_lines words)
-  rest-is = rw add-one (drop-cons (word_lines words) at Unknown (omega (arith, lines-counted words, block_inside)))
+  pub trailer-lent : (lent : List (List ℕ)) → lent ≡ records_in words
+      → (position opens (take (length lent - header) (drop header lent)) ≡ Some (place_of 4 0 (drop header (word_lines words)))) × (header + place_of 4 0 (drop header (word_lines words)) ≡ place_of 4 0 (word_lines words))
+  trailer-lent lent are =
+      let all : take (length lent - header) (drop header lent) ≡ drop header (records_in words) = rw (← length-drop header lent) (take-length (drop header lent)) ∙ ap (drop header) are in
+      let count = length-first_chunks (get_or words 0 0) (drop 4 words) in
+      let there : place_of 4 0 (drop header (word_lines words)) < length (drop header (records_in words)) = omega (arith, length-drop header (records_in words), count, trailer-ahead, trailer-comes words small passed) in
+      (rw (all, trailer-position, lt-ltb _ _ there), sym trailer-ahead)
 
-  pub block_found : stands_at kind 0 at words ≡ true → at ≡ place_of kind 0 (word_lines words)
-  unfolding place_of
-  block_found stands =
-      let test : here ≡ true = sym here-is ∙ stands in
-      let first : place_of kind 0 (drop at (word_lines words)) ≡ 0 = rw (rest-is, test) refl in
-      omega (arith, so_far.ahead, first)
+  abbrev told : Option ℕ → ℕ
+  told (Some place) = place
+  told None = 0
 
-  pub block_goes_on : stands_at kind 0 at words ≡ false → BlockSoFar words kind (at + 1)
-  unfolding place_of
-  block_goes_on stands =
-      let test : here ≡ false = sym here-is ∙ stands in
-      let later : place_of kind 0 (drop at (word_lines words)) ≡ suc (place_of kind 0 (drop (at + 1) (word_lines words))) = rw (rest-is, test) refl in
-      record { ahead = omega (arith, so_far.ahead, later) }
+  pub trailer-found : (lent : List (List ℕ)) → lent ≡ records_in words → (found : ℕ) → position opens (take (length lent - header) (drop header lent)) ≡ Some found
+      → header + found ≡ place_of 4 0 (word_lines words)
+  trailer-found lent are found is =
+      let same : place_of 4 0 (drop header (word_lines words)) ≡ found = ap told (sym (trailer-lent lent are).0 ∙ is) in
+      ap (λ (place : ℕ). header + place) (sym same) ∙ (trailer-lent lent are).1
 
 -- ---- build: the header, the trailer and the message
 

@@ -10,7 +10,6 @@ ghost use Rattle.build.specs.BuildPromises.{Built, Traced};
 use bodies::add_body::add_body;
 use definitions::definitions::message_of;
 use dictionary::dictionary::Dictionary;
-use dictionary::dictionary_check::stands_at;
 use expansion::builder::{Builder, Stop};
 use records::record_kind::RecordKind;
 use refusals::refusal::Refusal;
@@ -39,13 +38,10 @@ fn trailer_of(dictionary: Dictionary<'_>, header: usize) -> usize
     requires { header ≡ place_of 3 0 (word_lines dictionary.words.now) }
     ensures { result ≡ place_of 4 0 (word_lines dictionary.entry.words.now) }
 {
-    let mut at = header as u32;
-    loop {
-        if stands_at(dictionary.words, u32::from(RecordKind::BeginTrailer), 0, at) {
-            return at as usize;
-        }
-        at += 1;
-    }
+    let behind = dictionary.records()[header..]
+        .iter()
+        .position(|record| record[0] == u32::from(RecordKind::BeginTrailer));
+    header + behind.unwrap()
 }
 
 // Adds the body after a line to the message level.

@@ -1,37 +1,32 @@
--- `build::build::trailer_of` meets its contract. The loop's invariant is `BlockSoFar`: the line looked for is not before `at`. The laws are those of
--- specs/BuildPromisesLaws.antt.
-use mathlib.Core.Path.{sym, ◌∙◌}
-use native.Mathlib.Omega.{arith}
-use Rattle.bodies.specs.DictionaryLookups.{header-comes, trailer-comes}
-use Rattle.build.specs.BuildPromisesLaws.{trailer-starts, block_inside, block_found, block_goes_on}
+-- `build::build::trailer_of` meets its contract: the first record behind the header's that opens the trailer (specs/BuildPromisesLaws.antt).
+use Rattle.std.proofs.Common.{rules, arith, ap, sym, ◌∙◌}
+use borrow.Author.Tests.{tests}
+use Rattle.std.proofs.lemmas.Iterator.{YieldsList-from_slice}
+use Rattle.std.proofs.lemmas.Iterator.Search.{position_from_yields_List}
+use Rattle.build.specs.BuildPromisesLaws.{opens, header-within, trailer-lent, trailer-found}
 use Rattle.build.proofs.build.trailer_of.Goals as goal
+use Rattle.build.proofs.build.trailer_of.Goals.{After-records}
 
--- let mut at = header as u32;
-pub overflow_cast-at : goal.overflow_cast-at
-overflow_cast-at c = omega (arith, header-comes c.args.dictionary.words.now c.args.dictionary.words32 c.args.dictionary.accepted, c.requires, c.args.dictionary.words32 0)
+-- dictionary.records()[header..]
+pub offset_bounds-records-header : goal.offset_bounds-records-header
+offset_bounds-records-header c = omega (arith, header-within _ c.args.dictionary.words32 c.args.dictionary.accepted c.args.header c.requires, c.records.ensures.count, c.records.type_inv)
 
--- loop {
-pub loop-header-init : goal.loop-header-init
-loop-header-init c = trailer-starts c.args.dictionary.words.now c.args.dictionary.words32 c.args.dictionary.accepted _ c.requires
+pub slice_bounds-iter-count : goal.slice_bounds-iter-count
+slice_bounds-iter-count c = omega (arith, header-within _ c.args.dictionary.words32 c.args.dictionary.accepted c.args.header c.requires, c.records.ensures.count)
 
--- if stands_at(dictionary.words, u32::from(RecordKind::BeginTrailer), 0, at) {
-pub stands_at-requires : goal.stands_at-requires
-stands_at-requires c = (c.args.dictionary.head, omega (arith, c.args.dictionary.fits))
+pub slice_bounds-iter-start : goal.slice_bounds-iter-start
+slice_bounds-iter-start c = omega (arith, header-within _ c.args.dictionary.words32 c.args.dictionary.accepted c.args.header c.requires, c.records.ensures.count, c.records.type_inv)
 
--- return at as usize;
-pub overflow_cast-result : goal.overflow_cast-result
-overflow_cast-result c = omega (arith, block_inside c.args.dictionary.words.now c.args.dictionary.words32 c.args.dictionary.accepted 4 c.loop-header.at (trailer-comes c.args.dictionary.words.now c.args.dictionary.words32 c.args.dictionary.accepted) c.loop-header.invariant, c.args.dictionary.words32 0)
+-- behind.unwrap()
+pub unwrap-requires : goal.unwrap-requires
+unwrap-requires c =
+    rw
+    (position_from_yields_List opens _ _ _ c.position-behind.ensures.ran (YieldsList-from_slice _ c.iter.ensures.rest) (λ x b q k. search (rules, tests))
+    ∙ (trailer-lent _ c.args.dictionary.words32 c.args.dictionary.accepted c.args.header c.requires _ c.records.ensures.records).0)
 
-pub returns-then-stands_at : goal.returns-then-stands_at
-returns-then-stands_at c = block_found c.args.dictionary.words.now c.args.dictionary.words32 c.args.dictionary.accepted 4 c.loop-header.at (trailer-comes c.args.dictionary.words.now c.args.dictionary.words32 c.args.dictionary.accepted) c.loop-header.invariant (sym (rw c.from.ensures.outcome at c.stands_at.ensures) ∙ c.if-stands_at.true)
-
--- at += 1;
-pub overflow_add-at : goal.overflow_add-at
-overflow_add-at c = omega (arith, block_inside c.args.dictionary.words.now c.args.dictionary.words32 c.args.dictionary.accepted 4 c.loop-header.at (trailer-comes c.args.dictionary.words.now c.args.dictionary.words32 c.args.dictionary.accepted) c.loop-header.invariant, c.args.dictionary.words32 0)
-
--- loop {
-pub loop-header-smaller : goal.loop-header-smaller
-loop-header-smaller c = omega (arith, block_inside c.args.dictionary.words.now c.args.dictionary.words32 c.args.dictionary.accepted 4 c.loop-header.at (trailer-comes c.args.dictionary.words.now c.args.dictionary.words32 c.args.dictionary.accepted) c.loop-header.invariant)
-
-pub loop-header-preserved : goal.loop-header-preserved
-loop-header-preserved c = block_goes_on c.args.dictionary.words.now c.args.dictionary.words32 c.args.dictionary.accepted 4 c.loop-header.at (trailer-comes c.args.dictionary.words.now c.args.dictionary.words32 c.args.dictionary.accepted) c.loop-header.invariant (sym (rw c.from.ensures.outcome at c.stands_at.ensures) ∙ c.if-stands_at.false)
+-- header + behind.unwrap()
+pub returns : goal.returns
+returns c =
+    trailer-found _ c.args.dictionary.words32 c.args.dictionary.accepted c.args.header c.requires _ c.records.ensures.records _
+    (sym (position_from_yields_List opens _ _ _ c.position-behind.ensures.ran (YieldsList-from_slice _ c.iter.ensures.rest) (λ x b q k. search (rules, tests)))
+    ∙ c.unwrap.ensures)
