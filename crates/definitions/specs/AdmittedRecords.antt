@@ -21,7 +21,7 @@ use Rattle.ascii.specs.NotationLaws.{and-true}
 use Rattle.lines.specs.declared.line_parts.Admitted.{Admitted}
 use Rattle.lines.specs.LineParts.{value_of}
 use Rattle.records.specs.Records.{admitted_from}
-use Rattle.dictionary.specs.DictionaryRecords.{records_in, first_chunks-behind}
+use Rattle.dictionary.specs.DictionaryRecords.{records_in, record_numbered, first_chunks-behind}
 use Rattle.definitions.specs.Definitions.{is_same_value, is_among, among_with, is_enumerated, admits_value}
 
 abbrev pub is_value : List ℕ → Bool
@@ -48,6 +48,12 @@ first_word : (at : ℕ) (words : List ℕ) → get_or (take 10 (drop at words)) 
 first_word at words =
     let here : at + 0 ≡ at = omega arith in
     get_or-take 10 (drop at words) 0 0 (omega arith) ∙ get_or-drop at words 0 0 ∙ ap (λ (place : ℕ). get_or words place 0) here
+
+pub record-word : (words : List ℕ) (records : List (List ℕ)) (place number : ℕ) → records ≡ records_in words → number < get_or words 0 0 → place < 10
+    → get_or (get_or records number []) place 0 ≡ get_or words (4 + 10 * number + place) 0
+record-word words records place number are inside few =
+    rw (are, record_numbered words number [] inside)
+    (get_or-take 10 (drop (4 + 10 * number) words) place 0 few ∙ get_or-drop (4 + 10 * number) words place 0)
 
 pub words-compared : (value : Admitted) (words : List ℕ) → length words ≡ 10
     → pointwise nat_eq (take 9 (drop 1 words)) (value.len ∷ value.word0 ∷ value.word1 ∷ value.word2 ∷ value.word3 ∷ value.word4 ∷ value.word5 ∷ value.word6 ∷ value.word7 ∷ [])

@@ -4,6 +4,7 @@ ghost use Rattle.dictionary.specs.DictionaryCheck.{is_index, messages_at};
 ghost use Rattle.definitions.specs.Definitions.{record_in, definition_of, component_of, message_of, is_same_value, is_among, is_enumerated, admits_value};
 ghost use Rattle.definitions.specs.DefinitionsLaws.{Below};
 ghost use Rattle.definitions.specs.AdmittedRecords.{is_value, is_among_records, records_behind};
+ghost use Rattle.records.specs.RecordKind.{kind_number};
 ghost use Rattle.records.specs.Records.{admitted_from};
 
 use ascending::search::binary_search;
@@ -21,8 +22,8 @@ pub struct Definition {
 }
 
 // The number of the record that the index at this place gives the name.
-fn record_in(words: &[u32], kind: u32, at: usize, count: usize, name: u32) -> Option<usize>
-    requires { (at + 2 * count ≤ length words.now) × (is_index kind at count words.now ≡ true) }
+fn record_in(words: &[u32], kind: RecordKind, at: usize, count: usize, name: u32) -> Option<usize>
+    requires { (at + 2 * count ≤ length words.now) × (is_index (kind_number kind) at count words.now ≡ true) }
     ensures found { result ≡ record_in at count name words.now }
     ensures inside { Below (get_or words.now 0 0) result }
 {
@@ -39,10 +40,9 @@ pub fn definition_of(dictionary: Dictionary<'_>, tag: u32) -> Option<Definition>
     let lines = words[0] as usize;
     let count = words[1] as usize;
     let at = 4 + 10 * lines;
-    let number = record_in(words, 1, at, count, tag)?;
-    let place = 4 + 10 * number + 2;
+    let number = record_in(words, RecordKind::Def, at, count, tag)?;
     Some(Definition {
-        type_place: words[place],
+        type_place: dictionary.records()[number][2],
         number,
     })
 }
@@ -57,7 +57,7 @@ pub fn component_of(dictionary: Dictionary<'_>, name: u32) -> Option<usize>
     let tags = words[1] as usize;
     let count = words[2] as usize;
     let at = 4 + 10 * lines + 2 * tags;
-    record_in(words, 5, at, count, name)
+    record_in(words, RecordKind::Component, at, count, name)
 }
 
 // The number of the record of the message whose type is these letters.
@@ -71,7 +71,7 @@ fn message_named(dictionary: Dictionary<'_>, letters: u32) -> Option<usize>
     let components = words[2] as usize;
     let count = words[3] as usize;
     let at = 4 + 10 * lines + 2 * tags + 2 * components;
-    record_in(words, 6, at, count, letters)
+    record_in(words, RecordKind::Message, at, count, letters)
 }
 
 // The number of the record of the message of this type.
