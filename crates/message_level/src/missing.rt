@@ -65,12 +65,7 @@ fn put_absent_group(
 }
 
 // The required tags, in their order with their repeats.
-fn put_missing_tags(
-    seen: &SeenSet<'_>,
-    required: &[u32],
-    events: &mut [u64],
-    at: usize,
-) -> usize
+fn put_missing_tags(seen: &SeenSet<'_>, required: &[u32], events: &mut [u64], at: usize) -> usize
     requires required_bound { at + 5 * length required.now < 2 ^ 62 }
     ensures wrote { (tags : List ℕ) → SeenTags seen.now.defined.tags.words.now seen.now.words.now tags
         → Wrote events.old events.new at result (missing_tags tags required.now) }
@@ -105,12 +100,7 @@ fn put_missing_groups(
 }
 
 // All that is missing.
-pub fn put_missing(
-    seen: &SeenSet<'_>,
-    layout: Layout<'_>,
-    events: &mut [u64],
-    at: usize,
-) -> usize
+pub fn put_missing(seen: &SeenSet<'_>, layout: Layout<'_>, events: &mut [u64], at: usize) -> usize
     requires at_bound { at ≤ 102400 }
     ensures { (tags : List ℕ) → SeenTags seen.now.defined.tags.words.now seen.now.words.now tags
         → Wrote events.old events.new at result

@@ -61,9 +61,7 @@ fn count_first(
     if events.len() < needed {
         return Err(Refusal::SpaceShort(needed as u64));
     }
-    let end = group_walk::group_walk::walk_group(
-        table, layout, top, group, position, 0, events, 0,
-    );
+    let end = group_walk::group_walk::walk_group(table, layout, top, group, position, 0, events, 0);
     Ok(Walked {
         position: end.next,
         words: end.at,
@@ -91,9 +89,7 @@ fn walk_top(
         return count_first(table, layout, position, group, events);
     }
     let top = layout.members_at(0);
-    let end = group_walk::group_walk::walk_group(
-        table, layout, top, group, position, 0, events, 0,
-    );
+    let end = group_walk::group_walk::walk_group(table, layout, top, group, position, 0, events, 0);
     Ok(Walked {
         position: end.next, // the first field after the group
         words: end.at,

@@ -45,12 +45,7 @@ fn taken_step(spec: GroupSpec<'_>, rank: usize, tag: u32) -> EntryStep
 }
 
 // What the field at the cursor is to an entry that begins at `start`. "One search answers both \"is it a member\" and its bitset slot."
-pub fn step_at(
-    table: FieldTable<'_>,
-    spec: GroupSpec<'_>,
-    start: usize,
-    cursor: usize,
-) -> EntryStep
+pub fn step_at(table: FieldTable<'_>, spec: GroupSpec<'_>, start: usize, cursor: usize) -> EntryStep
     ensures { result ≡ entry_step table.entry.fields.now spec.entry.members.words.now
         spec.entry.tags.words.now spec.entry.first spec.entry.delimiter start cursor }
 {
@@ -71,12 +66,7 @@ pub fn step_at(
 }
 
 // Whether a field after the declared entries belongs to the enclosing scope rather than to this group.
-fn ends_group(
-    declared: Option<u64>,
-    entries: u64,
-    enclosing: Ascending<'_>,
-    tag: u32,
-) -> bool
+fn ends_group(declared: Option<u64>, entries: u64, enclosing: Ascending<'_>, tag: u32) -> bool
     ensures { result ≡ ends_group declared entries (among enclosing.entry.words.now) tag }
 {
     let Some(number) = declared else {

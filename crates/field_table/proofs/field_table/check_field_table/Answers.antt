@@ -8,9 +8,9 @@ use Rattle.field_table.proofs.field_table.check_field_table.Goals.{then-not-is_e
 -- return Err(Refusal::BadField(0));
 pub returns-then-not-is_empty : goal.returns-then-not-is_empty
 returns-then-not-is_empty c = elim c.then-not-is_empty.branch [
-    | then-not-is_empty-via-then-not-is_empty w ↦ record { outcome = sym (table_check_of-not_threes c.args.fields.now c.args.message_len (search (rules, arith, w.if-not-is_empty.ensures, c.as_chunks.ensures.back_len))) }
-    | then-not-is_empty-via-else-not-is_empty+then-rows-gt4096 w ↦ record { outcome = sym (table_check_of-many c.args.fields.now c.args.message_len (search (rules, arith, w.if-not-is_empty.ensures, c.as_chunks.ensures.back_len)) (omega (arith, w.if-rows-gt4096.true, c.as_chunks.ensures.front_len))) }
-    ]
+  | then-not-is_empty-via-then-not-is_empty w ↦ record { outcome = sym (table_check_of-not_threes c.args.fields.now c.args.message_len (search (rules, arith, w.if-not-is_empty.ensures, c.as_chunks.ensures.back_len))) }
+  | then-not-is_empty-via-else-not-is_empty+then-rows-gt4096 w ↦ record { outcome = sym (table_check_of-many c.args.fields.now c.args.message_len (search (rules, arith, w.if-not-is_empty.ensures, c.as_chunks.ensures.back_len)) (omega (arith, w.if-rows-gt4096.true, c.as_chunks.ensures.front_len))) }
+]
 
 -- for (index, [_, first, past]) in rows.iter().enumerate() {
 pub loop-index-init : goal.loop-index-init
