@@ -88,7 +88,8 @@ fn close_row(
     rows[5 + row] = narrow(groups);
 }
 
-// Gathers the next level.
+// Gathers the next level. Each of its steps fills one or two of the slices that are lent, so a struct of
+// them would be taken apart again here.
 fn gather_level(
     trace: &[u64],
     members: &mut [u32],
@@ -151,6 +152,7 @@ pub fn gather(
         members: 0,
         required: 0,
     };
+    // no `for`: each level that is gathered may add others
     while state.level < state.levels {
         state = gather_level(trace, members, required, tags, rows, state);
     }

@@ -17,7 +17,8 @@ pub struct Expanded {
     pub words: usize,
 }
 
-// Writes the layout that the trace tells of, gathered in the memory that is lent for it.
+// Writes the layout that the trace tells of, gathered in the memory that is lent for it. It, `arrange_in`
+// and `arrange_told` are one step, apart for the sake of its memory: so they take and ask the same.
 fn arrange(
     trace: &[u64],
     nodes: usize,
@@ -63,6 +64,7 @@ fn arrange_in<const WORDS: usize, const ROWS: usize>(
     ensures outcome { result ≡ told_answer trace.now nodes (length layout.old) }
     ensures memory { layout.new ≡ told_with trace.now nodes layout.old }
 {
+    // no heap: a word of the trace adds at most one to each of these, and a level takes six words in rows
     let mut members = [0u32; WORDS];
     let mut required = [0u32; WORDS];
     let mut tags = [0u32; WORDS];
@@ -106,6 +108,7 @@ fn expand_in<const WORDS: usize>(
     requires { WORDS ≤ 14336 }
     ensures { ExpandedIn WORDS dictionary.entry.words.now message_type.now layout.old result layout.new }
 {
+    // no heap: room for so many steps
     let mut trace = [0u64; WORDS];
     match build::build::expand(dictionary, message_type, &mut trace) {
         Ok(builder) => {

@@ -17,8 +17,8 @@ loop-index-preserved c =
       | in-Enter w ↦ rw w.groups-is (passed-enters _ _ _ _ c.loop-index.invariant c.loop-index-test.true (step-told _ _ _ c.from.ensures w.in-Enter.is).0)
       | in-Leave+else-groups-eq1 w ↦ rw w.groups-is (passed-leaves _ _ _ _ c.loop-index.invariant c.loop-index-test.true (step-told _ _ _ c.from.ensures w.in-Leave.is).0 w.if-groups-eq1.false)
       | in_default w ↦
-        let inside = step-inside _ _ c.from.ensures w.in_default.not-Enter w.in_default.not-Leave in
-        rw w.groups-is (passed_over _ _ _ _ c.loop-index.invariant c.loop-index-test.true inside.0 inside.1)
+          let inside = step-inside _ _ c.from.ensures w.in_default.not-Enter w.in_default.not-Leave in
+          rw w.groups-is (passed_over _ _ _ _ c.loop-index.invariant c.loop-index-test.true inside.0 inside.1)
     ]
 
 -- pub fn behind_group(trace: &[u64], place: usize) -> usize
