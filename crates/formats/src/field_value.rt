@@ -52,7 +52,8 @@ pub fn is_in_ranges(format: Format, value: &[u8]) -> bool
     }
 }
 
-// Returns true if `value` has the on-the-wire form this type admits.
+// Returns true if `value` has the on-the-wire form this type admits. The type is the definition's and
+// the value the message's: no struct holds both.
 pub fn is_valid_value(field_type: FieldType, value: &[u8]) -> bool
     ensures outcome { result ≡ is_valid_value field_type value.now }
 {

@@ -5,7 +5,8 @@ ghost use Rattle.strict_dates.specs.StrictDate.{is_in_range, is_strict_date, is_
 
 use ascii::digits::is_digits_of_len;
 
-// Returns true where the first two bytes are digits and make a number from low to high.
+// Returns true where the first two bytes are digits and make a number from low to high. With this
+// match in the function below, under its `get`, the proof did not close.
 #[tactic(auto, using(crate::specs::StrictDateLaws::is_in_range_begins), unfolding(ascii::specs::Notation::is_between))]
 fn begins_between(rest: &[u8], low: u8, high: u8) -> bool
     ensures { result ≡ is_in_range low high 0 rest.now }
