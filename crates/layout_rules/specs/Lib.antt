@@ -5,3 +5,4 @@ pub mod FirstBrokenLaws
 pub mod OpenBlocks
 pub mod OpenBlocksLaws
 pub mod RulesLoop
+pub mod MemberLaws

@@ -149,8 +149,3 @@ last-kept others these block this same =
     let front : others ≡ these = sym (take_at others (block ∷ []) (length others) refl) ∙ ap (take (length others)) same ∙ take_at these (this ∷ []) (length others) (sym long) in
     let back : ◌≡◌ {A = List OpenBlock} (block ∷ []) (this ∷ []) = sym (drop_at others (block ∷ []) (length others) refl) ∙ ap (drop (length others)) same ∙ drop_at these (this ∷ []) (length others) (sym long) in
     (front, cc)
-
--- ---- is_member: no place is found where the tag is none of the words
-
-pub member-missing : (words : List ℕ) (tag : ℕ) (found : Option ℕ) → found ≡ rank_in words tag → found ≡ None → is_in tag words ≡ false
-member-missing words tag found is nowhere = sym (member-found words tag found is) ∙ ap is_some nowhere

@@ -116,9 +116,3 @@ module _ (text : List ℕ) (left : List ℕ) (state : LevelState) (lines : ℕ) 
         few_lines = omega (arith, so_far.few_lines, ap length first.bytes, length-append bytes.now (line_feed ∷ left'));
         rest = so_far.rest ∙ levels_go_on state lines left bytes.now left' first next (rw reads at taken);
       }
-
--- ---- close_open: at most 40 group blocks stay open
-
-close_open_depth : (state : LevelState) (number : ℕ) → state.depth ≤ 40 → (count : ℕ) → FewOpen (close_open count state number)
-close_open_depth state number within count =
-    few-either (eqb count (get_or state.counts (state.depth - 1) 0)) (Ok (level Blocks (state.depth - 1) state.counts)) (Err (NotAllowed number)) (omega arith) tt

@@ -8,3 +8,4 @@ pub mod LevelLinesLaws
 pub mod LayoutOfText
 pub mod InOrder
 pub mod LayoutOfTextLaws
+pub mod CloseOpenLaws
