@@ -90,8 +90,10 @@ pub fn word_at(bytes: &[u8], first: usize) -> u32
     ])
 }
 
+// Every byte is a letter or a digit.
+#[inline(always)]
 #[tactic(auto, unfolding(ascii::specs::Notation::is_between, crate::specs::LineParts::is_alphanumeric))]
-fn all_alphanumeric(bytes: &[u8]) -> bool
+pub fn all_alphanumeric(bytes: &[u8]) -> bool
     ensures { result ≡ every is_alphanumeric bytes.now }
 {
     bytes.iter().all(|byte| byte.is_ascii_alphanumeric())
@@ -105,8 +107,10 @@ pub fn parse_message_type(bytes: &[u8]) -> Option<u32>
     ((1..=4).contains(&bytes.len()) && all_alphanumeric(bytes)).then(|| word_at(bytes, 0))
 }
 
+// Every byte is 21 to 7E hexadecimal.
+#[inline(always)]
 #[tactic(auto, unfolding(ascii::specs::Notation::is_between))]
-fn all_visible(bytes: &[u8]) -> bool
+pub fn all_visible(bytes: &[u8]) -> bool
     ensures { result ≡ every is_visible bytes.now }
 {
     bytes.iter().all(|byte| byte.is_ascii_graphic())

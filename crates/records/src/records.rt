@@ -8,7 +8,7 @@ ghost use Rattle.records.specs.WordPairs.{pair_of, pair_at};
 
 use crate::record_kind::RecordKind;
 use line_forms::line::Line;
-use lines::line_parts::{Admitted, parse_number};
+use lines::line_parts::{Admitted, all_alphanumeric, all_visible, parse_number};
 
 // How many words a record has.
 pub const RECORD: usize = 10;
@@ -41,13 +41,6 @@ fn all_zero(bytes: &[u8]) -> bool
     bytes.iter().all(|byte| *byte == 0)
 }
 
-#[tactic(auto, unfolding(ascii::specs::Notation::is_between, lines::specs::LineParts::is_alphanumeric))]
-fn all_alphanumeric(bytes: &[u8]) -> bool
-    ensures { result ≡ every is_alphanumeric bytes.now }
-{
-    bytes.iter().all(|byte| byte.is_ascii_alphanumeric())
-}
-
 // The word is some T's: 1 to 4 letters or digits.
 fn holds_letters(word: u32) -> bool
     ensures { result ≡ holds_letters word }
@@ -55,15 +48,6 @@ fn holds_letters(word: u32) -> bool
     let bytes = word.to_be_bytes();
     let (letters, unused) = bytes.split_at(letters_length(word) as usize);
     all_alphanumeric(letters) && all_zero(unused)
-}
-
-// Every byte is 21 to 7E.
-#[inline(always)]
-#[tactic(auto, unfolding(ascii::specs::Notation::is_between))]
-fn all_visible(bytes: &[u8]) -> bool
-    ensures { result ≡ every is_visible bytes.now }
-{
-    bytes.iter().all(|byte| byte.is_ascii_graphic())
 }
 
 #[inline(always)]
