@@ -1,11 +1,8 @@
 -- `dictionary::line_runs::fields_run` meets its contract. The loop's invariant is `FieldsSoFar`; the laws are those of specs/LineRunsLaws.antt.
-use mathlib.Core.Bool.{false}
 use Prim.Native.Nat.{◌+◌, ◌-◌}
-use lib.ListN.{drop}
 use native.Mathlib.Omega.{arith}
 use Rattle.std.proofs.Common.{◌≡◌, ◌∙◌, ◌*◌}
 use Rattle.dictionary.specs.LineRunsLaws.{record_turns, given-halves, given-pair, fields-begin, field_goes_on, fields-end, product_few}
-use borrow.Author.Rules.{rules}
 use Rattle.dictionary.proofs.line_runs.fields_run.Goals as goal
 
 -- for record in words[first..first + 10 * count].chunks_exact(RECORD) {
