@@ -55,6 +55,7 @@ pub fn add_body(
 {
     let mut at = place;
     let mut so_far = builder;
+    // no iterator over the lines: a group moves the place past its whole body
     loop {
         match body_line(dictionary, at) {
             Some(BodyLine::Field(tag, required)) => {
