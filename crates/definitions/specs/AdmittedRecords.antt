@@ -6,18 +6,15 @@
 --   among_records_with found records the same for a value that a `value=V` line can have, else false
 --   records_behind words number      the records behind the one with this number
 use Rattle.std.specs.Prelude.{◌≡◌, ◌+◌, ◌*◌, ◌-◌, ◌<◌, ◌≤◌, ◌&&◌, ◌||◌, zero, suc, ℕ, Bool, true, false, refl, List, [], ◌∷◌, length, get_or, take, drop, take_while, if◌then◌else◌, Option, Some, None, eqb}
-use Rattle.std.specs.Cmp.Lexicographic.{pointwise}
 use Rattle.std.specs.List.{list_any, slice_range}
-use Rattle.std.specs.Bool.{nat_eq}
 use Rattle.std.specs.Simd.{first_chunks}
-use Rattle.std.proofs.Common.{ap, sym, ◌∙◌, arith, get_or-take, get_or-drop, drop-cons, length-drop}
+use Rattle.std.proofs.Common.{ap, sym, ◌∙◌, arith, get_or-take, get_or-drop, length-drop}
 use Rattle.std.proofs.lemmas.Bool.{false≢true}
 use Rattle.std.proofs.Math.Seq.{take-length}
 use Rattle.std.proofs.lemmas.List.{drop-drop}
 use Rattle.std.proofs.lemmas.List.Sums.{take_while-cons}
 use borrow.Author.Tests.{ne_eqb}
 use Rattle.ascii.specs.Notation.{◌≡ᵇ◌}
-use Rattle.ascii.specs.NotationLaws.{and-true}
 use Rattle.lines.specs.declared.line_parts.Admitted.{Admitted}
 use Rattle.lines.specs.LineParts.{value_of}
 use Rattle.records.specs.Records.{admitted_from}
@@ -54,24 +51,6 @@ pub record-word : (words : List ℕ) (records : List (List ℕ)) (place number :
 record-word words records place number are inside few =
     rw (are, record_numbered words number [] inside)
     (get_or-take 10 (drop (4 + 10 * number) words) place 0 few ∙ get_or-drop (4 + 10 * number) words place 0)
-
-pub words-compared : (value : Admitted) (words : List ℕ) → length words ≡ 10
-    → pointwise nat_eq (take 9 (drop 1 words)) (value.len ∷ value.word0 ∷ value.word1 ∷ value.word2 ∷ value.word3 ∷ value.word4 ∷ value.word5 ∷ value.word6 ∷ value.word7 ∷ [])
-    ≡ is_same_value (admitted_from words) value
-unfolding is_same_value
-words-compared value words ten =
-    rw (
-      drop-cons words 1 0 (omega arith),
-      drop-cons words 2 0 (omega arith),
-      drop-cons words 3 0 (omega arith),
-      drop-cons words 4 0 (omega arith),
-      drop-cons words 5 0 (omega arith),
-      drop-cons words 6 0 (omega arith),
-      drop-cons words 7 0 (omega arith),
-      drop-cons words 8 0 (omega arith),
-      drop-cons words 9 0 (omega arith),
-      and-true (eqb (get_or words 9 0) value.word7),
-    )
 
 -- ---- the records behind a definition
 

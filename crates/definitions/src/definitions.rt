@@ -90,22 +90,36 @@ fn is_value(words: &[u32; RECORD]) -> bool
     words[0] == u32::from(RecordKind::Value)
 }
 
-// The value is that of the record.
+// The value is that of the record. Most records differ from it in their first words, and no other is read.
+// word by word: `==` of the slices took 1.4 times the instructions of a message's verdicts
 fn is_same_value(words: &[u32; RECORD], value: Admitted) -> bool
     ensures { result ≡ is_same_value (admitted_from words.now) value }
 {
-    let value_words = [
-        value.len,
-        value.word0,
-        value.word1,
-        value.word2,
-        value.word3,
-        value.word4,
-        value.word5,
-        value.word6,
-        value.word7,
-    ];
-    words[1..] == value_words[..]
+    if words[1] != value.len {
+        return false;
+    }
+    if words[2] != value.word0 {
+        return false;
+    }
+    if words[3] != value.word1 {
+        return false;
+    }
+    if words[4] != value.word2 {
+        return false;
+    }
+    if words[5] != value.word3 {
+        return false;
+    }
+    if words[6] != value.word4 {
+        return false;
+    }
+    if words[7] != value.word5 {
+        return false;
+    }
+    if words[8] != value.word6 {
+        return false;
+    }
+    words[9] == value.word7
 }
 
 // The value is among those that the first records admit.
