@@ -7,6 +7,7 @@ ghost use Rattle.walk_steps.specs.WrittenEvents.{tag_event, begun_by, repeat_by,
 use events::event::{Event, Kind, put};
 
 // One event of the group with this count tag.
+// No struct of `events` and `at`: `Wrote events.old events.new at result` would name the same four.
 pub fn put_event(events: &mut [u64], at: usize, tag: u32, depth: u32, kind: Kind) -> usize
     requires { at + 5 < 2 ^ 63 }
     ensures { Wrote events.old events.new at result (tag_event tag depth kind ∷ []) }
