@@ -1,7 +1,7 @@
 // The tags seen at one entry's own level, as a set of ranks: each tag's rank in the group's sorted
 // member list. Ported from walk.rs, `EntryTags`: two widths, as the Rust has an inline set and one on
 // the heap.
-ghost use Rattle.std.specs.Prelude.{◌≡◌, ◌*◌, ◌≤◌, ◌<◌, not};
+ghost use Rattle.std.specs.Prelude.{◌≡◌, ◌*◌, ◌≤◌, ◌<◌, not, length};
 ghost use Rattle.entry_tags.specs.EntryTags.{no_ranks, holds_rank, insert_rank, mask_in, rank_count};
 
 use crate::ranks;
@@ -31,6 +31,27 @@ fn mask_in(word: usize, rank: usize) -> u64
     }
 }
 
+// Puts the rank into a set of four words, as `ranks::insert` does. The words are reached by numbers and
+// not by a variable or a loop, so that the compiled walk keeps them in registers (docs/SPEED.md).
+fn insert_in_four(words: &mut [u64], rank: usize) -> bool
+    requires { (length words.old ≡ 4) × (rank < 256) }
+    ensures outcome { result ≡ not (holds_rank words.old rank) }
+    ensures memory { words.new ≡ insert_rank words.old rank }
+{
+    let first = mask_in(0, rank);
+    let second = mask_in(1, rank);
+    let third = mask_in(2, rank);
+    let fourth = mask_in(3, rank);
+    let held = [words[0], words[1], words[2], words[3]];
+    let low = (held[0] & first) | (held[1] & second);
+    let hit = low | (held[2] & third) | (held[3] & fourth);
+    words[0] = held[0] | first;
+    words[1] = held[1] | second;
+    words[2] = held[2] | third;
+    words[3] = held[3] | fourth;
+    hit == 0
+}
+
 impl<const WORDS: usize> RankSet<WORDS> {
     pub fn new() -> Self
         ensures { result.words ≡ no_ranks WORDS }
@@ -38,31 +59,19 @@ impl<const WORDS: usize> RankSet<WORDS> {
         RankSet { words: [0; WORDS] }
     }
 
-    // Records the member ranked `rank`: the set with it, and whether it was not there before. Four
-    // words are reached by numbers and not by a variable or a loop, so that the compiled walk keeps
-    // them in registers (docs/SPEED.md).
+    // Records the member ranked `rank`: the set with it, and whether it was not there before.
     pub fn insert_rank(self, rank: usize) -> (Self, bool)
         requires { rank < 64 * WORDS }
         ensures tags { result.0.words ≡ insert_rank self.entry.words rank }
         ensures fresh { result.1 ≡ not (holds_rank self.entry.words rank) }
     {
         let mut tags = self;
-        if WORDS != 4 {
-            let fresh = ranks::insert(&mut tags.words, rank);
-            return (tags, fresh);
-        }
-        let first = mask_in(0, rank);
-        let second = mask_in(1, rank);
-        let third = mask_in(2, rank);
-        let fourth = mask_in(3, rank);
-        let words = self.words;
-        let low = (words[0] & first) | (words[1] & second);
-        let hit = low | (words[2] & third) | (words[3] & fourth);
-        tags.words[0] = words[0] | first;
-        tags.words[1] = words[1] | second;
-        tags.words[2] = words[2] | third;
-        tags.words[3] = words[3] | fourth;
-        (tags, hit == 0)
+        let fresh = if WORDS == 4 {
+            insert_in_four(&mut tags.words, rank)
+        } else {
+            ranks::insert(&mut tags.words, rank)
+        };
+        (tags, fresh)
     }
 
     // How many ranks the set has, of a level of so many members.
