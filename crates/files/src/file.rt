@@ -38,7 +38,8 @@ pub fn say_unread(rt: &impl Eprint, name: &[u8], error: io::Error) {
 }
 
 // Reads the file, and answers how many bytes it put at the start of the space. A read that fails
-// looks to `read_full` like the file's end: one read more tells them apart.
+// looks to `read_full` like the file's end: one read more tells them apart, into a byte of its own, since
+// there is no heap.
 fn read_named<R: Files>(rt: &R, name: &[u8], space: &mut [u8]) -> io::Result<usize>
     ensures { IfOk result (λ size. size ≤ length space.new) }
 {
