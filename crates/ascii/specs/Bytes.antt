@@ -17,10 +17,8 @@ unfoldable pub non_empty : List ℕ → Bool
 non_empty [] = false
 non_empty (byte ∷ rest) = true
 
-unfoldable abbrev pub every : (ℕ → Bool) → List ℕ → Bool
-unfolding ascii
+abbrev pub every : (ℕ → Bool) → List ℕ → Bool
 every test value = list_all test value
 
-unfoldable abbrev pub how_many : (ℕ → Bool) → List ℕ → ℕ
-unfolding ascii
+abbrev pub how_many : (ℕ → Bool) → List ℕ → ℕ
 how_many test value = count_by test value

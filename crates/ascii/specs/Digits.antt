@@ -15,16 +15,13 @@ use Rattle.ascii.specs.Bytes.{non_empty, every}
 abbrev pub is_digit : ℕ → Bool
 is_digit byte = is_between (code "0") (code "9") byte
 
-unfoldable abbrev pub is_digits : List ℕ → Bool
-unfolding is_digit
+abbrev pub is_digits : List ℕ → Bool
 is_digits value = non_empty value && every is_digit value
 
-unfoldable abbrev pub is_digits_of_len : ℕ → List ℕ → Bool
-unfolding is_digit
+abbrev pub is_digits_of_len : ℕ → List ℕ → Bool
 is_digits_of_len len value = length value ≡ᵇ len && every is_digit value
 
-unfoldable abbrev pub decimal_from : ℕ → List ℕ → ℕ
-unfolding is_digit
+abbrev pub decimal_from : ℕ → List ℕ → ℕ
 decimal_from high value = fold (λ number byte. number * 10 + (byte - code "0")) high value
 
 abbrev pub decimal : List ℕ → ℕ

@@ -16,10 +16,8 @@ is_upper byte = is_between (code "A") (code "Z") byte
 abbrev pub is_lower : ℕ → Bool
 is_lower byte = is_between (code "a") (code "z") byte
 
-unfoldable abbrev pub is_letter : ℕ → Bool
-unfolding is_upper
+abbrev pub is_letter : ℕ → Bool
 is_letter byte = is_upper byte || is_lower byte
 
-unfoldable abbrev pub is_alpha_of_len : ℕ → List ℕ → Bool
-unfolding is_upper
+abbrev pub is_alpha_of_len : ℕ → List ℕ → Bool
 is_alpha_of_len len value = length value ≡ᵇ len && every is_letter value

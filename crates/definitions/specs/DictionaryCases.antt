@@ -3,8 +3,7 @@
 --   small   def=35,String begin=header field=35,1 end=header begin=trailer end=trailer component=7 end=7
 use Rattle.std.specs.Prelude.{◌≡◌, refl, ℕ, true, false, List, [], ◌∷◌, ◌++◌, replicate, Some, None}
 use Rattle.ascii.specs.Notation.{is_between}
-use Rattle.ascii.specs.Bytes.{non_empty, every}
-use Rattle.ascii.specs.Digits.{is_digits, decimal_from}
+use Rattle.ascii.specs.Bytes.{non_empty}
 use Rattle.ascending.specs.Sort.{inserted, sorted}
 use Rattle.ascending.specs.Search.{is_strictly_above, is_strictly_ascending, rank_from, rank_in}
 use Rattle.line_forms.specs.declared.line.Line.{Line}
@@ -64,7 +63,7 @@ pub record DictionaryCases : Type 0 where
   pub no_component : component_of small_words 8 ≡ None
 
 pub dictionary-cases : DictionaryCases
-unfolding is_between non_empty every is_digits decimal_from inserted sorted is_strictly_above is_strictly_ascending rank_from rank_in no_leading_zero number_of is_alphanumeric step_of holds_byte holds_part letters_length letters_text holds_letters record_of is_unused outer_from body_from line_from digit_count length_of is_of name_of names_of place_of records_of index_of dictionary_words lines_from accepts count_of stands_at stands_each is_index is_dictionary record_in definition_of component_of
+unfolding is_between non_empty inserted sorted is_strictly_above is_strictly_ascending rank_from rank_in no_leading_zero number_of is_alphanumeric step_of holds_byte holds_part letters_length letters_text holds_letters record_of is_unused outer_from body_from line_from digit_count length_of is_of name_of names_of place_of records_of index_of dictionary_words lines_from accepts count_of stands_at stands_each is_index is_dictionary record_in definition_of component_of
 dictionary-cases = record {
   arranged = refl;
   passes = refl;

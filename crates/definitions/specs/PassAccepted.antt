@@ -66,26 +66,23 @@ letters-low : (letters : ℕ) → Held (Message letters true) → above (letters
 letters-low letters held = low 44 (letters_text letters) (omega arith) (letters_text-above letters held)
 
 behind-comma : (bytes rest : List ℕ) → above bytes → above rest → above (bytes ++ (44 ∷ rest))
-behind-comma bytes rest one other = every_append (is_above 10) bytes (44 ∷ rest) one (unfold every in other)
+behind-comma bytes rest one other = every_append (is_above 10) bytes (44 ∷ rest) one (other)
 
 flag-low : (required : Bool) → above (flag_text required)
-unfolding every
 flag-low true = refl
 flag-low false = refl
 
 app_low : (app : Bool) → above (app_text app)
-unfolding every
 app_low true = refl
 app_low false = refl
 
 end_low : (number : Option ℕ) (letters : Option ℕ) → HeldEnd number letters → above (end_text number letters)
-unfolding every
 end_low read_number (Some letters) held = letters-low letters held.0
 end_low (Some number) None held = numeral-low number
 end_low None None held = absurd held
 
 text_of_low : (line : Line) → Held line → above (text_of line)
-unfolding every text_of
+unfolding text_of
 text_of_low (Def tag place) held = behind-comma (numeral tag) (type_text place) (numeral-low tag) (low 32 (type_text place) (omega arith) (type_text-above place held.1))
 text_of_low (Value value) held =
     low 32 (value_text value) (omega arith) (every-weaker is_visible (is_above 32) (value_text value) visible_above (value_text-visible value held.0 held.1))

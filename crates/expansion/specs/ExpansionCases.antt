@@ -10,8 +10,7 @@
 use Rattle.std.specs.Prelude.{◌≡◌, refl, ℕ, zero, suc, true, false, List, [], ◌∷◌}
 use Prim.Native.String.{String}
 use Rattle.ascii.specs.Notation.{is_between}
-use Rattle.ascii.specs.Bytes.{ascii, non_empty, every}
-use Rattle.ascii.specs.Digits.{is_digits, decimal_from}
+use Rattle.ascii.specs.Bytes.{ascii, non_empty}
 use Rattle.line_forms.specs.declared.line.Line.{Line}
 use Rattle.refusals.specs.declared.refusal.Refusal.TheVariants.{TypeNotDefined, ComponentNotDefined, TooDeep, OutOfNodes, MembersOver}
 use Rattle.lines.specs.Lines.{position_of, starts_with, is_same, longer, cut}
@@ -105,7 +104,7 @@ pub record ExpansionCases : Type 0 where
   pub depth_first : expanded_under (limits_of 0 1 8192 2048) chain ≡ Refused (TooDeep 2)
 
 pub expansion_cases : ExpansionCases
-unfolding is_between non_empty every is_digits decimal_from position_of starts_with is_same longer cut no_leading_zero number_of flag_of type_in type_of word_at is_alphanumeric message_type_of value_of def_of begin_of message_of field_of group_rest group_of use_of end_of block_line_of definition_line_of line_of inserted sorted is_in deduped_after deduped blocks_of dictionary_of body_called ran_out add_member add_required add_field spend inserted_group sorted_groups firsts_after firsts_of finish retained finish_entry each_field each_group each_use add_group add_component build outcome_of expand_of
+unfolding is_between non_empty position_of starts_with is_same longer cut no_leading_zero number_of flag_of type_in type_of word_at is_alphanumeric message_type_of value_of def_of begin_of message_of field_of group_rest group_of use_of end_of block_line_of definition_line_of line_of inserted sorted is_in deduped_after deduped blocks_of dictionary_of body_called ran_out add_member add_required add_field spend inserted_group sorted_groups firsts_after firsts_of finish retained finish_entry each_field each_group each_use add_group add_component build outcome_of expand_of
 expansion_cases = record {
   worked_example = refl;
   first_group_stays = refl;
@@ -164,5 +163,5 @@ pub record LimitCases : Type 0 where
   pub nodes_4097 : expanded_with (body_of [] (groups_up_to 64) []) (body_of [] (groups_up_to 2) (uses_of_one 63)) ≡ Refused (OutOfNodes 0)
 
 pub limit_cases : LimitCases
-unfolding is_between every word_at is_alphanumeric message_type_of is_in body_called ran_out add_member add_required add_field spend each_field each_group each_use add_group add_component build outcome_of expand_of
+unfolding is_between word_at is_alphanumeric message_type_of is_in body_called ran_out add_member add_required add_field spend each_field each_group each_use add_group add_component build outcome_of expand_of
 limit_cases = record { nested_33 = refl; nested_34 = refl; nodes_4096 = refl; nodes_4097 = refl }

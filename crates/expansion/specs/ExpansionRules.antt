@@ -93,7 +93,6 @@ unfolding is_in
 is_in-later tag next others there = or_right (eqb next tag) (is_in tag others) there
 
 covers_among : (members tags : List ℕ) → Covers members tags → are_among members tags ≡ true
-unfolding every
 covers_among members [] covers = refl
 covers_among members (first ∷ rest) covers =
     and_both (is_in first members) (every (λ tag. is_in tag members) rest) (covers first (is_in-first first rest))

@@ -3,8 +3,7 @@
 use Rattle.std.specs.Prelude.{◌≡◌, refl, true, false, Some, None}
 use Rattle.field_types.specs.declared.field_type.FieldType.TheVariants.{Int, Price, DayOfMonth, MultipleCharValue, MonthYear}
 use Rattle.ascii.specs.Notation.{is_between}
-use Rattle.ascii.specs.Bytes.{ascii, non_empty, every, how_many}
-use Rattle.ascii.specs.Digits.{is_digits, is_digits_of_len, decimal_from}
+use Rattle.ascii.specs.Bytes.{ascii, non_empty}
 use Rattle.counts.specs.Count.{count_of}
 use Rattle.characters.specs.Characters.{expected_after, continues, characters_from, characters}
 use Rattle.ascii.specs.Split.{with_first, split, every_part}
@@ -36,7 +35,7 @@ pub record Starred : Type 0 where
   pub month_year_month_thirteen : is_strict_value MonthYear (ascii "202413") ≡ false
 
 pub starred : Starred
-unfolding is_between non_empty every how_many is_digits is_digits_of_len decimal_from expected_after continues characters_from characters with_first split every_part is_multi_value_list has_picture is_in_range is_of_format is_in_ranges
+unfolding is_between non_empty expected_after continues characters_from characters with_first split every_part is_multi_value_list has_picture is_in_range is_of_format is_in_ranges
 starred = record {
   count_empty = refl;
   count_leading_zeros = refl;

@@ -5,8 +5,7 @@
 use Rattle.std.specs.Prelude.{◌≡◌, refl, ℕ, zero, suc, ◌+◌, ◌*◌, ◌-◌, ◌&&◌, List, [], ◌∷◌, map, length, get_or, if◌then◌else◌, Some, None}
 use Prim.Native.String.{String}
 use Rattle.ascii.specs.Notation.{◌<ᵇ◌, ◌≡ᵇ◌}
-use Rattle.ascii.specs.Bytes.{ascii, non_empty, every}
-use Rattle.ascii.specs.Digits.{is_digits, decimal_from}
+use Rattle.ascii.specs.Bytes.{ascii, non_empty}
 use Rattle.ascii.specs.Notation.{is_between}
 use Rattle.counts.specs.Count.{count_of}
 use Rattle.ascii.specs.Membership.{◌∈ᵇ◌}
@@ -58,79 +57,79 @@ words walk = map event_words walk.events
 -- document 01, "One list in full"
 list_in_full : (words (walked (row 453 448 (447 ∷ 448 ∷ []) ∷ []) (35 ∷ 453 ∷ []) (35 is "D" ∷ 453 is "2" ∷ 448 is "A" ∷ 447 is "D" ∷ 448 is "B" ∷ []) 1) ≡ (1 ∷ 453 ∷ 0 ∷ 0 ∷ 0 ∷ []) ∷ (5 ∷ 453 ∷ 0 ∷ 0 ∷ 2 ∷ []) ∷ (5 ∷ 453 ∷ 0 ∷ 1 ∷ 1 ∷ []) ∷ (8 ∷ 453 ∷ 0 ∷ 1 ∷ 2 ∷ []) ∷ [])
     × ((walked (row 453 448 (447 ∷ 448 ∷ []) ∷ []) (35 ∷ 453 ∷ []) (35 is "D" ∷ 453 is "2" ∷ 448 is "A" ∷ 447 is "D" ∷ 448 is "B" ∷ []) 1).next ≡ 5)
-unfolding walk_group walk_by opening_at member_leads entry_begins entry_stops step_at is_digits non_empty every is_between decimal_from event_words
+unfolding walk_group walk_by opening_at member_leads entry_begins entry_stops step_at non_empty is_between event_words
 list_in_full = (refl, refl)
 
 -- a position outside the table gives itself back and no event
 outside-the_table : (words (walked (row 9 1 (1 ∷ []) ∷ []) (9 ∷ []) (9 is "1" ∷ 1 is "v" ∷ []) 2) ≡ [])
     × ((walked (row 9 1 (1 ∷ []) ∷ []) (9 ∷ []) (9 is "1" ∷ 1 is "v" ∷ []) 2).next ≡ 2)
-unfolding walk_group walk_by opening_at member_leads entry_begins entry_stops step_at is_digits non_empty every is_between decimal_from event_words
+unfolding walk_group walk_by opening_at member_leads entry_begins entry_stops step_at non_empty is_between event_words
 outside-the_table = (refl, refl)
 
 -- what may follow is asked of nested readings too
 nested-count_zero_then_its_delimiter : (words (walked (row 9 1 (1 ∷ []) ∷ row 1 2 (2 ∷ []) ∷ []) (9 ∷ []) (9 is "1" ∷ 1 is "0" ∷ 2 is "v" ∷ []) 0) ≡ (1 ∷ 9 ∷ 0 ∷ 0 ∷ 0 ∷ []) ∷ (1 ∷ 1 ∷ 1 ∷ 0 ∷ 0 ∷ []) ∷ (5 ∷ 1 ∷ 1 ∷ 0 ∷ 1 ∷ []) ∷ (6 ∷ 1 ∷ 1 ∷ 0 ∷ 1 ∷ []) ∷ (8 ∷ 1 ∷ 1 ∷ 0 ∷ 1 ∷ []) ∷ (5 ∷ 9 ∷ 0 ∷ 0 ∷ 1 ∷ []) ∷ (8 ∷ 9 ∷ 0 ∷ 1 ∷ 1 ∷ []) ∷ [])
     × ((walked (row 9 1 (1 ∷ []) ∷ row 1 2 (2 ∷ []) ∷ []) (9 ∷ []) (9 is "1" ∷ 1 is "0" ∷ 2 is "v" ∷ []) 0).next ≡ 3)
-unfolding walk_group walk_by opening_at member_leads entry_begins entry_stops step_at is_digits non_empty every is_between decimal_from event_words
+unfolding walk_group walk_by opening_at member_leads entry_begins entry_stops step_at non_empty is_between event_words
 nested-count_zero_then_its_delimiter = (refl, refl)
 
 -- the delimiter behind a count of 0 begins an entry where the level around lacks it
 count-zero_then_delimiter : (words (walked (row 9 1 (1 ∷ []) ∷ []) (9 ∷ []) (9 is "0" ∷ 1 is "v" ∷ []) 0) ≡ (1 ∷ 9 ∷ 0 ∷ 0 ∷ 0 ∷ []) ∷ (5 ∷ 9 ∷ 0 ∷ 0 ∷ 1 ∷ []) ∷ (6 ∷ 9 ∷ 0 ∷ 0 ∷ 1 ∷ []) ∷ (8 ∷ 9 ∷ 0 ∷ 0 ∷ 1 ∷ []) ∷ [])
     × ((walked (row 9 1 (1 ∷ []) ∷ []) (9 ∷ []) (9 is "0" ∷ 1 is "v" ∷ []) 0).next ≡ 2)
-unfolding walk_group walk_by opening_at member_leads entry_begins entry_stops step_at is_digits non_empty every is_between decimal_from event_words
+unfolding walk_group walk_by opening_at member_leads entry_begins entry_stops step_at non_empty is_between event_words
 count-zero_then_delimiter = (refl, refl)
 
 -- a delimiter that is a nested count tag begins a nested group, and counts as one field
 delimiter-begins_nested_group : (words (walked (row 9 1 (1 ∷ []) ∷ row 1 1 (1 ∷ []) ∷ []) (9 ∷ []) (9 is "1" ∷ 1 is "0" ∷ []) 0) ≡ (1 ∷ 9 ∷ 0 ∷ 0 ∷ 0 ∷ []) ∷ (1 ∷ 1 ∷ 1 ∷ 0 ∷ 0 ∷ []) ∷ (8 ∷ 1 ∷ 1 ∷ 1 ∷ 0 ∷ []) ∷ (5 ∷ 9 ∷ 0 ∷ 0 ∷ 1 ∷ []) ∷ (8 ∷ 9 ∷ 0 ∷ 1 ∷ 1 ∷ []) ∷ [])
     × ((walked (row 9 1 (1 ∷ []) ∷ row 1 1 (1 ∷ []) ∷ []) (9 ∷ []) (9 is "1" ∷ 1 is "0" ∷ []) 0).next ≡ 2)
-unfolding walk_group walk_by opening_at member_leads entry_begins entry_stops step_at is_digits non_empty every is_between decimal_from event_words
+unfolding walk_group walk_by opening_at member_leads entry_begins entry_stops step_at non_empty is_between event_words
 delimiter-begins_nested_group = (refl, refl)
 
 -- a member behind a count of 0 is that of the level around where that has it
 count-zero_then_level_tag : (words (walked (row 9 1 (1 ∷ 2 ∷ []) ∷ []) (2 ∷ 9 ∷ []) (9 is "0" ∷ 2 is "v" ∷ []) 0) ≡ (1 ∷ 9 ∷ 0 ∷ 0 ∷ 0 ∷ []) ∷ (8 ∷ 9 ∷ 0 ∷ 1 ∷ 0 ∷ []) ∷ [])
     × ((walked (row 9 1 (1 ∷ 2 ∷ []) ∷ []) (2 ∷ 9 ∷ []) (9 is "0" ∷ 2 is "v" ∷ []) 0).next ≡ 1)
-unfolding walk_group walk_by opening_at member_leads entry_begins entry_stops step_at is_digits non_empty every is_between decimal_from event_words
+unfolding walk_group walk_by opening_at member_leads entry_begins entry_stops step_at non_empty is_between event_words
 count-zero_then_level_tag = (refl, refl)
 
 -- but behind an entry a member belongs to the entry
 entry-takes_level_tag : (words (walked (row 9 1 (1 ∷ 2 ∷ []) ∷ []) (2 ∷ 9 ∷ []) (9 is "1" ∷ 1 is "v" ∷ 2 is "v" ∷ []) 0) ≡ (1 ∷ 9 ∷ 0 ∷ 0 ∷ 0 ∷ []) ∷ (5 ∷ 9 ∷ 0 ∷ 0 ∷ 2 ∷ []) ∷ (8 ∷ 9 ∷ 0 ∷ 1 ∷ 1 ∷ []) ∷ [])
     × ((walked (row 9 1 (1 ∷ 2 ∷ []) ∷ []) (2 ∷ 9 ∷ []) (9 is "1" ∷ 1 is "v" ∷ 2 is "v" ∷ []) 0).next ≡ 3)
-unfolding walk_group walk_by opening_at member_leads entry_begins entry_stops step_at is_digits non_empty every is_between decimal_from event_words
+unfolding walk_group walk_by opening_at member_leads entry_begins entry_stops step_at non_empty is_between event_words
 entry-takes_level_tag = (refl, refl)
 
 -- the delimiter behind the declared entries is that of the level around where that has it
 delimiter-of_level_around : (words (walked (row 9 1 (1 ∷ []) ∷ []) (1 ∷ 9 ∷ []) (9 is "1" ∷ 1 is "v" ∷ 1 is "v" ∷ []) 0) ≡ (1 ∷ 9 ∷ 0 ∷ 0 ∷ 0 ∷ []) ∷ (5 ∷ 9 ∷ 0 ∷ 0 ∷ 1 ∷ []) ∷ (8 ∷ 9 ∷ 0 ∷ 1 ∷ 1 ∷ []) ∷ [])
     × ((walked (row 9 1 (1 ∷ []) ∷ []) (1 ∷ 9 ∷ []) (9 is "1" ∷ 1 is "v" ∷ 1 is "v" ∷ []) 0).next ≡ 2)
-unfolding walk_group walk_by opening_at member_leads entry_begins entry_stops step_at is_digits non_empty every is_between decimal_from event_words
+unfolding walk_group walk_by opening_at member_leads entry_begins entry_stops step_at non_empty is_between event_words
 delimiter-of_level_around = (refl, refl)
 
 -- a tag in a nested group and then directly does not repeat
 nested-field_then_direct_field : (words (walked (row 9 1 (1 ∷ 2 ∷ []) ∷ row 1 2 (2 ∷ []) ∷ []) (9 ∷ []) (9 is "1" ∷ 1 is "1" ∷ 2 is "v" ∷ 2 is "v" ∷ []) 0) ≡ (1 ∷ 9 ∷ 0 ∷ 0 ∷ 0 ∷ []) ∷ (1 ∷ 1 ∷ 1 ∷ 0 ∷ 0 ∷ []) ∷ (5 ∷ 1 ∷ 1 ∷ 0 ∷ 1 ∷ []) ∷ (8 ∷ 1 ∷ 1 ∷ 1 ∷ 1 ∷ []) ∷ (5 ∷ 9 ∷ 0 ∷ 0 ∷ 2 ∷ []) ∷ (8 ∷ 9 ∷ 0 ∷ 1 ∷ 1 ∷ []) ∷ [])
     × ((walked (row 9 1 (1 ∷ 2 ∷ []) ∷ row 1 2 (2 ∷ []) ∷ []) (9 ∷ []) (9 is "1" ∷ 1 is "1" ∷ 2 is "v" ∷ 2 is "v" ∷ []) 0).next ≡ 4)
-unfolding walk_group walk_by opening_at member_leads entry_begins entry_stops step_at is_digits non_empty every is_between decimal_from event_words
+unfolding walk_group walk_by opening_at member_leads entry_begins entry_stops step_at non_empty is_between event_words
 nested-field_then_direct_field = (refl, refl)
 
 -- the level around a nested group is the group it stands in, not the top
 level-around_is_the_nearest : (words (walked (row 9 1 (1 ∷ []) ∷ row 1 2 (2 ∷ []) ∷ []) (2 ∷ 9 ∷ []) (9 is "1" ∷ 1 is "0" ∷ 2 is "v" ∷ []) 0) ≡ (1 ∷ 9 ∷ 0 ∷ 0 ∷ 0 ∷ []) ∷ (1 ∷ 1 ∷ 1 ∷ 0 ∷ 0 ∷ []) ∷ (5 ∷ 1 ∷ 1 ∷ 0 ∷ 1 ∷ []) ∷ (6 ∷ 1 ∷ 1 ∷ 0 ∷ 1 ∷ []) ∷ (8 ∷ 1 ∷ 1 ∷ 0 ∷ 1 ∷ []) ∷ (5 ∷ 9 ∷ 0 ∷ 0 ∷ 1 ∷ []) ∷ (8 ∷ 9 ∷ 0 ∷ 1 ∷ 1 ∷ []) ∷ [])
     × ((walked (row 9 1 (1 ∷ []) ∷ row 1 2 (2 ∷ []) ∷ []) (2 ∷ 9 ∷ []) (9 is "1" ∷ 1 is "0" ∷ 2 is "v" ∷ []) 0).next ≡ 3)
-unfolding walk_group walk_by opening_at member_leads entry_begins entry_stops step_at is_digits non_empty every is_between decimal_from event_words
+unfolding walk_group walk_by opening_at member_leads entry_begins entry_stops step_at non_empty is_between event_words
 level-around_is_the_nearest = (refl, refl)
 
 -- the level around a nested group has the delimiter of the group it stands in
 level-around_has_its_delimiter : (words (walked (row 9 1 (1 ∷ []) ∷ row 1 1 (1 ∷ []) ∷ []) (9 ∷ []) (9 is "2" ∷ 1 is "0" ∷ 1 is "0" ∷ []) 0) ≡ (1 ∷ 9 ∷ 0 ∷ 0 ∷ 0 ∷ []) ∷ (1 ∷ 1 ∷ 1 ∷ 0 ∷ 0 ∷ []) ∷ (8 ∷ 1 ∷ 1 ∷ 1 ∷ 0 ∷ []) ∷ (5 ∷ 9 ∷ 0 ∷ 0 ∷ 1 ∷ []) ∷ (1 ∷ 1 ∷ 1 ∷ 0 ∷ 0 ∷ []) ∷ (8 ∷ 1 ∷ 1 ∷ 1 ∷ 0 ∷ []) ∷ (5 ∷ 9 ∷ 0 ∷ 1 ∷ 1 ∷ []) ∷ (8 ∷ 9 ∷ 0 ∷ 1 ∷ 2 ∷ []) ∷ [])
     × ((walked (row 9 1 (1 ∷ []) ∷ row 1 1 (1 ∷ []) ∷ []) (9 ∷ []) (9 is "2" ∷ 1 is "0" ∷ 1 is "0" ∷ []) 0).next ≡ 3)
-unfolding walk_group walk_by opening_at member_leads entry_begins entry_stops step_at is_digits non_empty every is_between decimal_from event_words
+unfolding walk_group walk_by opening_at member_leads entry_begins entry_stops step_at non_empty is_between event_words
 level-around_has_its_delimiter = (refl, refl)
 
 -- a member ahead of any delimiter, and a tag twice in one entry
 member-before_delimiter_then_repeat : (words (walked (row 9 1 (1 ∷ 2 ∷ []) ∷ []) (9 ∷ []) (9 is "2" ∷ 2 is "v" ∷ 1 is "v" ∷ 2 is "v" ∷ 2 is "v" ∷ []) 0) ≡ (1 ∷ 9 ∷ 0 ∷ 0 ∷ 0 ∷ []) ∷ (3 ∷ 9 ∷ 0 ∷ 2 ∷ 0 ∷ []) ∷ (5 ∷ 9 ∷ 0 ∷ 0 ∷ 1 ∷ []) ∷ (4 ∷ 9 ∷ 0 ∷ 2 ∷ 0 ∷ []) ∷ (5 ∷ 9 ∷ 0 ∷ 1 ∷ 2 ∷ []) ∷ (8 ∷ 9 ∷ 0 ∷ 0 ∷ 2 ∷ []) ∷ [])
     × ((walked (row 9 1 (1 ∷ 2 ∷ []) ∷ []) (9 ∷ []) (9 is "2" ∷ 2 is "v" ∷ 1 is "v" ∷ 2 is "v" ∷ 2 is "v" ∷ []) 0).next ≡ 5)
-unfolding walk_group walk_by opening_at member_leads entry_begins entry_stops step_at is_digits non_empty every is_between decimal_from event_words
+unfolding walk_group walk_by opening_at member_leads entry_begins entry_stops step_at non_empty is_between event_words
 member-before_delimiter_then_repeat = (refl, refl)
 
 -- a count that is no number
 count-not_a_number : (words (walked (row 9 1 (1 ∷ []) ∷ []) (9 ∷ []) (9 is "+1" ∷ 1 is "v" ∷ []) 0) ≡ (1 ∷ 9 ∷ 0 ∷ 0 ∷ 0 ∷ []) ∷ (2 ∷ 9 ∷ 0 ∷ 0 ∷ 0 ∷ []) ∷ (5 ∷ 9 ∷ 0 ∷ 0 ∷ 1 ∷ []) ∷ (8 ∷ 9 ∷ 0 ∷ 0 ∷ 1 ∷ []) ∷ [])
     × ((walked (row 9 1 (1 ∷ []) ∷ []) (9 ∷ []) (9 is "+1" ∷ 1 is "v" ∷ []) 0).next ≡ 2)
-unfolding walk_group walk_by opening_at member_leads entry_begins entry_stops step_at is_digits non_empty every is_between decimal_from event_words
+unfolding walk_group walk_by opening_at member_leads entry_begins entry_stops step_at non_empty is_between event_words
 count-not_a_number = (refl, refl)
 
 -- ---- the bound on events is reached
@@ -154,10 +153,10 @@ bounds zero n = []
 bounds (suc more) n = (5 * n - 2) ∷ bounds more (suc n)
 
 bound-reached : chain_events 33 1 ≡ bounds 33 1
-unfolding walk_group walk_by opening_at member_leads entry_begins entry_stops step_at is_digits non_empty every is_between decimal_from event_words
+unfolding walk_group walk_by opening_at member_leads entry_begins entry_stops step_at non_empty is_between event_words
 bound-reached = refl
 
 -- the 34th group of the chain is too deep
 too_deep_event : length (walked (chain_rows 34 0) (2 ∷ []) (chain_fields 34 0) 0).events ≡ 166
-unfolding walk_group walk_by opening_at member_leads entry_begins entry_stops step_at is_digits non_empty every is_between decimal_from event_words
+unfolding walk_group walk_by opening_at member_leads entry_begins entry_stops step_at non_empty is_between event_words
 too_deep_event = refl

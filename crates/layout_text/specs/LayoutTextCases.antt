@@ -1,8 +1,7 @@
 -- Layout texts, read by `layout_text_of`. Assumes nothing.
 use Rattle.std.specs.Prelude.{◌≡◌, refl, Ok, Err}
 use Rattle.ascii.specs.Notation.{is_between}
-use Rattle.ascii.specs.Bytes.{ascii, non_empty, every}
-use Rattle.ascii.specs.Digits.{is_digits, decimal_from}
+use Rattle.ascii.specs.Bytes.{ascii, non_empty}
 use Rattle.refusals.specs.declared.refusal.Refusal.TheVariants.{UnknownForm, NotAllowed}
 use Rattle.lines.specs.Lines.{position_of, starts_with, is_same, longer, cut}
 use Rattle.lines.specs.LineParts.{no_leading_zero, number_of, flag_of, word_at, is_alphanumeric, message_type_of}
@@ -22,7 +21,7 @@ pub record LayoutTextCases : Type 0 where
   pub unended : layout_text_of (ascii "member=1") ≡ Err (UnknownForm 1)
 
 pub layout-text_cases : LayoutTextCases
-unfolding is_between non_empty every is_digits decimal_from position_of starts_with is_same longer cut no_leading_zero number_of flag_of word_at is_alphanumeric message_type_of field_of group_rest group_of end_of block_line_of definition_line_of line_of level_step_of layout_order_from layout_order_of layout_text_of
+unfolding is_between non_empty position_of starts_with is_same longer cut no_leading_zero number_of flag_of word_at is_alphanumeric message_type_of field_of group_rest group_of end_of block_line_of definition_line_of line_of level_step_of layout_order_from layout_order_of layout_text_of
 layout-text_cases = record {
   empty_text = refl;
   one_group = refl;

@@ -1,7 +1,7 @@
 -- Examples of layouts, by computation: the layout of the worked example of document 01 ('One list in full'), its words, and words that
 -- break one thing. Assumes nothing.
 use Rattle.std.specs.Prelude.{ℕ, ◌≡◌, refl, true, false, ◌&&◌, List, [], ◌∷◌, ◌++◌, set}
-use Rattle.ascii.specs.Bytes.{non_empty, every}
+use Rattle.ascii.specs.Bytes.{non_empty}
 use Rattle.ascending.specs.Sort.{is_in}
 use Rattle.ascending.specs.Search.{is_strictly_above, is_strictly_ascending}
 use Rattle.layouts.specs.Limits.{gate_limits}
@@ -44,7 +44,7 @@ pub record Cases : Type 0 where
   pub word_missing_fails : is_layout gate_limits (set parties_words 6 20) ≡ false
 
 pub cases : Cases
-unfolding groups_below level_order all_groups joined is_strictly_above is_strictly_ascending is_in every_group meets_rules places_from arranged_parts arranged stretch stretches never_falls is_run is_ahead member_places_hold required_places_hold group_places_hold is_level levels_hold delimiters_hold all_levels_hold all_delimiters_hold is_layout_of is_layout non_empty every
+unfolding groups_below level_order all_groups joined is_strictly_above is_strictly_ascending is_in every_group meets_rules places_from arranged_parts arranged stretch stretches never_falls is_run is_ahead member_places_hold required_places_hold group_places_hold is_level levels_hold delimiters_hold all_levels_hold all_delimiters_hold is_layout_of is_layout non_empty
 cases = record {
   parties_arranged = refl;
   parties_meet = refl;

@@ -357,7 +357,6 @@ ahead-order (suc count) base (first ∷ waiting) all =
     (ahead-order count (base + 1) (waiting ++ nested) (omega (arith, group_total-first first waiting)))
 
 flags_hold : (groups : List Group) → every is_flag (map flag groups) ≡ true
-unfolding every
 flags_hold [] = refl
 flags_hold (first ∷ others) = and_both (leb (flag first) 1) _ (is-flag (is_required first)) (flags_hold others)
   where

@@ -154,7 +154,6 @@ ahead-at first (place ∷ rest) zero hold inside = omega (arith, ltb-true first 
 ahead-at first (place ∷ rest) (suc number) hold inside = omega (arith, ahead-at (first + 1) rest number (and_right (ltb first place) _ hold) (omega arith))
 
 flags-at : (flags : List ℕ) (number : ℕ) → every is_flag flags ≡ true → number < length flags → get_or flags number 0 ≤ 1
-unfolding every
 flags-at [] number hold inside = absurd (omega arith)
 flags-at (flag ∷ rest) zero hold inside = leb-true flag 1 (and_left (leb flag 1) _ hold)
 flags-at (flag ∷ rest) (suc number) hold inside = flags-at rest number (and_right (leb flag 1) _ hold) (omega arith)

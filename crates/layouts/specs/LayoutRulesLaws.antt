@@ -8,7 +8,6 @@ use Rattle.std.proofs.lemmas.Bool.{false≢true}
 use Rattle.std.proofs.Math.Decide.{ℕ_discrete}
 use Rattle.ascii.specs.Notation.{◌≤ᵇ◌, ◌≡ᵇ◌}
 use Rattle.ascii.specs.NotationLaws.{and_left, and_right, and_both}
-use Rattle.ascii.specs.Bytes.{every}
 use Rattle.ascending.specs.Sort.{is_in}
 use Rattle.ascending.specs.Search.{is_strictly_above, is_strictly_ascending}
 use Rattle.layouts.specs.LayoutRules.{is_ascending, ◌∈ᵇ◌, are_among}
@@ -95,7 +94,6 @@ member-at tag (first ∷ rest) holds = go (member-at tag rest) (ℕ_discrete fir
 -- ---- are_among
 
 pub among-more : (first : ℕ) (members tags : List ℕ) → are_among members tags ≡ true → are_among (first ∷ members) tags ≡ true
-unfolding every
 among-more first members [] hold = refl
 among-more first members (tag ∷ tags) hold =
     and_both
@@ -106,7 +104,7 @@ among-more first members (tag ∷ tags) hold =
 
 -- tags that are greater than the first member are among the others
 pub among-others : (first : ℕ) (members tags : List ℕ) → is_ascending_from (suc first) tags ≡ true → are_among (first ∷ members) tags ≡ true → are_among members tags ≡ true
-unfolding every is_ascending_from
+unfolding is_ascending_from
 among-others first members [] ascend hold = refl
 among-others first members (tag ∷ tags) ascend hold =
     and_both
@@ -147,7 +145,7 @@ module _ (least member : ℕ) (rest : List ℕ) where
   }
 
   with_first : (tag : ℕ) (tags : List ℕ) → least ≤ member → tag ≡ member → Met (suc member) rest tags → Met least (member ∷ rest) (tag ∷ tags)
-  unfolding is_ascending_from every
+  unfolding is_ascending_from
   with_first tag tags above same met = record {
     members_ascend = and_both (leb least member) _ (le-leb least member above) met.members_ascend;
     tags_ascend =
@@ -174,7 +172,7 @@ module _ (least member : ℕ) (rest : List ℕ) where
   }
 
 pub met_holds : (least : ℕ) (members tags : List ℕ) → met_among least members tags ≡ true → Met least members tags
-unfolding met_among is_ascending_from every
+unfolding met_among is_ascending_from
 met_holds least [] [] holds = record { members_ascend = refl; tags_ascend = refl; among = refl }
 met_holds least [] (tag ∷ tags) holds = absurd (false≢true holds)
 met_holds least (member ∷ rest) [] holds =
@@ -203,7 +201,7 @@ met_holds least (member ∷ rest) (tag ∷ tags) holds =
     go above found with_tag without (no other) = from_first least member rest (tag ∷ tags) above (without (rw (ne_eqb tag member other) at found))
 
 pub holds-met : (least : ℕ) (members tags : List ℕ) → Met least members tags → met_among least members tags ≡ true
-unfolding met_among is_ascending_from every is_in
+unfolding met_among is_ascending_from is_in
 holds-met least [] [] met = refl
 holds-met least [] (tag ∷ tags) met = met.among
 holds-met least (member ∷ rest) [] met =

@@ -1,8 +1,7 @@
 -- Lines, read by the definitions of `LineForms.antt`. Assumes nothing.
 use Rattle.std.specs.Prelude.{◌≡◌, refl, true, false, Some, None}
 use Rattle.ascii.specs.Notation.{is_between}
-use Rattle.ascii.specs.Bytes.{ascii, non_empty, every}
-use Rattle.ascii.specs.Digits.{is_digits, decimal_from}
+use Rattle.ascii.specs.Bytes.{ascii, non_empty}
 use Rattle.line_forms.specs.declared.line.Line.TheVariants.{Def, Value, BeginHeader, EndTrailer, Component, Message, Field, Group, Use, End, Member, RequiredTag, Unknown}
 use Rattle.lines.specs.Lines.{position_of, starts_with, is_same, longer, cut}
 use Rattle.lines.specs.LineParts.{no_leading_zero, number_of, flag_of, type_in, type_of, word_at, is_alphanumeric, message_type_of, admitted_bytes, value_of}
@@ -40,7 +39,7 @@ pub record LineCases : Type 0 where
   pub carriage_return : line_of (ascii "field=1,1\r") ≡ Unknown
 
 pub line-cases : LineCases
-unfolding is_between non_empty every is_digits decimal_from position_of starts_with is_same longer cut no_leading_zero number_of flag_of type_in type_of word_at is_alphanumeric message_type_of value_of def_of begin_of message_of field_of group_rest group_of use_of end_of block_line_of definition_line_of line_of
+unfolding is_between non_empty position_of starts_with is_same longer cut no_leading_zero number_of flag_of type_in type_of word_at is_alphanumeric message_type_of value_of def_of begin_of message_of field_of group_rest group_of use_of end_of block_line_of definition_line_of line_of
 line-cases = record {
   def_line = refl;
   def_unknown_type = refl;

@@ -1,8 +1,7 @@
 -- Parts of lines, read by the definitions of `LineParts.antt`: the limits of each form. Assumes nothing.
 use Rattle.std.specs.Prelude.{◌≡◌, refl, Some, None, true, false}
 use Rattle.ascii.specs.Notation.{is_between}
-use Rattle.ascii.specs.Bytes.{ascii, non_empty, every}
-use Rattle.ascii.specs.Digits.{is_digits, decimal_from}
+use Rattle.ascii.specs.Bytes.{ascii, non_empty}
 use Rattle.lines.specs.Lines.{starts_with, is_same, longer, cut}
 use Rattle.lines.specs.LineParts.{no_leading_zero, number_of, flag_of, type_in, type_of, word_at, is_alphanumeric, message_type_of, value_of}
 
@@ -15,7 +14,7 @@ pub record Numbers : Type 0 where
   pub over : number_of (ascii "4294967296") ≡ None
 
 pub numbers : Numbers
-unfolding is_between non_empty every is_digits decimal_from no_leading_zero number_of
+unfolding is_between non_empty no_leading_zero number_of
 numbers = record { zero_alone = refl; leading_zero = refl; nothing = refl; sign = refl; largest = refl; over = refl }
 
 pub record Flags : Type 0 where
@@ -48,7 +47,7 @@ pub record MessageTypes : Type 0 where
   pub nothing : message_type_of (ascii "") ≡ None
 
 pub message_types : MessageTypes
-unfolding is_between every word_at is_alphanumeric message_type_of
+unfolding is_between word_at is_alphanumeric message_type_of
 message_types = record { one_letter = refl; four = refl; five = refl; hyphen = refl; nothing = refl }
 
 pub record Values : Type 0 where
@@ -57,5 +56,5 @@ pub record Values : Type 0 where
   pub thirty_three : value_of (ascii "123456789012345678901234567890123") ≡ None
 
 pub values : Values
-unfolding is_between every value_of
+unfolding is_between value_of
 values = record { space = refl; nothing = refl; thirty_three = refl }

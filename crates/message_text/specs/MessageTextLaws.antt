@@ -13,7 +13,6 @@ use Rattle.std.proofs.lemmas.List.Edits.{sets, sets-eq}
 use Rattle.std.proofs.Math.Seq.{length-sets}
 use Rattle.std.proofs.lemmas.Bool.{eqb-false, lt-leb}
 use Rattle.ascii.specs.Bytes.{non_empty}
-use Rattle.ascii.specs.Digits.{is_digits}
 use Rattle.refusals.specs.declared.refusal.Refusal.{Refusal}
 use Rattle.refusals.specs.declared.refusal.Refusal.TheVariants.{TextTooLong, UnknownForm, SpaceShort}
 use Rattle.lines.specs.Lines.{position_of, before, Pieces, last, piece, longer, cut, lines_of, line_feed}
@@ -56,7 +55,7 @@ pub record Says (line : List ℕ) (tag value : ℕ) : Type 0 where
 
 -- a tag has a digit
 digit-before : (line : List ℕ) (tag position : ℕ) → number_of (take position line) ≡ Some tag → 1 ≤ position
-unfolding number_of is_digits non_empty no_leading_zero
+unfolding number_of non_empty no_leading_zero
 digit-before line tag zero reads = let zero_one : ◌≡◌ {A = ℕ} 0 1 = cc in absurd (omega arith)
 digit-before line tag (suc position) reads = omega arith
 

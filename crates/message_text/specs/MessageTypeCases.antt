@@ -1,8 +1,7 @@
 -- `MessageType.antt` on small tables and lines. Assumes nothing.
 use Rattle.std.specs.Prelude.{◌≡◌, refl, [], ◌∷◌, ◌++◌}
 use Rattle.ascii.specs.Notation.{is_between}
-use Rattle.ascii.specs.Bytes.{ascii, non_empty, every}
-use Rattle.ascii.specs.Digits.{is_digits, decimal_from}
+use Rattle.ascii.specs.Bytes.{ascii, non_empty}
 use Rattle.lines.specs.Lines.{position_of, longer, cut, lines_of}
 use Rattle.lines.specs.LineParts.{no_leading_zero, number_of}
 use Rattle.message_text.specs.MessageText.{field_line_of}
@@ -17,5 +16,5 @@ unfolding type_place_of
 no_type = refl
 
 pub first-line : type_in (lines_of (ascii "8=FIX.4.4" ++ (10 ∷ ascii "35=AE") ++ (10 ∷ ascii "35=D") ++ (10 ∷ []))) ≡ ascii "AE"
-unfolding position_of longer cut is_between non_empty every is_digits decimal_from no_leading_zero number_of field_line_of type_in
+unfolding position_of longer cut is_between non_empty no_leading_zero number_of field_line_of type_in
 first-line = refl

@@ -1,8 +1,7 @@
 -- What `read_dictionary` answers and leaves for small texts, by computation. `small_words` are the words of the first one (`DictionaryCases.antt`). Assumes nothing.
 use Rattle.std.specs.Prelude.{◌≡◌, refl, ℕ, List, [], ◌∷◌, ◌++◌, replicate, Ok, Err}
 use Rattle.ascii.specs.Notation.{is_between}
-use Rattle.ascii.specs.Bytes.{ascii, non_empty, every}
-use Rattle.ascii.specs.Digits.{is_digits, decimal_from}
+use Rattle.ascii.specs.Bytes.{ascii, non_empty}
 use Rattle.ascending.specs.Sort.{inserted, sorted}
 use Rattle.refusals.specs.declared.refusal.Refusal.TheVariants.{NotAllowed, DefinedAgain, SpaceShort}
 use Rattle.lines.specs.Lines.{position_of, starts_with, is_same, longer, cut}
@@ -40,7 +39,7 @@ pub record ReadDictionaryCases : Type 0 where
   pub refused_kept : read_in (ascii "") (replicate 9 5) ≡ replicate 9 5
 
 pub read-dictionary_cases : ReadDictionaryCases
-unfolding is_between non_empty every is_digits decimal_from inserted sorted position_of starts_with is_same longer cut no_leading_zero number_of flag_of type_in type_of word_at is_alphanumeric message_type_of value_of def_of begin_of message_of field_of group_rest group_of use_of end_of block_line_of definition_line_of line_of step_of order_from order_of is_in again_from again_of dictionary_text_of record_of is_of name_of names_of place_of records_of index_of dictionary_words lines_in read_of read_in
+unfolding is_between non_empty inserted sorted position_of starts_with is_same longer cut no_leading_zero number_of flag_of type_in type_of word_at is_alphanumeric message_type_of value_of def_of begin_of message_of field_of group_rest group_of use_of end_of block_line_of definition_line_of line_of step_of order_from order_of is_in again_from again_of dictionary_text_of record_of is_of name_of names_of place_of records_of index_of dictionary_words lines_in read_of read_in
 read-dictionary_cases = record {
   written = refl;
   words_written = refl;

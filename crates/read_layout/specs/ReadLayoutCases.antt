@@ -2,8 +2,7 @@
 -- break one thing. Assumes nothing.
 use Rattle.std.specs.Prelude.{ℕ, ◌≡◌, refl, true, List, [], ◌∷◌, replicate, Ok, Err}
 use Rattle.ascii.specs.Notation.{is_between}
-use Rattle.ascii.specs.Bytes.{ascii, non_empty, every}
-use Rattle.ascii.specs.Digits.{is_digits, decimal_from}
+use Rattle.ascii.specs.Bytes.{ascii, non_empty}
 use Rattle.ascending.specs.Sort.{is_in}
 use Rattle.ascending.specs.Search.{is_strictly_above, is_strictly_ascending}
 use Rattle.refusals.specs.declared.refusal.Refusal.TheVariants.{NotAllowed, RuleBroken, SpaceShort}
@@ -43,7 +42,7 @@ pub record ReadLayoutCases : Type 0 where
   pub no_member : read_outcome (ascii "member=2\ngroup=1,9,0\nmember=9\nend=1\n") 0 ≡ Err (RuleBroken 7 0)
 
 pub read-layout_cases : ReadLayoutCases
-unfolding is_between non_empty every is_digits decimal_from is_in is_strictly_above is_strictly_ascending position_of starts_with is_same longer cut no_leading_zero number_of flag_of word_at is_alphanumeric message_type_of field_of group_rest group_of end_of block_line_of definition_line_of line_of level_step_of layout_order_from layout_order_of layout_text_of groups_below level_order all_groups joined places_from arranged_parts arranged level_line_of lines_in level_from layout_of own_broken top_broken first_below first_broken layout_outcome read_outcome read_words
+unfolding is_between non_empty is_in is_strictly_above is_strictly_ascending position_of starts_with is_same longer cut no_leading_zero number_of flag_of word_at is_alphanumeric message_type_of field_of group_rest group_of end_of block_line_of definition_line_of line_of level_step_of layout_order_from layout_order_of layout_text_of groups_below level_order all_groups joined places_from arranged_parts arranged level_line_of lines_in level_from layout_of own_broken top_broken first_below first_broken layout_outcome read_outcome read_words
 read-layout_cases = record {
   parties_told = refl;
   parties_written = refl;

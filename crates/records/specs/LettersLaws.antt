@@ -13,7 +13,7 @@ use borrow.Author.Tests.{lt-ltb, eq-eqb, ne_eqb}
 use Rattle.ascii.specs.Notation.{◌<ᵇ◌}
 use Rattle.ascii.specs.NotationLaws.{and-false}
 use Rattle.ascii.specs.Bytes.{non_empty, every}
-use Rattle.ascii.specs.Digits.{is_digit, is_digits, decimal_from}
+use Rattle.ascii.specs.Digits.{is_digit, decimal_from}
 use Rattle.lines.specs.LineParts.{no_leading_zero, number_of, is_alphanumeric}
 use Rattle.records.specs.Records.{byte0, byte1, byte2, byte3, is_zero, holds_byte, holds_part, letters_length, letters_text, holds_letters}
 
@@ -66,12 +66,12 @@ NumberSoFar word high bytes = number_of (letters_text word) ≡ number_behind hi
 
 number_of_first : (first : ℕ) (rest : List ℕ) → no_leading_zero (first ∷ rest) ≡ true → is_digit first ≡ true
     → number_of (first ∷ rest) ≡ number_behind (0 * 10 + (first - 48)) rest
-unfolding number_of is_digits non_empty every decimal_from
+unfolding number_of non_empty
 number_of_first first rest plain digit = rw (plain, digit)
 
 module _ (word : ℕ) where
   pub number_no_digit : is_digit (byte0 word) ≡ false → number_of (letters_text word) ≡ None
-  unfolding number_of is_digits non_empty every
+  unfolding number_of non_empty
   number_no_digit other = rw (letters_text-parts word, other, and-false (no_leading_zero (byte0 word ∷ second_of word)))
 
   pub number_leading_zero : (byte1 word ≡ 0 → ⊥) → byte0 word ≡ 48 → number_of (letters_text word) ≡ None
@@ -80,7 +80,7 @@ module _ (word : ℕ) where
 
   module _ (high : ℕ) (digit : is_digit (byte0 word) ≡ true) (same : high ≡ 0 * 10 + (byte0 word - 48)) where
     pub number_of_one : byte1 word ≡ 0 → high < 2 ^ 32 → number_of (letters_text word) ≡ Some high
-    unfolding no_leading_zero every decimal_from
+    unfolding no_leading_zero
     number_of_one ends few =
         let so_far : NumberSoFar word high [] = rw (letters_text-parts word, eq-eqb (byte1 word) 0 ends, same) (number_of_first (byte0 word) [] refl digit) in
         so_far ∙ rw (lt-ltb high (2 ^ 32) few)
@@ -92,12 +92,10 @@ module _ (word : ℕ) where
 
   module _ (high byte : ℕ) where
     pub number_stops : (rest : List ℕ) → NumberSoFar word high (byte ∷ rest) → is_digit byte ≡ false → number_of (letters_text word) ≡ None
-    unfolding every
     number_stops rest so_far other = so_far ∙ rw other
 
     module _ (more : ℕ) (digit : is_digit byte ≡ true) (same : more ≡ high * 10 + (byte - 48)) where
       pub number_of_all : NumberSoFar word high (byte ∷ []) → more < 2 ^ 32 → number_of (letters_text word) ≡ Some more
-      unfolding every decimal_from
       number_of_all so_far few = so_far ∙ rw (digit, ← same, lt-ltb more (2 ^ 32) few)
 
       module _ (next : ℕ) (behind : List ℕ) (so_far : NumberSoFar word high (byte ∷ cond (is_zero next) [] (next ∷ behind))) where
@@ -105,5 +103,4 @@ module _ (word : ℕ) where
         number_ends ends few = number_of_all (so_far ∙ rw (eq-eqb next 0 ends)) few
 
         pub number_goes_on : (next ≡ 0 → ⊥) → NumberSoFar word more (next ∷ behind)
-        unfolding every decimal_from
         number_goes_on some = so_far ∙ rw (ne_eqb next 0 some, digit, same)

@@ -26,7 +26,6 @@ grown zero bound = bound
 grown (suc digits) bound = grown digits (10 * bound)
 
 decimal_from-below : (bytes : List ℕ) (high bound : ℕ) → every is_digit bytes ≡ true → high < bound → decimal_from high bytes < grown (length bytes) bound
-unfolding every decimal_from
 decimal_from-below [] high bound digits below = below
 decimal_from-below (byte ∷ rest) high bound digits below =
     let range = is_digit-range byte (and_left (is_digit byte) (every is_digit rest) digits) in
@@ -42,7 +41,7 @@ digit_count_from-few (suc digits) bound n zero below = rw (lt-ltb n bound below)
 digit_count_from-few (suc digits) bound n (suc more) below = count_by digits bound n (suc more) (ltb n bound) refl (λ large. digit_count_from-few digits (10 * bound) n more below)
 
 decimal-count : (bytes : List ℕ) → is_digits bytes ≡ true → digit_count (decimal bytes) ≤ length bytes
-unfolding is_digits non_empty digit_count
+unfolding non_empty digit_count
 decimal-count [] digits = absurd (false≢true digits)
 decimal-count (byte ∷ rest) digits =
     digit_count_from-few 10 10 (decimal (byte ∷ rest)) (length rest) (decimal_from-below (byte ∷ rest) 0 1 digits (omega arith))
@@ -67,7 +66,7 @@ number_of_fits bytes = number_by bytes (no_leading_zero bytes) (is_digits bytes)
 
 -- digits without a leading zero, five or more, make 10,000 or more
 five-digits : (bytes : List ℕ) → no_leading_zero bytes ≡ true → is_digits bytes ≡ true → 5 ≤ length bytes → 10000 ≤ decimal bytes
-unfolding no_leading_zero is_digits non_empty every decimal_from
+unfolding no_leading_zero non_empty
 five-digits [] plain digits long = absurd (omega arith)
 five-digits (a ∷ []) plain digits long = absurd (omega arith)
 five-digits (a ∷ b ∷ []) plain digits long = absurd (omega arith)
@@ -209,7 +208,7 @@ LettersFit bytes (Some letters) = (holds_letters letters ≡ true) × (letters_t
 LettersFit bytes None = Unit
 
 letters-fit : (bytes : List ℕ) → 1 ≤ length bytes → length bytes ≤ 4 → every is_alphanumeric bytes ≡ true → LettersFit bytes (Some (word_at 0 bytes))
-unfolding every word_at holds_letters holds_part holds_byte letters_length letters_text
+unfolding word_at holds_letters holds_part holds_byte letters_length letters_text
 letters-fit [] some few letters = absurd (omega arith)
 letters-fit (a ∷ []) some few letters =
     let one = and_left (is_alphanumeric a) _ letters in
@@ -292,7 +291,7 @@ visible_small : (byte : ℕ) → is_visible byte ≡ true → byte < 256
 visible_small byte visible = let range = is_between-range 0x21 0x7E byte visible in omega arith
 
 holds-part : (bytes : List ℕ) → every is_visible bytes ≡ true → holds_part is_visible (length bytes) (word_at 0 bytes) ≡ true
-unfolding every word_at holds_part holds_byte
+unfolding word_at holds_part holds_byte
 holds-part [] visible = refl
 holds-part (a ∷ []) visible =
     let one = and_left (is_visible a) _ visible in
@@ -362,7 +361,6 @@ holds-part (a ∷ b ∷ c ∷ d ∷ more) visible =
     )
 
 every_drop : (test : ℕ → Bool) (count : ℕ) (bytes : List ℕ) → every test bytes ≡ true → every test (drop count bytes) ≡ true
-unfolding every
 every_drop test zero bytes passes = passes
 every_drop test (suc count) [] passes = refl
 every_drop test (suc count) (byte ∷ rest) passes = every_drop test count rest (and_right (test byte) (every test rest) passes)
@@ -422,7 +420,7 @@ take_none zero = refl
 take_none (suc count) = refl
 
 first-four : (bytes : List ℕ) → every is_visible bytes ≡ true → take (length bytes) (bytes_of (word_at 0 bytes)) ≡ take 4 bytes
-unfolding every word_at
+unfolding word_at
 first-four [] visible = refl
 first-four (a ∷ []) visible =
     let small-a = visible_small a (and_left (is_visible a) _ visible) in

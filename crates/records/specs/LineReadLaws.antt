@@ -53,13 +53,11 @@ no_form len = (tt, omega arith)
 -- ---- each form, from what its parts were read as
 
 each_at : (test : ℕ → Bool) (words : List ℕ) (place : ℕ) → every test words ≡ true → place < length words → test (get_or words place 0) ≡ true
-unfolding every
 each_at test [] place all inside = absurd (omega arith)
 each_at test (word ∷ rest) zero all inside = and_left (test word) (every test rest) all
 each_at test (word ∷ rest) (suc place) all inside = each_at test rest place (and_right (test word) (every test rest) all) (omega arith)
 
 lengths_some : every (λ len. leb 1 len) type_lengths ≡ true
-unfolding every
 lengths_some = refl
 
 type-some : (place : ℕ) → place < 34 → 1 ≤ get_or type_lengths place 0
@@ -165,7 +163,6 @@ some-length [] some = absurd (false≢true some)
 some-length (byte ∷ rest) some = omega arith
 
 long_by : (rest : List ℕ) (n : ℕ) (long : Bool) → leb 5 (length rest) ≡ long → is_digits rest ≡ true → message_type_of rest ≡ None → 5 ≤ length rest
-unfolding is_digits
 long_by rest n true test digits none = leb-true 5 (length rest) test
 long_by rest n false test digits none =
     let few = leb-false 5 (length rest) test in

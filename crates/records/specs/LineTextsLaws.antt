@@ -85,7 +85,7 @@ module _ (letters : ℕ) (held : holds_letters letters ≡ true) where
 
 -- an end line of one to four letters or digits, or of five digits or more, is that of no header and no trailer
 first-digit : (bytes : List ℕ) (byte : ℕ) (name : List ℕ) → every is_digit bytes ≡ true → is_digit byte ≡ false → is_same (byte ∷ name) bytes ≡ false
-unfolding is_same starts_with every
+unfolding is_same starts_with
 first-digit [] byte name digits other = and-false (eqb (suc (length name)) 0)
 first-digit (first ∷ bytes) byte name digits other = first-digit_by (eqb byte first) refl
   where

@@ -11,7 +11,7 @@ use borrow.Author.Tests.{lt-ltb, le-ltb, lt-leb, le-leb, ltb-true, ltb-false, eq
 use Rattle.ascii.specs.Notation.{is_between}
 use Rattle.ascii.specs.NotationLaws.{and_left, and_right, is_between-range}
 use Rattle.ascii.specs.Bytes.{non_empty, every}
-use Rattle.ascii.specs.Digits.{is_digit, is_digits, decimal_from}
+use Rattle.ascii.specs.Digits.{is_digit, decimal_from}
 use Rattle.ascii.specs.DigitsLaws.{is_digit-range}
 use Rattle.lines.specs.Lines.{position_of, before, behind}
 use Rattle.lines.specs.LineParts.{no_leading_zero, number_of, is_alphanumeric, is_visible}
@@ -22,7 +22,6 @@ use Rattle.records.specs.LineLengths.{digit_count_from, digit_count, reaches}
 -- ---- every
 
 pub every_append : (test : ℕ → Bool) (bytes others : List ℕ) → every test bytes ≡ true → every test others ≡ true → every test (bytes ++ others) ≡ true
-unfolding every
 every_append test [] others passes also = also
 every_append test (byte ∷ bytes) others passes also =
     rw (and_left (test byte) (every test bytes) passes) (every_append test bytes others (and_right (test byte) (every test bytes) passes) also)
@@ -31,7 +30,6 @@ pub every-weaker : (test other : ℕ → Bool) (bytes : List ℕ)
     → ((byte : ℕ) → test byte ≡ true → other byte ≡ true)
     → every test bytes ≡ true
     → every other bytes ≡ true
-unfolding every
 every-weaker test other [] weaker passes = refl
 every-weaker test other (byte ∷ bytes) weaker passes =
     rw (weaker byte (and_left (test byte) (every test bytes) passes)) (every-weaker test other bytes weaker (and_right (test byte) (every test bytes) passes))
@@ -70,7 +68,7 @@ above-above low lower byte order above = let over = ltb-true low byte above in l
 -- ---- a byte behind larger ones is where they end
 
 pub position_of_behind : (byte : ℕ) (bytes rest : List ℕ) → every (is_above byte) bytes ≡ true → position_of byte (bytes ++ (byte ∷ rest)) ≡ length bytes
-unfolding every position_of
+unfolding position_of
 position_of_behind byte [] rest above = rw (eq-eqb byte byte refl)
 position_of_behind byte (first ∷ bytes) rest above =
     let over = ltb-true byte first (and_left (ltb byte first) (every (is_above byte) bytes) above) in
@@ -90,7 +88,6 @@ module _ (byte : ℕ) (bytes rest : List ℕ) (above : every (is_above byte) byt
 -- ---- digits_of: digits, without a leading zero, that make the number
 
 decimal_from-last : (bytes : List ℕ) (high byte : ℕ) → decimal_from high (bytes ++ (byte ∷ [])) ≡ decimal_from high bytes * 10 + (byte - 48)
-unfolding decimal_from
 decimal_from-last [] high byte = refl
 decimal_from-last (first ∷ bytes) high byte = decimal_from-last bytes (high * 10 + (first - 48)) byte
 
@@ -123,26 +120,25 @@ makes-by : (one : Bool) (digits n : ℕ)
     → (n / 10 < bound digits → decimal_from 0 (digits_of digits (n / 10)) ≡ n / 10)
     → n < 10 * bound digits
     → decimal_from 0 (cond one ((48 + n) ∷ []) (digits_of digits (n / 10) ++ ((48 + n % 10) ∷ []))) ≡ n
-unfolding decimal_from
 makes-by true digits n test deeper small = omega arith
 makes-by false digits n test deeper small = omega (arith, decimal_from-last (digits_of digits (n / 10)) 0 (48 + n % 10), deeper (omega arith))
 
 pub digits_of-makes : (digits n : ℕ) → n < bound digits → decimal_from 0 (digits_of digits n) ≡ n
 unfolding digits_of
-digits_of-makes zero n small = unfold decimal_from in omega arith
+digits_of-makes zero n small = omega arith
 digits_of-makes (suc digits) n small = makes-by (ltb n 10) digits n refl (digits_of-makes digits (n / 10)) small
 
 digits-by : (one : Bool) (digits n : ℕ)
     → ltb n 10 ≡ one
     → every is_digit (digits_of digits (n / 10)) ≡ true
     → every is_digit (cond one ((48 + n) ∷ []) (digits_of digits (n / 10) ++ ((48 + n % 10) ∷ []))) ≡ true
-digits-by true digits n test deeper = unfold every in rw (digit-of n (ltb-true n 10 test))
+digits-by true digits n test deeper = rw (digit-of n (ltb-true n 10 test))
 digits-by false digits n test deeper =
-    every_append is_digit (digits_of digits (n / 10)) ((48 + n % 10) ∷ []) deeper (unfold every in rw (digit-of (n % 10) (omega arith)))
+    every_append is_digit (digits_of digits (n / 10)) ((48 + n % 10) ∷ []) deeper (rw (digit-of (n % 10) (omega arith)))
 
 pub digits_of-digits : (digits n : ℕ) → every is_digit (digits_of digits n) ≡ true
 unfolding digits_of
-digits_of-digits zero n = unfold every in refl
+digits_of-digits zero n = refl
 digits_of-digits (suc digits) n = digits-by (ltb n 10) digits n refl (digits_of-digits digits (n / 10))
 
 some-by : (one : Bool) (digits n : ℕ) → non_empty (cond one ((48 + n) ∷ []) (digits_of digits (n / 10) ++ ((48 + n % 10) ∷ []))) ≡ true
@@ -188,7 +184,7 @@ digits_of-plain digits n small = plain_by (ltb n 10) (suc digits) n refl (digits
 
 -- a number of 32 bits is read from its numeral
 pub number_of_numeral : (n : ℕ) → n < 2 ^ 32 → number_of (numeral n) ≡ Some n
-unfolding number_of is_digits
+unfolding number_of
 number_of_numeral n small =
     rw (digits_of-plain 8 n (omega arith), digits_of-some 9 n, digits_of-digits 10 n, digits_of-makes 10 n (omega arith), lt-ltb n (2 ^ 32) small)
 

@@ -1,8 +1,7 @@
 -- Records of lines and lines of records, by computation. Assumes nothing.
 use Rattle.std.specs.Prelude.{◌≡◌, refl, true, false, [], ◌∷◌, Some, None}
 use Rattle.ascii.specs.Notation.{is_between}
-use Rattle.ascii.specs.Bytes.{ascii, non_empty, every}
-use Rattle.ascii.specs.Digits.{is_digits, decimal_from}
+use Rattle.ascii.specs.Bytes.{ascii, non_empty}
 use Rattle.line_forms.specs.declared.line.Line.TheVariants.{Def, Value, Message, Group, End, Unknown}
 use Rattle.lines.specs.LineParts.{no_leading_zero, number_of, word_at, is_alphanumeric, admitted_bytes}
 use Rattle.records.specs.Records.{holds_byte, holds_part, letters_length, letters_text, holds_letters, holds_value, record_of, is_unused, outer_from, body_from, line_from}
@@ -26,7 +25,7 @@ pub record RecordCases : Type 0 where
   pub unknown_kind : line_from (14 ∷ 0 ∷ 0 ∷ 0 ∷ 0 ∷ 0 ∷ 0 ∷ 0 ∷ 0 ∷ 0 ∷ []) ≡ Unknown
 
 pub record_cases : RecordCases
-unfolding is_between non_empty every is_digits decimal_from no_leading_zero number_of word_at is_alphanumeric holds_byte holds_part letters_length letters_text holds_letters holds_value record_of is_unused outer_from body_from line_from
+unfolding is_between non_empty no_leading_zero number_of word_at is_alphanumeric holds_byte holds_part letters_length letters_text holds_letters holds_value record_of is_unused outer_from body_from line_from
 record_cases = record {
   def_record = refl;
   value_record_lem = refl;

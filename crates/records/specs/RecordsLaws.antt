@@ -64,7 +64,7 @@ module _ (len : ℕ) (words : List ℕ) (left index : ℕ) (so_far : ValueSoFar 
 -- ---- is_unused: words that are joined two at a time
 
 is_unused-step : (used : ℕ) (words : List ℕ) → used < length words → is_unused used words ≡ is_zero (get_or words used 0) && is_unused (used + 1) words
-unfolding is_unused every
+unfolding is_unused
 is_unused-step used words inside = rw (drop-step words used inside)
 
 pub or-least : (a b : ℕ) → (a ≤ bit_or a b) × (b ≤ bit_or a b)
@@ -87,7 +87,6 @@ or-zero a b = or-zero_by a b _ _ refl refl
 
 -- words that are joined one after the other
 fold-or_zero : (joined : ℕ) (words : List ℕ) → is_zero (fold bit_or joined words) ≡ is_zero joined && every is_zero words
-unfolding every
 fold-or_zero joined [] = sym (and-true (is_zero joined))
 fold-or_zero joined (word ∷ rest) = fold-or_zero (bit_or joined word) rest ∙ rw (or-zero joined word) (and_assoc (is_zero joined) (is_zero word) (every is_zero rest))
 
@@ -133,7 +132,7 @@ module _ (words : List ℕ) (ten : length words ≡ 10) where
         (shared_word (zero_at at) (zero_at (at + 1)) (is_unused (at + 1 + 1) words))
 
   behind-eight : is_zero (pair_at words 8) ≡ is_unused 8 words
-  unfolding is_unused every
+  unfolding is_unused
   behind-eight =
       let no_more : length words ≤ 10 = omega arith in
       rw (pair_zero words 8, is_unused-step 8 words (omega arith), is_unused-step 9 words (omega arith), drop_of_length-le words no_more, and-true (zero_at 9))
@@ -186,13 +185,13 @@ Held Unknown = ⊥
 -- ---- a line's record is read as the line
 
 end_back : (number : Option ℕ) (letters : Option ℕ) → HeldEnd number letters → line_from (record_of (End number letters)) ≡ End number letters
-unfolding line_from record_of body_from is_unused every
+unfolding line_from record_of body_from is_unused
 end_back read_number (Some letters) held = rw (held.0, ← held.1)
 end_back (Some number) None held = rw (le-leb 10000 number held.0)
 end_back None None held = absurd held
 
 pub line_from-record_of : (line : Line) → Held line → line_from (record_of line) ≡ line
-unfolding line_from record_of outer_from body_from is_unused every
+unfolding line_from record_of outer_from body_from is_unused
 line_from-record_of (Def tag place) held = rw (lt-ltb place 34 held.1)
 line_from-record_of (Value value) held = rw (le-leb 1 value.len held.0, held.1)
 line_from-record_of BeginHeader held = refl
@@ -258,7 +257,6 @@ read-if : (test : Bool) (words : List ℕ) (this : Line) → (test ≡ true → 
 read-if test words this holds = read_by test words this Unknown holds (λ fails. no_line words)
 
 all-zero : (words : List ℕ) → every is_zero words ≡ true → words ≡ replicate (length words) 0
-unfolding every
 all-zero [] zeros = refl
 all-zero (word ∷ rest) zeros =
     rw (eqb-true word 0 (and_left (eqb word 0) (every is_zero rest) zeros)) (ap (λ (words : List ℕ). 0 ∷ words) (all-zero rest (and_right (eqb word 0) (every is_zero rest) zeros)))

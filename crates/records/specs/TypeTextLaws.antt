@@ -45,7 +45,7 @@ unfolding name_at type_text starts_with is_same longer cut type_in type_of
 types-read_back = refl
 
 types-above : all_below 34 (λ place. every (is_above 32) (type_text place)) ≡ true
-unfolding name_at type_text longer cut every
+unfolding name_at type_text longer cut
 types-above = refl
 
 type-lengths : all_below 34 (λ place. eqb (length (type_text place)) (get_or type_lengths place 0)) ≡ true

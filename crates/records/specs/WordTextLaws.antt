@@ -55,7 +55,6 @@ module _ (test : ℕ → Bool) (left word : ℕ) (held : holds_part test left wo
   zero_at index byte behind' holds = sym (eqb-true byte 0 (sym (holds_byte-behind test left index byte behind') ∙ holds))
 
 pub part_held : (test : ℕ → Bool) (left word : ℕ) → holds_part test left word ≡ true → PartHeld test left word
-unfolding every
 part_held test zero word held =
     let bytes = four-held test 0 word held in
     record {
@@ -147,7 +146,7 @@ part-empty test word = part-empty_by test word (holds_part test 0 word) refl
 -- the words behind the bytes of a value are 0
 
 holds_value-none : (words : List ℕ) → holds_value 0 words ≡ every is_zero words
-unfolding holds_value every
+unfolding holds_value
 holds_value-none [] = refl
 holds_value-none (word ∷ rest) = rw (part-empty is_visible word, holds_value-none rest)
 
@@ -269,25 +268,25 @@ module _ (test : ℕ → Bool) (word : ℕ) where
   split_at used = every test (take used (bytes_of word)) && every is_zero (drop used (bytes_of word))
 
   split-none : holds_part test 0 word ≡ split_at 0
-  unfolding holds_part holds_byte every
+  unfolding holds_part holds_byte
   split-none = rw (and-true (is_zero (byte3 word)))
 
   split-one : holds_part test 1 word ≡ split_at 1
-  unfolding holds_part holds_byte every
+  unfolding holds_part holds_byte
   split-one = rw (and-true (is_zero (byte3 word)), and-true (test (byte0 word)))
 
   split-two : holds_part test 2 word ≡ split_at 2
-  unfolding holds_part holds_byte every
+  unfolding holds_part holds_byte
   split-two = rw (and-true (is_zero (byte3 word)), and-true (test (byte1 word)), and_assoc (test (byte0 word)) (test (byte1 word)) (is_zero (byte2 word) && is_zero (byte3 word)))
 
   split-three : holds_part test 3 word ≡ split_at 3
-  unfolding holds_part holds_byte every
+  unfolding holds_part holds_byte
   split-three =
       rw (and-true (is_zero (byte3 word)), and-true (test (byte2 word)), and_assoc (test (byte0 word)) (test (byte1 word) && test (byte2 word)) (is_zero (byte3 word)))
       (ap (λ rest. test (byte0 word) && rest) (sym (and_assoc (test (byte1 word)) (test (byte2 word)) (is_zero (byte3 word)))))
 
   split-four : (left : ℕ) → 4 ≤ left → holds_part test left word ≡ split_at 4
-  unfolding holds_part every
+  unfolding holds_part
   split-four left all =
       rw (
         holds_byte-inside test left 0 (byte0 word) (omega arith),
@@ -414,7 +413,7 @@ bytes_from-length left (word ∷ rest) few = bytes_from-length_by (leb 4 left) l
 
 pub bytes_from-visible : (left : ℕ) (words : List ℕ) → holds_value left words ≡ true → every is_visible (bytes_from left words) ≡ true
 unfolding holds_value bytes_from
-bytes_from-visible left [] held = unfold every in refl
+bytes_from-visible left [] held = refl
 bytes_from-visible left (word ∷ rest) held =
     every_append is_visible (take left (bytes_of word)) (bytes_from (left - 4) rest)
     (part_held is_visible left word (and_left (holds_part is_visible left word) (holds_value (left - 4) rest) held)).passes

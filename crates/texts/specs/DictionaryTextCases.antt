@@ -1,8 +1,7 @@
 -- Dictionary texts, read by `dictionary_text_of`. The first is the one of document 01, 'One list in full'. Assumes nothing.
 use Rattle.std.specs.Prelude.{◌≡◌, refl, ℕ, zero, suc, List, ◌++◌, Ok, Err}
 use Rattle.ascii.specs.Notation.{is_between}
-use Rattle.ascii.specs.Bytes.{ascii, non_empty, every}
-use Rattle.ascii.specs.Digits.{is_digits, decimal_from}
+use Rattle.ascii.specs.Bytes.{ascii, non_empty}
 use Rattle.refusals.specs.declared.refusal.Refusal.TheVariants.{UnknownForm, NotAllowed, TooManyOpen, DefinedAgain}
 use Rattle.lines.specs.Lines.{position_of, starts_with, is_same, longer, cut}
 use Rattle.lines.specs.LineParts.{no_leading_zero, number_of, flag_of, type_in, type_of, word_at, is_alphanumeric, message_type_of, value_of}
@@ -39,7 +38,7 @@ pub record DictionaryTextCases : Type 0 where
   pub forty_one_groups_open : dictionary_text_of (groups_open 41) ≡ Err (TooManyOpen 42)
 
 pub dictionary-text_cases : DictionaryTextCases
-unfolding is_between non_empty every is_digits decimal_from position_of starts_with is_same longer cut no_leading_zero number_of flag_of type_in type_of word_at is_alphanumeric message_type_of value_of def_of begin_of message_of field_of group_rest group_of use_of end_of block_line_of definition_line_of line_of step_of order_from order_of is_in again_from again_of dictionary_text_of
+unfolding is_between non_empty position_of starts_with is_same longer cut no_leading_zero number_of flag_of type_in type_of word_at is_alphanumeric message_type_of value_of def_of begin_of message_of field_of group_rest group_of use_of end_of block_line_of definition_line_of line_of step_of order_from order_of is_in again_from again_of dictionary_text_of
 dictionary-text_cases = record {
   worked_example = refl;
   smallest = refl;

@@ -40,7 +40,6 @@ begins-visible byte rest visible =
 every-leads_by : (byte : ℕ) (rest : List ℕ) (visible : Bool) → is_visible byte ≡ visible
     → every is_visible (leads_from nothing_expected rest) ≡ every is_visible rest
     → every is_visible (leads_from nothing_expected (byte ∷ rest)) ≡ every is_visible (byte ∷ rest)
-unfolding every
 every-leads_by byte rest true visible behind =
     ap (every is_visible) (begins-visible byte rest visible) ∙ ap (λ (others : Bool). is_visible byte && others) behind
 every-leads_by byte rest false other behind = ap (every is_visible) (begins byte rest) ∙ rw other
@@ -52,7 +51,7 @@ every-leads (byte ∷ rest) = every-leads_by byte rest (is_visible byte) refl (e
 
 -- visible bytes are their own characters
 leads-visible : (value : List ℕ) → every is_visible value ≡ true → leads_from nothing_expected value ≡ value
-unfolding every leads_from
+unfolding leads_from
 leads-visible [] visible = refl
 leads-visible (byte ∷ rest) visible =
     begins-visible byte rest (and_left (is_visible byte) (every is_visible rest) visible)

@@ -4,8 +4,7 @@
 use Rattle.std.specs.Prelude.{◌≡◌, refl, ℕ, Bool, true, false, List, ◌++◌, Ok}
 use Rattle.std.proofs.Common.{ap}
 use Rattle.ascii.specs.Notation.{is_between}
-use Rattle.ascii.specs.Bytes.{ascii, non_empty, every, how_many}
-use Rattle.ascii.specs.Digits.{is_digits, decimal_from}
+use Rattle.ascii.specs.Bytes.{ascii, non_empty}
 use Rattle.field_types.specs.FieldType.{type_numbered}
 use Rattle.formats.specs.FieldValue.{is_of_format}
 use Rattle.characters.specs.Characters.{expected_after, continues, characters_from, characters}
@@ -54,7 +53,7 @@ pub record WorkedVerdicts : Type 0 where
   pub not_defined : check_value worked_lines false 79 (ascii "X") ≡ Undefined
 
 pub worked-verdicts : WorkedVerdicts
-unfolding is_between non_empty every how_many is_digits decimal_from expected_after continues characters_from characters type_numbered is_of_format position_of starts_with is_same longer cut no_leading_zero number_of flag_of type_in type_of word_at is_alphanumeric message_type_of value_of def_of begin_of message_of field_of group_rest group_of use_of end_of block_line_of definition_line_of line_of step_of order_from order_of is_in again_from again_of dictionary_text_of letters_length letters_text bytes_from value_text lines_in values_first fields_in field_called is_one_of check_value
+unfolding is_between non_empty expected_after continues characters_from characters type_numbered is_of_format position_of starts_with is_same longer cut no_leading_zero number_of flag_of type_in type_of word_at is_alphanumeric message_type_of value_of def_of begin_of message_of field_of group_rest group_of use_of end_of block_line_of definition_line_of line_of step_of order_from order_of is_in again_from again_of dictionary_text_of letters_length letters_text bytes_from value_text lines_in values_first fields_in field_called is_one_of check_value
 worked-verdicts = record {
   accepted = refl;
   admitted = refl;

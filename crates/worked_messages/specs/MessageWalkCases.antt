@@ -5,8 +5,7 @@
 use Rattle.std.specs.Prelude.{◌≡◌, refl, ℕ, suc, ◌+◌, true, false, List, [], ◌∷◌, ◌++◌, map, length, replicate, Some, None, Result, Ok, Err}
 use Prim.Native.String.{String}
 use Rattle.ascii.specs.Notation.{is_between}
-use Rattle.ascii.specs.Bytes.{ascii, non_empty, every}
-use Rattle.ascii.specs.Digits.{is_digits, decimal_from}
+use Rattle.ascii.specs.Bytes.{ascii, non_empty}
 use Rattle.counts.specs.Count.{count_of}
 use Rattle.ascending.specs.Sort.{is_in, inserted, sorted}
 use Rattle.ascending.specs.Search.{is_strictly_above, is_strictly_ascending, rank_from, rank_in}
@@ -92,11 +91,11 @@ called words layout room =
     (walked_of words layout (table_from 0 message) (values_of message) (replicate room 7), events_in words layout (table_from 0 message) (values_of message) (replicate room 7))
 
 pub dictionary-passes : is_dictionary (dictionary_words dictionary) ≡ true
-unfolding is_in is_strictly_above is_strictly_ascending inserted sorted no_leading_zero number_of is_alphanumeric step_of is_between holds_byte holds_part letters_length letters_text holds_letters holds_value record_of is_unused outer_from body_from line_from digit_count length_of is_of name_of names_of place_of records_of index_of dictionary_words lines_from accepts check.count_of stands_at stands_each is_index is_dictionary non_empty every is_digits decimal_from
+unfolding is_in is_strictly_above is_strictly_ascending inserted sorted no_leading_zero number_of is_alphanumeric step_of is_between holds_byte holds_part letters_length letters_text holds_letters holds_value record_of is_unused outer_from body_from line_from digit_count length_of is_of name_of names_of place_of records_of index_of dictionary_words lines_from accepts check.count_of stands_at stands_each is_index is_dictionary non_empty
 dictionary-passes = refl
 
 pub layout-passes : is_layout gate_limits (arranged parties) ≡ true
-unfolding is_in rank_from rank_in groups_below level_order all_groups joined places_from arranged_parts arranged stretch is_between is_strictly_above is_strictly_ascending stretches never_falls is_run is_ahead member_places_hold required_places_hold group_places_hold is_level levels_hold delimiters_hold all_levels_hold all_delimiters_hold is_layout_of is_layout non_empty every
+unfolding is_in rank_from rank_in groups_below level_order all_groups joined places_from arranged_parts arranged stretch is_between is_strictly_above is_strictly_ascending stretches never_falls is_run is_ahead member_places_hold required_places_hold group_places_hold is_level levels_hold delimiters_hold all_levels_hold all_delimiters_hold is_layout_of is_layout non_empty
 layout-passes = refl
 
 pub record MessageCalls : Type 0 where
@@ -112,7 +111,7 @@ unfolding accepts stands_each check.count_of is_index is_dictionary is_layout_of
 empty-refused = (refl, refl)
 
 pub message-calls : MessageCalls
-unfolding is_in rank_from rank_in groups_below level_order all_groups joined places_from arranged_parts arranged stretch walk_group walk_by opening_at member_leads entry_begins entry_stops step_at is_digits non_empty every is_between decimal_from event_words turn_at turns_from missing_tags missing_groups message_events required_from inserted sorted no_leading_zero number_of is_alphanumeric holds_byte holds_part letters_length letters_text holds_letters holds_value record_of is_unused outer_from body_from line_from is_of name_of names_of place_of records_of index_of dictionary_words lines_from values_first fields_in events_words is_bad_field bad_from table_check_of walked_of events_in
+unfolding is_in rank_from rank_in groups_below level_order all_groups joined places_from arranged_parts arranged stretch walk_group walk_by opening_at member_leads entry_begins entry_stops step_at non_empty is_between event_words turn_at turns_from missing_tags missing_groups message_events required_from inserted sorted no_leading_zero number_of is_alphanumeric holds_byte holds_part letters_length letters_text holds_letters holds_value record_of is_unused outer_from body_from line_from is_of name_of names_of place_of records_of index_of dictionary_words lines_from values_first fields_in events_words is_bad_field bad_from table_check_of walked_of events_in
 message-calls = record {
   list_in_full = rw (dictionary-passes, layout-passes) refl;
   exact_space = rw (dictionary-passes, layout-passes) refl;
@@ -154,7 +153,7 @@ pub record MessageCases : Type 0 where
   pub group_not_required : walked [] (level_of_lem (10 ∷ []) [] (group_and (group_of_lem 10 1 false (level_of_lem (1 ∷ []) [] no_groups)) no_groups)) [] ≡ []
 
 pub message-cases : MessageCases
-unfolding is_in rank_from rank_in groups_below level_order all_groups joined places_from arranged_parts arranged stretch walk_group walk_by opening_at member_leads entry_begins entry_stops step_at is_digits non_empty every is_between decimal_from event_words turn_at turns_from missing_tags missing_groups message_events required_from
+unfolding is_in rank_from rank_in groups_below level_order all_groups joined places_from arranged_parts arranged stretch walk_group walk_by opening_at member_leads entry_begins entry_stops step_at non_empty is_between event_words turn_at turns_from missing_tags missing_groups message_events required_from
 message-cases = record {
   undefined_skipped = refl;
   undefined_count_tag = refl;

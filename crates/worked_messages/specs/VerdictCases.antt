@@ -6,8 +6,7 @@
 --   worked_table   the fields of its message, 35=D 453=2 448=A 447=D 448=B, with the values one behind the other
 use Rattle.std.specs.Prelude.{◌≡◌, refl, ℕ, true, false, List, [], ◌∷◌, Ok, Err}
 use Rattle.ascii.specs.Notation.{is_between}
-use Rattle.ascii.specs.Bytes.{ascii, non_empty, every, how_many}
-use Rattle.ascii.specs.Digits.{is_digits, is_digits_of_len, decimal_from}
+use Rattle.ascii.specs.Bytes.{ascii, non_empty}
 use Rattle.ascii.specs.Split.{with_first, split, every_part}
 use Rattle.dates.specs.Date.{stands_for, has_picture, is_month_year}
 use Rattle.strict_dates.specs.StrictDate.{is_in_range, is_strict_month_year}
@@ -100,7 +99,7 @@ pub record VerdictCases : Type 0 where
   pub dictionary_first : judged_of [] (35 ∷ []) worked_message [] ≡ Err (UnknownForm 0)
 
 pub verdict_cases : VerdictCases
-unfolding is_between non_empty every how_many is_digits is_digits_of_len decimal_from with_first split every_part has_picture is_in_range expected_after continues characters_from characters is_multi_value_list type_numbered is_of_format is_in_ranges inserted sorted is_strictly_above is_strictly_ascending word_at step_of holds_byte holds_part holds_value record_of is_unused outer_from body_from line_from digit_count length_of is_of name_of names_of place_of records_of index_of dictionary_words lines_from accepts count_of stands_at stands_each is_index is_dictionary starts_with is_same bytes_from value_text values_first fields_in field_called is_one_of is_bad_field bad_from table_check_of admits_each check_value verdicts_from judged_of verdicts_in
+unfolding is_between non_empty with_first split every_part has_picture is_in_range expected_after continues characters_from characters is_multi_value_list type_numbered is_of_format is_in_ranges inserted sorted is_strictly_above is_strictly_ascending word_at step_of holds_byte holds_part holds_value record_of is_unused outer_from body_from line_from digit_count length_of is_of name_of names_of place_of records_of index_of dictionary_words lines_from accepts count_of stands_at stands_each is_index is_dictionary starts_with is_same bytes_from value_text values_first fields_in field_called is_one_of is_bad_field bad_from table_check_of admits_each check_value verdicts_from judged_of verdicts_in
 verdict_cases = record {
   some_passes = refl;
   price_good = refl;

@@ -8,7 +8,6 @@ use Rattle.layouts.specs.LayoutRules.{◌∈ᵇ◌}
 use Rattle.layout_rules.proofs.layout_rules.are_among.Goals as goal
 
 every-all : (test : ℕ → Bool) (value : List ℕ) → every test value ≡ list_all test value
-unfolding every
 every-all test [] = refl
 every-all test (byte ∷ rest) = ap (λ (others : Bool). test byte && others) (every-all test rest)
 
