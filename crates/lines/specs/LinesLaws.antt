@@ -87,17 +87,6 @@ unfolding position_of
 position_of-split byte [] place is inside = absurd (omega arith)
 position_of-split byte (first ∷ rest) place is inside = split_by byte first rest (eqb first byte) refl place is inside (position_of-split byte rest)
 
--- in what stands from `first` on
-module _ (byte : ℕ) (bytes : List ℕ) (first : ℕ) (within : first ≤ length bytes) where
-  pub position_of-place : (place : ℕ) → position (λ each. eqb each byte) (drop first bytes) ≡ Some place
-      → (first + place ≡ first + position_of byte (drop first bytes)) × (first + place ≤ length bytes)
-  position_of-place place found =
-      let here = position_of-found byte (drop first bytes) place found in
-      (omega (arith, here.0), omega (arith, here.1, length-drop first bytes))
-
-  pub position_of-end : position (λ each. eqb each byte) (drop first bytes) ≡ None → length bytes ≡ first + position_of byte (drop first bytes)
-  position_of-end missing = omega (arith, position_of-missing byte (drop first bytes) missing, length-drop first bytes)
-
 -- ---- before, behind
 
 module _ (byte : ℕ) (bytes : List ℕ) (place : ℕ) (found : place ≡ 0 + position_of byte bytes) where

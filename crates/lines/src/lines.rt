@@ -1,24 +1,12 @@
 // Lines of a text and parts of a line.
-ghost use Rattle.std.specs.Prelude.{position, ◌==◌, ◌≡◌, ◌+◌, ◌≤◌, length, drop};
-ghost use Rattle.lines.specs.Lines.{position_of, before, behind, starts_with, is_same};
+ghost use Rattle.std.specs.Prelude.{position, ◌==◌, ◌≡◌};
+ghost use Rattle.lines.specs.Lines.{before, behind, starts_with, is_same};
 
 // The place of the first such byte.
 pub fn position(bytes: &[u8], byte: u8) -> Option<usize>
     ensures { result ≡ position (λ each. each == byte) bytes.now }
 {
     bytes.iter().position(|each| *each == byte)
-}
-
-// The place of the first such byte from `first` on, or the length where there is none.
-pub fn position_of(bytes: &[u8], first: usize, byte: u8) -> usize
-    requires { first ≤ length bytes.now }
-    ensures place { result ≡ first + position_of byte (drop first bytes.now) }
-    ensures within { (first ≤ result) × (result ≤ length bytes.now) }
-{
-    match position(&bytes[first..], byte) {
-        Some(place) => first + place,
-        None => bytes.len(),
-    }
 }
 
 // What stands before the first such byte.
