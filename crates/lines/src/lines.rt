@@ -30,15 +30,29 @@ pub fn behind(bytes: &[u8], byte: u8) -> &[u8]
 }
 
 // The Rust's slice::starts_with.
+// no library method: with it and `==`, line_of took a fifth more instructions (callgrind)
 pub fn starts_with(bytes: &[u8], key: &[u8]) -> bool
     ensures { result ≡ starts_with key.now bytes.now }
 {
-    bytes.starts_with(key)
+    let mut index = 0;
+    while index < key.len() {
+        if bytes.len() <= index {
+            return false;
+        }
+        if key[index] != bytes[index] {
+            return false;
+        }
+        index += 1;
+    }
+    true
 }
 
-// The Rust's == of two slices.
+// The Rust's == of two slices; no library method for the same reason.
 pub fn is_same(bytes: &[u8], name: &[u8]) -> bool
     ensures { result ≡ is_same name.now bytes.now }
 {
-    name == bytes
+    if name.len() != bytes.len() {
+        return false;
+    }
+    starts_with(bytes, name)
 }
