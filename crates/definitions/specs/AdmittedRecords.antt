@@ -11,7 +11,8 @@ use Rattle.std.specs.Simd.{first_chunks}
 use Rattle.std.proofs.Common.{ap, sym, ◌∙◌, arith, get_or-take, get_or-drop, length-drop}
 use Rattle.std.proofs.lemmas.Bool.{false≢true}
 use Rattle.std.proofs.Math.Seq.{take-length}
-use Rattle.std.proofs.lemmas.List.{drop-drop}
+use Rattle.std.proofs.lemmas.List.{drop-drop, at_drop_more}
+use Rattle.std.proofs.Math.ListN.{drop_of_length-le}
 use Rattle.std.proofs.lemmas.List.Sums.{take_while-cons}
 use borrow.Author.Tests.{ne_eqb}
 use Rattle.ascii.specs.Notation.{◌≡ᵇ◌}
@@ -71,6 +72,42 @@ among-records value (suc left) at words =
     among-by value left at words (get_or words at 0 ≡ᵇ 2)
     (among-records value left (at + 10) words ∙ ap (λ (behind : List ℕ). is_among_records value (first_chunks 10 left behind)) (sym (drop-drop 10 at words)))
     refl
+
+-- ---- is_among: a record after the other
+
+pub AmongSoFar : Admitted → List (List ℕ) → ℕ → Type 0
+AmongSoFar value records at = is_among_records value records ≡ is_among_records value (drop at records)
+
+pub among-begins : (value : Admitted) (records : List (List ℕ)) → AmongSoFar value records 0
+unfolding AmongSoFar
+among-begins value records = refl
+
+module _ (value : Admitted) (records : List (List ℕ)) (at : ℕ) where
+  module _ (so_far : AmongSoFar value records at) where
+    pub among-ends : length records ≤ at → is_among_records value records ≡ false
+    unfolding AmongSoFar is_among_records
+    among-ends over = so_far ∙ ap (is_among_records value) (drop_of_length-le records over)
+
+    module _ (inside : at < length records) where
+      pub among-stops : is_value (get_or records at []) ≡ false → is_among_records value records ≡ false
+      unfolding AmongSoFar is_among_records
+      among-stops other =
+          so_far ∙ at_drop_more (is_among_records value) records at [] inside
+          ∙ rw (take_while-cons is_value (get_or records at []) (drop (at + 1) records), other) refl
+
+      module _ (one : is_value (get_or records at []) ≡ true) where
+        pub among-found : is_same_value (admitted_from (get_or records at [])) value ≡ true → is_among_records value records ≡ true
+        unfolding AmongSoFar is_among_records
+        among-found same =
+            so_far ∙ at_drop_more (is_among_records value) records at [] inside
+            ∙ rw (take_while-cons is_value (get_or records at []) (drop (at + 1) records), one, same) refl
+
+        pub among-goes_on : is_same_value (admitted_from (get_or records at [])) value ≡ false
+            → AmongSoFar value records (at + 1)
+        unfolding AmongSoFar is_among_records
+        among-goes_on other =
+            so_far ∙ at_drop_more (is_among_records value) records at [] inside
+            ∙ rw (take_while-cons is_value (get_or records at []) (drop (at + 1) records), one, other) refl
 
 pub behind-is : (words : List ℕ) (number : ℕ)
     → records_behind words number ≡ first_chunks 10 (get_or words 0 0 - number - 1) (drop (4 + 10 * number + 10) words)

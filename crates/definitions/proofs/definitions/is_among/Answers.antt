@@ -1,16 +1,21 @@
--- `definitions::definitions::is_among` meets its contract: the values of the first records are compared (specs/AdmittedRecords.antt).
-use Rattle.std.proofs.Common.{rules}
-use borrow.Author.Tests.{tests}
-use Rattle.std.proofs.lemmas.Iterator.{YieldsList-from_slice}
-use Rattle.std.proofs.lemmas.Iterator.Search.{any_from_yields_List, YieldsList-from_take_while}
-use Rattle.records.specs.Records.{admitted_from}
-use Rattle.definitions.specs.Definitions.{is_same_value}
-use Rattle.definitions.specs.AdmittedRecords.{is_value, is_among_records}
+-- `definitions::definitions::is_among` meets its contract. The laws are those of specs/AdmittedRecords.antt.
+use Rattle.std.proofs.Common.{sym, ◌∙◌, arith}
+use Rattle.definitions.specs.AdmittedRecords.{among-begins, among-ends, among-stops, among-found, among-goes_on}
 use Rattle.definitions.proofs.definitions.is_among.Goals as goal
 
+pub loop-record-init : goal.loop-record-init
+loop-record-init c = among-begins c.args.value c.args.records.now
+
+pub returns-then-not-is_value : goal.returns-then-not-is_value
+returns-then-not-is_value c = sym (among-stops c.args.value c.args.records.now _ c.loop-record.invariant (omega (arith, c.loop-record-test.true)) (sym c.is_value.ensures ∙ c.if-not-is_value.true))
+
+pub returns-then-is_same_value : goal.returns-then-is_same_value
+returns-then-is_same_value c =
+    sym (among-found c.args.value c.args.records.now _ c.loop-record.invariant (omega (arith, c.loop-record-test.true)) (sym c.is_value.ensures ∙ c.if-not-is_value.false) (sym c.is_same_value.ensures ∙ c.if-is_same_value.true))
+
+pub loop-record-preserved : goal.loop-record-preserved
+loop-record-preserved c =
+    among-goes_on c.args.value c.args.records.now _ c.loop-record.invariant (omega (arith, c.loop-record-test.true)) (sym c.is_value.ensures ∙ c.if-not-is_value.false) (sym c.is_same_value.ensures ∙ c.if-is_same_value.false)
+
 pub returns : goal.returns
-unfolding is_among_records
-returns c =
-    any_from_yields_List (λ one. is_same_value (admitted_from one) c.args.value) _ _ _ c.any.ensures.ran
-    (YieldsList-from_take_while _ is_value (YieldsList-from_slice c.args.records.now (rw c.take_while.ensures.source c.iter.ensures.rest)) c.take_while.ensures.closure c.take_while.ensures.done (λ x b q k. search (rules, tests)))
-    (λ x b q k. search (rules, tests))
+returns c = sym (among-ends c.args.value c.args.records.now _ c.loop-record.invariant (omega (arith, c.loop-record-test.false)))
