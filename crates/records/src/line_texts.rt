@@ -29,7 +29,7 @@ pub fn digit_count(n: u32) -> usize
 }
 
 // How long the names of the FieldTypes are, Int to Reserved.
-const TYPE_LENGTHS: [u8; 34] = [
+static TYPE_LENGTHS: [u8; 34] = [
     3, 6, 6, 10, 6, 10, 5, 3, 5, 11, 3, 10, 4, 7, 6, 17, 19, 7, 8, 8, 9, 12, 11, 11, 12, 12, 10,
     11, 4, 7, 8, 7, 5, 8,
 ];
