@@ -108,9 +108,8 @@ pub fn parse_message_type(bytes: &[u8]) -> Option<u32>
 }
 
 // Every byte is 21 to 7E hexadecimal.
-#[inline(always)]
 #[tactic(auto, unfolding(ascii::specs::Notation::is_between))]
-pub fn all_visible(bytes: &[u8]) -> bool
+fn all_visible(bytes: &[u8]) -> bool
     ensures { result ≡ every is_visible bytes.now }
 {
     bytes.iter().all(|byte| byte.is_ascii_graphic())
