@@ -3,4 +3,5 @@
 
 pub mod line_parts;
 pub mod lines;
+pub mod text;
 pub mod text_lines;

@@ -6,6 +6,7 @@ ghost use Rattle.message_text.specs.MessageText.{field_line_of, count_from, tabl
 
 use lines::line_parts::parse_number;
 use lines::lines::position;
+use lines::text::Text;
 use lines::text_lines::TextLines;
 use refusals::refusal::Refusal;
 
@@ -19,12 +20,11 @@ fn field_line(line: &[u8]) -> Option<(u32, usize)>
 }
 
 // How many fields a text has, or its first line of another form.
-fn count_fields(text: &[u8]) -> Result<usize, Refusal>
-    requires { length text.now ≤ 65536 }
-    ensures { result ≡ count_from 0 (lines_of text.now) }
+fn count_fields(text: Text<'_>) -> Result<usize, Refusal>
+    ensures { result ≡ count_from 0 (lines_of text.entry.bytes.now) }
 {
     let mut count: usize = 0;
-    for line in TextLines::new(text) {
+    for line in TextLines::new(text.bytes) {
         let number = count as u64 + 1;
         line.and_then(field_line)
             .ok_or(Refusal::UnknownForm(number))?;
@@ -43,14 +43,13 @@ fn put_row(fields: &mut [u32], at: usize, tag: u32, first: usize, past: usize)
 }
 
 // Writes the field table of the text.
-fn put_fields(text: &[u8], fields: &mut [u32])
-    requires text_len_bound { length text.now ≤ 65536 }
-    requires text_in_bounds { length (table_of text.now) ≤ length fields.old }
-    ensures { fields.new ≡ sets fields.old 0 (table_of text.now) }
+fn put_fields(text: Text<'_>, fields: &mut [u32])
+    requires { length (table_of text.bytes.now) ≤ length fields.old }
+    ensures { fields.new ≡ sets fields.old 0 (table_of text.entry.bytes.now) }
 {
     let mut at: usize = 0;
     let mut first: usize = 0;
-    for line in TextLines::new(text) {
+    for line in TextLines::new(text.bytes) {
         let Some(line) = line else {
             return;
         };
@@ -65,11 +64,10 @@ fn put_fields(text: &[u8], fields: &mut [u32])
 }
 
 // Writes the field table of a text of so many fields where the words are enough.
-fn write_fields(text: &[u8], count: usize, fields: &mut [u32]) -> Result<usize, Refusal>
-    requires text_len_bound { length text.now ≤ 65536 }
-    requires text_value { count_from 0 (lines_of text.now) ≡ Ok count }
+fn write_fields(text: Text<'_>, count: usize, fields: &mut [u32]) -> Result<usize, Refusal>
+    requires { count_from 0 (lines_of text.bytes.now) ≡ Ok count }
     ensures outcome { result ≡ space_answer (Ok count) (length fields.old) }
-    ensures memory { fields.new ≡ space_with (Ok count) (table_of text.now) fields.old }
+    ensures memory { fields.new ≡ space_with (Ok count) (table_of text.entry.bytes.now) fields.old }
 {
     let needed = 3 * count;
     if fields.len() < needed {
@@ -84,9 +82,7 @@ pub fn read_message(text: &[u8], fields: &mut [u32]) -> Result<usize, Refusal>
     ensures outcome { result ≡ read_message_of text.now (length fields.old) }
     ensures memory { fields.new ≡ fields_in text.now fields.old }
 {
-    if 65536 < text.len() {
-        return Err(Refusal::TextTooLong);
-    }
+    let text = Text::new(text).ok_or(Refusal::TextTooLong)?;
     let count = count_fields(text)?;
     write_fields(text, count, fields)
 }

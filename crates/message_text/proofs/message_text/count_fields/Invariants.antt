@@ -3,4 +3,4 @@ use Rattle.message_text.specs.MessageTextLaws.{CountSoFar}
 use Rattle.message_text.proofs.message_text.count_fields.Given as goal
 
 abbrev pub invariant-loop-line : goal.invariant-loop-line
-invariant-loop-line l = CountSoFar l.text l.count l.line-iterator.rest.now
+invariant-loop-line l = CountSoFar l.text.bytes.now l.count l.line-iterator.rest.now
