@@ -1,10 +1,11 @@
 // The dictionary text: what it defines, what is defined again, and its first faulty line.
-ghost use Rattle.std.specs.Prelude.{◌≡◌, ◌≤◌, length};
+ghost use Rattle.std.specs.Prelude.{◌≡◌, ◌≤◌};
 ghost use Rattle.texts.specs.DictionaryText.{defined_by, counted, at_end, order_of, key_of, again_of, refused_earlier, first_of, dictionary_text_of};
 ghost use Rattle.texts.specs.DictionaryTextLaws.{CountsWithin};
 
 use dictionary_order::dictionary_order::{Part, Stage, State, take_line};
 use line_forms::line::{Line, line_of};
+use lines::text::Text;
 use lines::text_lines::TextLines;
 use refusals::refusal::Refusal;
 
@@ -74,9 +75,8 @@ pub fn at_end(state: State, counts: Counts) -> Result<Counts, Refusal>
 }
 
 // Reads the text from the top: refusals 2 to 4.
-fn read_in_order(text: &[u8]) -> Result<Counts, Refusal>
-    requires { length text.now ≤ 65536 }
-    ensures { result ≡ order_of text.now }
+fn read_in_order(text: Text<'_>) -> Result<Counts, Refusal>
+    ensures { result ≡ order_of text.entry.bytes.now }
 {
     let mut state = State {
         stage: Stage::Beginning,
@@ -86,7 +86,7 @@ fn read_in_order(text: &[u8]) -> Result<Counts, Refusal>
         counts: [0; 40],
     };
     let mut counts = Counts::default();
-    for line in TextLines::new(text) {
+    for line in TextLines::new(text.bytes) {
         let number = counts.lines + 1;
         let line = line_of(line.ok_or(Refusal::UnknownForm(number))?);
         state = take_line(state, number, line)?;
@@ -107,15 +107,14 @@ fn key_of(defined: Option<Defined>) -> Option<u64>
 
 // Finds what is defined again: refusal 5. A line that defines something has at least five bytes,
 // its line feed with it.
-fn first_again(text: &[u8]) -> Option<u64>
-    requires { length text.now ≤ 65536 }
-    ensures { result ≡ again_of text.now }
+fn first_again(text: Text<'_>) -> Option<u64>
+    ensures { result ≡ again_of text.entry.bytes.now }
 {
     // the gate has no heap: room for as many keys as 65,536 bytes define
     let mut seen = [0u64; 13108];
     let mut known = 0;
     let mut number = 1;
-    for line in TextLines::new(text) {
+    for line in TextLines::new(text.bytes) {
         let line = line_of(line?);
         if let Some(key) = key_of(defined_by(line)) {
             if seen[..known].contains(&key) {
@@ -154,9 +153,7 @@ fn first_of(again: Option<u64>, outcome: Result<Counts, Refusal>) -> Result<Coun
 pub fn check_dictionary_text(text: &[u8]) -> Result<Counts, Refusal>
     ensures outcome { result ≡ dictionary_text_of text.now }
 {
-    if 65536 < text.len() {
-        return Err(Refusal::TextTooLong);
-    }
+    let text = Text::new(text).ok_or(Refusal::TextTooLong)?;
     let again = first_again(text);
     let outcome = read_in_order(text);
     first_of(again, outcome)

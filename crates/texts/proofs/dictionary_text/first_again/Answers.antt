@@ -26,7 +26,7 @@ loop-line-preserved c =
     elim c.match-key_of.branch [
       | in-Some-key_of+else-contains w ↦ rw (w.seen-is, w.known-is)
           (again-adds _ _ _ _ _ c.loop-line.invariant _ _ (rw some at c.in-Some.ensures.steps) _ c.line_of-line.ensures _
-          (ap key_of (sym c.defined_by.ensures) ∙ sym c.key_of.ensures ∙ w.in-Some-key_of.is) c.requires (sym (is_in-any _ _) ∙ sym w.contains.ensures.value ∙ w.if-contains.false))
+          (ap key_of (sym c.defined_by.ensures) ∙ sym c.key_of.ensures ∙ w.in-Some-key_of.is) c.args.text.short (sym (is_in-any _ _) ∙ sym w.contains.ensures.value ∙ w.if-contains.false))
       | in_default w ↦ rw (w.seen-is, w.known-is)
           (again-skips _ _ _ _ _ c.loop-line.invariant _ _ (rw some at c.in-Some.ensures.steps) _ c.line_of-line.ensures
           (ap key_of (sym c.defined_by.ensures) ∙ sym c.key_of.ensures ∙ w.in_default.is))

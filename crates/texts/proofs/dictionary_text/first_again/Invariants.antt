@@ -3,4 +3,4 @@ use Rattle.texts.specs.DictionaryTextLaws.{AgainSoFar}
 use Rattle.texts.proofs.dictionary_text.first_again.Given as goal
 
 abbrev pub invariant-loop-line : goal.invariant-loop-line
-invariant-loop-line l = AgainSoFar l.text l.line-iterator.rest.now l.seen l.known l.number
+invariant-loop-line l = AgainSoFar l.text.bytes.now l.line-iterator.rest.now l.seen l.known l.number

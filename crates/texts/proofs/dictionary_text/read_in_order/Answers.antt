@@ -13,7 +13,7 @@ pub loop-line-init : goal.loop-line-init
 loop-line-init c =
     let none : c.default-counts.result ≡ counts 0 0 0 0 = grind arith in
     rw (c.into_iter-line-iterator.ensures.into_iter_gives, c.new-line-items.ensures)
-    (subst (λ (read : Counts). OrderSoFar c.args.text.now c.args.text.now start read) (sym none) (order-begins _))
+    (subst (λ (read : Counts). OrderSoFar c.args.text.bytes.now c.args.text.bytes.now start read) (sym none) (order-begins _))
 
 pub returns-in_err-ok_or : goal.returns-in_err-ok_or
 returns-in_err-ok_or c =

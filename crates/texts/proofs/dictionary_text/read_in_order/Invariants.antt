@@ -3,4 +3,4 @@ use Rattle.texts.specs.DictionaryTextLaws.{OrderSoFar}
 use Rattle.texts.proofs.dictionary_text.read_in_order.Given as goal
 
 abbrev pub invariant-loop-line : goal.invariant-loop-line
-invariant-loop-line l = OrderSoFar l.text l.line-iterator.rest.now l.state l.counts
+invariant-loop-line l = OrderSoFar l.text.bytes.now l.line-iterator.rest.now l.state l.counts
