@@ -2,7 +2,7 @@
 // while the lines are read in order, and sorted. Only where one is defined again does texts search
 // for the first such line. A line that defines a name has at least five bytes, its line feed with
 // it.
-ghost use Rattle.std.specs.Prelude.{◌≡◌, ◌≤◌, length};
+ghost use Rattle.std.specs.Prelude.{◌≡◌, length};
 ghost use Rattle.std.proofs.lemmas.List.Edits.{sets};
 ghost use Rattle.ascending.specs.Search.{is_strictly_ascending};
 ghost use Rattle.ascending.specs.Sort.{sorted};
@@ -13,6 +13,7 @@ ghost use Rattle.read_dictionary.specs.TextCheck.{NamesRoom, NamesRead};
 use ascending::search::is_strictly_ascending;
 use dictionary_order::dictionary_order::{Part, Stage, State, take_line};
 use line_forms::line::line_of;
+use lines::text::Text;
 use lines::text_lines::TextLines;
 use refusals::refusal::Refusal;
 use sorting::sort::sort_unstable;
@@ -65,17 +66,16 @@ fn keep_name(
 // Reads the text from the top, refusals 2 to 4, and keeps the names that its lines define. `read`
 // is what was counted up to the end or to the line that is refused.
 fn read_lines(
-    text: &[u8],
+    text: Text<'_>,
     read: &mut Counts,
     tags: &mut [u32],
     components: &mut [u32],
     messages: &mut [u32],
 ) -> Result<Counts, Refusal>
-    requires text_len_bound { length text.now ≤ 65536 }
     requires none_counted { read.old ≡ counts 0 0 0 0 }
     requires tags_len { (length tags.old ≡ 13108) × ((length components.old ≡ 13108) × (length messages.old ≡ 13108)) }
-    ensures outcome { result ≡ order_of text.now }
-    ensures names { NamesRead text.now read.new tags.new components.new messages.new }
+    ensures outcome { result ≡ order_of text.entry.bytes.now }
+    ensures names { NamesRead text.entry.bytes.now read.new tags.new components.new messages.new }
 {
     let mut state = State {
         stage: Stage::Beginning,
@@ -84,7 +84,7 @@ fn read_lines(
         depth: 0,
         counts: [0; 40],
     };
-    for line in TextLines::new(text) {
+    for line in TextLines::new(text.bytes) {
         let number = read.lines + 1;
         let line = line_of(line.ok_or(Refusal::UnknownForm(number))?);
         state = take_line(state, number, line)?;
@@ -106,9 +106,7 @@ fn are_once_each(names: &mut [u32]) -> bool
 pub fn check_text(text: &[u8]) -> Result<Counts, Refusal>
     ensures outcome { result ≡ dictionary_text_of text.now }
 {
-    if 65536 < text.len() {
-        return Err(Refusal::TextTooLong);
-    }
+    let text = Text::new(text).ok_or(Refusal::TextTooLong)?;
     let mut tags = [0u32; 13108];
     let mut components = [0u32; 13108];
     let mut messages = [0u32; 13108];
@@ -118,7 +116,7 @@ pub fn check_text(text: &[u8]) -> Result<Counts, Refusal>
         || !are_once_each(&mut components[..counts.components as usize])
         || !are_once_each(&mut messages[..counts.messages as usize])
     {
-        return check_dictionary_text(text);
+        return check_dictionary_text(text.bytes);
     }
     outcome
 }

@@ -20,7 +20,7 @@ returns-in_err-ok_or c =
     let same = err_from_is_err_and c.from_residual.result c.from_residual.ensures.1 in
     record {
       outcome = rw (same.1, same.2, refused) (sym (order-breaks _ _ _ _ c.loop-line.invariant.in_order (rw none at c.in-Some.ensures.steps).0));
-      names = reading-breaks _ _ _ _ _ _ _ c.loop-line.invariant c.requires.text_len_bound (rw none at c.in-Some.ensures.steps).0;
+      names = reading-breaks _ _ _ _ _ _ _ c.loop-line.invariant c.args.text.short (rw none at c.in-Some.ensures.steps).0;
     }
 
 pub returns-in_err-state : goal.returns-in_err-state
@@ -32,21 +32,21 @@ returns-in_err-state c =
           rw (same.1, same.2)
           (sym (order-faulty _ _ _ _ c.loop-line.invariant.in_order _ _ (rw some at c.in-Some.ensures.steps) _ c.line_of-line.ensures _ (sym c.take_line.ensures ∙ c.in_err-state.was)));
       names =
-          reading-faulty _ _ _ _ _ _ _ c.loop-line.invariant _ _ (rw some at c.in-Some.ensures.steps) _ c.line_of-line.ensures c.requires.text_len_bound _
+          reading-faulty _ _ _ _ _ _ _ c.loop-line.invariant _ _ (rw some at c.in-Some.ensures.steps) _ c.line_of-line.ensures c.args.text.short _
           (sym c.take_line.ensures ∙ c.in_err-state.was);
     }
 
 pub keep_name-requires : goal.keep_name-requires
-keep_name-requires c = names-room _ _ _ _ _ _ _ c.loop-line.invariant c.requires.text_len_bound
+keep_name-requires c = names-room _ _ _ _ _ _ _ c.loop-line.invariant c.args.text.short
 
 pub loop-line-preserved : goal.loop-line-preserved
 loop-line-preserved c =
     let some : c.in-Some.line ≡ Some c.in_ok-ok_or.field-0 = grind arith in
     reading-turns _ _ _ _ _ _ _ c.loop-line.invariant _ _ (rw some at c.in-Some.ensures.steps) _ c.line_of-line.ensures _ (sym c.take_line.ensures ∙ c.in_ok-state.was)
-    _ c.defined_by.ensures _ c.keep_name.ensures.counts c.requires.text_len_bound _ c.keep_name.ensures.tags _ c.keep_name.ensures.components _ c.keep_name.ensures.messages
+    _ c.defined_by.ensures _ c.keep_name.ensures.counts c.args.text.short _ c.keep_name.ensures.tags _ c.keep_name.ensures.components _ c.keep_name.ensures.messages
 
 pub returns : goal.returns
 returns c = record {
   outcome = c.at_end.ensures ∙ sym (order-stops _ _ _ _ c.loop-line.invariant.in_order c.in-None.ensures.steps.0);
-  names = reading-stops _ _ _ _ _ _ _ c.loop-line.invariant c.requires.text_len_bound c.in-None.ensures.steps.0;
+  names = reading-stops _ _ _ _ _ _ _ c.loop-line.invariant c.args.text.short c.in-None.ensures.steps.0;
 }
