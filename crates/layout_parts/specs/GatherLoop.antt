@@ -37,7 +37,6 @@ own_required lines = own_tags true (behind_tags false lines)
 
 pub record LevelRoom (text : List ℕ) (first level : ℕ) (members required rows starts : List ℕ) (parts : Parts) : Type 0 where
   pub within : first ≤ length text
-  pub short : length text ≤ 65536
   pub member_room : parts.members + length (own_tags false (lines_at text first)) ≤ length members
   pub required_room : parts.required + length (own_required (lines_at text first)) ≤ length required
   pub start_room : parts.groups + length (own_blocks (lines_at text first)) ≤ length starts
@@ -348,9 +347,9 @@ module _ (text : List ℕ) (first level : ℕ) (members required rows starts : L
       own-blocks : length (blocks_in 0 (lines_at text required_next)) ≡ length (own_blocks (lines_at text first))
       own-blocks = ap (λ (lines : List LevelLine). length (blocks_in 0 lines)) (of-required.1 ∙ ap (behind_tags true) of-members.1)
 
-      pub next-group_room : (required_next ≤ length text) × (length text ≤ 65536) × (parts.groups + length (blocks_in 0 (lines_at text required_next)) ≤ length starts)
+      pub next-group_room : (required_next ≤ length text) × (parts.groups + length (blocks_in 0 (lines_at text required_next)) ≤ length starts)
           × (6 * (parts.groups + length (blocks_in 0 (lines_at text required_next))) + 6 ≤ length rows)
-      next-group_room = (of-required.0, room.short, omega (arith, room.start_room, own-blocks), omega (arith, room.row_room, own-blocks))
+      next-group_room = (of-required.0, omega (arith, room.start_room, own-blocks), omega (arith, room.row_room, own-blocks))
 
       module _ (member_count required_count : ℕ) (many-members : member_count ≡ parts.members + length (own_tags false (lines_at text first)))
           (many-required : required_count ≡ parts.required + length (own_tags true (lines_at text member_next)))
@@ -360,7 +359,7 @@ module _ (text : List ℕ) (first level : ℕ) (members required rows starts : L
           omega (arith, room.level_room, put.row_room),
           omega (arith, many-members, room.member_room, room.few_members),
           omega (arith, many-required, next-required_room.1, room.few_required),
-          omega (arith, put.counted, next-group_room.2, room.few_groups),
+          omega (arith, put.counted, next-group_room.1, room.few_groups),
         )
 
 pub level-put : (text : List ℕ) (first level : ℕ) (members required rows starts : List ℕ) (before : Parts) (new_members new_required between new_rows new_starts : List ℕ) (member_count member_next required_count required_next group_count : ℕ)
@@ -390,8 +389,6 @@ level-put text first level members required rows starts before new_members new_r
 
 -- what `gather_layout` asks
 pub record GatherRoom (text members required rows starts : List ℕ) : Type 0 where
-  pub short : length text ≤ 65536
-  pub told : level_lines (layout_of text) [] ≡ lines_at text 0
   pub member_room : length (all_members (layout_of text)) ≤ length members
   pub required_room : length (all_required (layout_of text)) ≤ length required
   pub start_room : length (all_groups (layout_of text)) ≤ length starts
@@ -421,8 +418,6 @@ room-kept : (text members required rows starts new_members new_required new_rows
     → length new_members ≡ length members → length new_required ≡ length required → length new_rows ≡ length rows → length new_starts ≡ length starts
     → GatherRoom text new_members new_required new_rows new_starts
 room-kept text members required rows starts new_members new_required new_rows new_starts room of-members of-required of-rows of-starts = record {
-  short = room.short;
-  told = room.told;
   member_room = omega (arith, room.member_room, of-members);
   required_room = omega (arith, room.required_room, of-required);
   start_room = omega (arith, room.start_room, of-starts);
@@ -477,7 +472,6 @@ module _ (text members required rows starts : List ℕ) (room : GatherRoom text 
   pub level-room : LevelRoom text first level members required rows starts parts
   level-room = record {
     within = within;
-    short = room.short;
     member_room = omega (arith, room.member_room, total_of members_of, members-count levels pushed members required rows starts parts hold, ap length own-parts.own_members);
     required_room = omega (arith, room.required_room, total_of required_of, required_count_lem levels pushed members required rows starts parts hold, ap length own-parts.own_required);
     start_room = omega (arith, room.start_room, few, hold.group_count, blocks-count);
@@ -498,7 +492,7 @@ order-count : (waiting : List Group) → length (level_order (group_total waitin
 order-count waiting = length-level_order (group_total waiting) waiting refl
 
 module _ (text members required rows starts : List ℕ) (room : GatherRoom text members required rows starts) (parts : Parts)
-    (no-members : parts.members ≡ 0) (no-required : parts.required ≡ 0) (none : parts.groups ≡ 0) where
+    (told : level_lines (layout_of text) [] ≡ lines_at text 0) (no-members : parts.members ≡ 0) (no-required : parts.required ≡ 0) (none : parts.groups ≡ 0) where
   top-few : length (groups_of (layout_of text)) ≤ length (all_groups (layout_of text))
   top-few = omega (arith, ap length (top-order (layout_of text)), order-count (groups_of (layout_of text)), waiting_few (groups_of (layout_of text)))
 
@@ -510,7 +504,7 @@ module _ (text members required rows starts : List ℕ) (room : GatherRoom text 
       level-room text members required rows starts room parts [] [] start own_members needed groups (map entry (all_groups (layout_of text)))
       (ap {B = List Level} (λ (level : Level). level ∷ map entry (all_groups (layout_of text))) is)
       (omega (arith, top-few, ap (λ (level : Level). length (groups_of level)) is))
-      0 [] (omega arith) tt (sym room.told ∙ ap (λ (level : Level). level_lines level []) is) 0 refl
+      0 [] (omega arith) tt (sym told ∙ ap (λ (level : Level). level_lines level []) is) 0 refl
 
   pub top-room : LevelRoom text 0 0 members required rows starts parts
   top-room = top-by (layout_of text) refl
@@ -518,7 +512,7 @@ module _ (text members required rows starts : List ℕ) (room : GatherRoom text 
   module _ (new_members new_required new_rows new_starts : List ℕ) (after : Parts) (put : LevelPut text 0 0 members required rows starts parts new_members new_required new_rows new_starts after) where
     gathered-top : (layout : Layout) → layout_of text ≡ layout → GatherSoFar text new_members new_required new_rows new_starts 0 after
     gathered-top (level_of_lem own_members needed groups) is =
-        let lines : lines_at text 0 ≡ level_lines (level_of_lem own_members needed groups) [] = sym room.told ∙ ap (λ (level : Level). level_lines level []) is in
+        let lines : lines_at text 0 ≡ level_lines (level_of_lem own_members needed groups) [] = sym told ∙ ap (λ (level : Level). level_lines level []) is in
         let own = level-parts own_members needed groups [] (lines_at text 0) tt lines in
         let sizes = level-sizes [] [] members required rows starts parts start text 0 0 refl top-room new_members new_required new_rows new_starts after put own_members needed groups [] own in
         record {

@@ -3,12 +3,11 @@
 ghost use Rattle.std.specs.Prelude.{◌≡◌, [], ◌∷◌, ◌+◌, ◌*◌, ◌<◌, ◌≤◌, length};
 ghost use Rattle.std.proofs.lemmas.List.Edits.{sets};
 ghost use Rattle.layout_text.specs.LevelLines.{lines_at};
-ghost use Rattle.layout_text.specs.declared.layout_text.Part.TheVariants.{Members};
-ghost use Rattle.layout_text.specs.InOrder.{InOrder};
 ghost use Rattle.layout_parts.specs.LayoutParts.{tag_of, own_tags, behind_tags, blocks_in, member_count, required_count, group_count};
 ghost use Rattle.layout_parts.specs.PartsLoops.{flag_word, GroupsPut};
 ghost use Rattle.layout_parts.specs.GatherLoop.{LevelRoom, LevelPut, GatherRoom, GatheredIn};
 
+use layout_text::layout_text::LayoutText;
 use layout_text::level_line::{LevelLine, LevelLines};
 
 // How many members, required tags and groups there are.
@@ -27,18 +26,17 @@ pub struct TakenTags {
 }
 
 // How many member, required and group lines the text has. A block has 12 bytes at least.
-pub fn count_parts(text: &[u8]) -> Parts
-    requires { (length text.now ≤ 65536) × InOrder Members 0 (lines_at text.now 0) }
-    ensures members { result.members ≡ member_count (lines_at text.now 0) }
-    ensures required { result.required ≡ required_count (lines_at text.now 0) }
-    ensures groups { (result.groups ≡ group_count (lines_at text.now 0)) × (12 * result.groups ≤ length text.now) }
+pub fn count_parts(text: LayoutText<'_>) -> Parts
+    ensures members { result.members ≡ member_count (lines_at text.entry.bytes.now 0) }
+    ensures required { result.required ≡ required_count (lines_at text.entry.bytes.now 0) }
+    ensures groups { (result.groups ≡ group_count (lines_at text.entry.bytes.now 0)) × (12 * result.groups ≤ length text.entry.bytes.now) }
 {
     let mut parts = Parts {
         members: 0,
         required: 0,
         groups: 0,
     };
-    for line in LevelLines::new(text, 0) {
+    for line in LevelLines::new(text.bytes, 0) {
         match line {
             LevelLine::MemberLine(_) => parts.members += 1,
             LevelLine::RequiredLine(_) => parts.required += 1,
@@ -109,18 +107,18 @@ fn put_ends(rows: &mut [u32], level: usize, parts: Parts)
 
 // Puts the rows of the blocks that begin at `first` after those of `groups` others, and where the lines in each block begin.
 fn put_groups(
-    text: &[u8],
+    text: LayoutText<'_>,
     first: usize,
     rows: &mut [u32],
     starts: &mut [u32],
     groups: usize,
 ) -> usize
-    requires { (first ≤ length text.now) × (length text.now ≤ 65536) × (groups + length (blocks_in 0 (lines_at text.now first)) ≤ length starts.old) × (6 * (groups + length (blocks_in 0 (lines_at text.now first))) + 6 ≤ length rows.old) }
-    ensures { GroupsPut text.now rows.old starts.old groups (blocks_in 0 (lines_at text.now first)) rows.new starts.new result }
+    requires { (first ≤ length text.bytes.now) × (groups + length (blocks_in 0 (lines_at text.bytes.now first)) ≤ length starts.old) × (6 * (groups + length (blocks_in 0 (lines_at text.bytes.now first))) + 6 ≤ length rows.old) }
+    ensures { GroupsPut text.entry.bytes.now rows.old starts.old groups (blocks_in 0 (lines_at text.entry.bytes.now first)) rows.new starts.new result }
 {
     let mut depth: usize = 0;
     let mut count = groups;
-    let mut lines = LevelLines::new(text, first);
+    let mut lines = LevelLines::new(text.bytes, first);
     while let Some(line) = lines.next() {
         match line {
             LevelLine::GroupLine(tag, delimiter, required) => {
@@ -147,7 +145,7 @@ fn put_groups(
 
 // Puts the parts of the level whose lines begin at `first` after those that were put before, and its ends into its row.
 fn gather_level(
-    text: &[u8],
+    text: LayoutText<'_>,
     first: usize,
     level: usize,
     members: &mut [u32],
@@ -156,11 +154,11 @@ fn gather_level(
     starts: &mut [u32],
     parts: Parts,
 ) -> Parts
-    requires { LevelRoom text.now first level members.old required.old rows.old starts.old parts }
-    ensures { LevelPut text.now first level members.old required.old rows.old starts.old parts members.new required.new rows.new starts.new result }
+    requires { LevelRoom text.bytes.now first level members.old required.old rows.old starts.old parts }
+    ensures { LevelPut text.entry.bytes.now first level members.old required.old rows.old starts.old parts members.new required.new rows.new starts.new result }
 {
-    let own = put_tags(text, first, false, members, parts.members);
-    let needed = put_tags(text, own.next, true, required, parts.required);
+    let own = put_tags(text.bytes, first, false, members, parts.members);
+    let needed = put_tags(text.bytes, own.next, true, required, parts.required);
     let groups = put_groups(text, needed.next, rows, starts, parts.groups);
     let gathered = Parts {
         members: own.count,
@@ -174,14 +172,14 @@ fn gather_level(
 // Gathers the parts of the layout that the text tells, level by level: the top, then the entry level of each group in the order in which the
 // groups were put.
 pub fn gather_layout(
-    text: &[u8],
+    text: LayoutText<'_>,
     members: &mut [u32],
     required: &mut [u32],
     rows: &mut [u32],
     starts: &mut [u32],
 ) -> Parts
-    requires { GatherRoom text.now members.old required.old rows.old starts.old }
-    ensures { GatheredIn text.now members.new required.new rows.new result }
+    requires { GatherRoom text.bytes.now members.old required.old rows.old starts.old }
+    ensures { GatheredIn text.entry.bytes.now members.new required.new rows.new result }
 {
     let none = Parts {
         members: 0,

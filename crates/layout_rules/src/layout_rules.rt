@@ -2,15 +2,13 @@
 ghost use Rattle.std.specs.Prelude.{◌≡◌, [], ◌∷◌, ◌+◌, ◌*◌, ◌<◌, ◌≤◌, length};
 ghost use Rattle.ascending.specs.Search.{StrictlyAscending};
 ghost use Rattle.layouts.specs.LayoutRules.{◌∈ᵇ◌, are_among};
-ghost use Rattle.layout_text.specs.LevelLines.{lines_at};
 ghost use Rattle.layout_text.specs.LayoutOfText.{layout_of};
-ghost use Rattle.layout_text.specs.declared.layout_text.Part.TheVariants.{Members};
-ghost use Rattle.layout_text.specs.InOrder.{InOrder};
 ghost use Rattle.layout_rules.specs.FirstBroken.{first_broken};
 ghost use Rattle.layout_rules.specs.OpenBlocks.{group_broken, level_broken};
 
 use crate::stack::Stack;
 use ascending::search::{binary_search, is_strictly_ascending};
+use layout_text::layout_text::LayoutText;
 use layout_text::level_line::{LevelLine, LevelLines};
 
 // A block that is open, and how many members and count tags the open levels around it have.
@@ -81,15 +79,14 @@ fn top_broken(top: &[u32], counts: &[u32]) -> Option<(u32, u32)>
 }
 
 // The first broken rule of an accepted layout text: groups in the order of their `end` lines, the top last, and of each the lowest rule.
-pub fn first_broken(text: &[u8]) -> Option<(u32, u32)>
-    requires { (length text.now ≤ 65536) × InOrder Members 0 (lines_at text.now 0) }
-    ensures { result ≡ first_broken (layout_of text.now) }
+pub fn first_broken(text: LayoutText<'_>) -> Option<(u32, u32)>
+    ensures { result ≡ first_broken (layout_of text.entry.bytes.now) }
 {
     // a member line has 8 bytes at least, a block 12, and at most 40 blocks are open
     let mut members: Stack<u32, 8192> = Stack::new(0);
     let mut tags: Stack<u32, 5461> = Stack::new(0);
     let mut blocks: Stack<OpenBlock, 40> = Stack::new(NO_BLOCK);
-    for line in LevelLines::new(text, 0) {
+    for line in LevelLines::new(text.bytes, 0) {
         match line {
             LevelLine::MemberLine(tag) => members.push(tag),
             LevelLine::GroupLine(count, delimiter, _) => blocks.push(OpenBlock {

@@ -8,4 +8,5 @@ pub mod LevelLinesLaws
 pub mod LayoutOfText
 pub mod InOrder
 pub mod LayoutOfTextLaws
+pub mod AcceptedText
 pub mod CloseOpenLaws

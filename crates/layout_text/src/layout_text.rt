@@ -1,8 +1,9 @@
 // The layout text: the order of its lines.
-ghost use Rattle.std.specs.Prelude.{◌≡◌, ◌≤◌, ◌<◌, length};
+ghost use Rattle.std.specs.Prelude.{◌≡◌, ◌≤◌, ◌<◌, true, length, is_ok, Err, MatchResult};
 ghost use Rattle.layout_text.specs.LayoutText.{member_step, required_step, open_level, close_level, level_step_of, layout_end, layout_order_of, layout_text_of};
 
 use line_forms::line::{Line, line_of};
+use lines::text::Text;
 use lines::text_lines::TextLines;
 use refusals::refusal::Refusal;
 
@@ -107,9 +108,8 @@ fn at_layout_end(state: LevelState, lines: u64) -> Result<u64, Refusal>
 }
 
 // Reads the text from the top: refusals 2 to 4.
-fn read_levels(text: &[u8]) -> Result<u64, Refusal>
-    requires { length text.now ≤ 65536 }
-    ensures { result ≡ layout_order_of text.now }
+fn read_levels(text: Text<'_>) -> Result<u64, Refusal>
+    ensures { result ≡ layout_order_of text.entry.bytes.now }
 {
     let mut state = LevelState {
         part: Part::Members,
@@ -117,7 +117,7 @@ fn read_levels(text: &[u8]) -> Result<u64, Refusal>
         counts: [0; 40],
     };
     let mut lines = 0;
-    for line in TextLines::new(text) {
+    for line in TextLines::new(text.bytes) {
         let number = lines + 1;
         let line = line.ok_or(Refusal::UnknownForm(number))?;
         state = take_level_line(state, number, line_of(line))?;
@@ -130,8 +130,27 @@ fn read_levels(text: &[u8]) -> Result<u64, Refusal>
 pub fn check_layout_text(text: &[u8]) -> Result<u64, Refusal>
     ensures outcome { result ≡ layout_text_of text.now }
 {
-    if 65536 < text.len() {
-        return Err(Refusal::TextTooLong);
-    }
+    let text = Text::new(text).ok_or(Refusal::TextTooLong)?;
     read_levels(text)
+}
+
+// A layout text whose lines are in order: it passed `check_layout_text`, so that a function which
+// is given it asks nothing of its length or of its lines.
+#[derive(Clone, Copy)]
+pub struct LayoutText<'a> {
+    pub bytes: &'a [u8],
+    pub ghost accepted: { is_ok (layout_text_of bytes.now) ≡ true },
+    pub ghost short: { length bytes.now ≤ 65536 },
+}
+
+impl<'a> LayoutText<'a> {
+    // The layout text that these bytes are, or its first faulty line.
+    pub fn new(bytes: &'a [u8]) -> Result<Self, Refusal>
+        ensures outcome { MatchResult result
+            (λ text. text.bytes.now ≡ bytes.now)
+            (λ refusal. layout_text_of bytes.now ≡ Err refusal) }
+    {
+        check_layout_text(bytes)?;
+        Ok(LayoutText { bytes })
+    }
 }

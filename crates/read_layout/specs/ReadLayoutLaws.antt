@@ -1,12 +1,12 @@
 -- Laws of `ReadLayout.antt`: each outcome by what leads to it, and what holds of the outcomes: what `read_layout` wrote passes the check of
 -- lent words, and the rule of refusal 11 is broken at its tag. Assumes nothing.
 --
---   Writable text parts   the lines of the text are in order, its layout is within the limits, and `parts` counts it
-use Rattle.std.specs.Prelude.{◌≡◌, refl, ℕ, ◌+◌, ◌*◌, ◌-◌, ◌≤◌, ◌<◌, Bool, true, false, ◌&&◌, cond, List, ◌++◌, length, take, drop, leb, ltb, Result, Ok, Err, Option, Some, None}
+--   Writable text parts   the layout of the text is within the limits, and `parts` counts it
+use Rattle.std.specs.Prelude.{◌≡◌, refl, ℕ, ◌+◌, ◌*◌, ◌-◌, ◌≤◌, ◌<◌, Bool, true, false, ◌&&◌, cond, List, ◌++◌, length, take, drop, leb, ltb, Result, Ok, Err, is_ok, Option, Some, None}
 use Rattle.std.proofs.Common.{sym, ap, ◌∙◌, arith}
 use Rattle.std.proofs.lemmas.Bool.{false≢true}
 use Rattle.std.proofs.lemmas.List.Edits.{sets}
-use borrow.Author.Tests.{le-leb, lt-leb, ltb-false}
+use borrow.Author.Tests.{le-leb, lt-leb}
 use Rattle.refusals.specs.declared.refusal.Refusal.{Refusal}
 use Rattle.refusals.specs.declared.refusal.Refusal.TheVariants.{TextTooLong, MembersOver, RuleBroken, SpaceShort}
 use Rattle.refusals.specs.Refusal.{refusal_number}
@@ -24,7 +24,8 @@ use Rattle.layout_text.specs.LevelLines.{lines_at}
 use Rattle.layout_text.specs.LayoutOfText.{layout_of}
 use Rattle.layout_text.specs.LayoutOfTextLaws.{lines-told}
 use Rattle.layout_text.specs.declared.layout_text.Part.TheVariants.{Members}
-use Rattle.layout_text.specs.InOrder.{InOrder, ordered-lines}
+use Rattle.layout_text.specs.InOrder.{InOrder}
+use Rattle.layout_text.specs.AcceptedText.{accepted-short, accepted-order}
 use Rattle.layout_rules.specs.FirstBroken.{broken_at, first_broken}
 use Rattle.layout_rules.specs.FirstBrokenLaws.{first_broken-meets, first_broken-broken}
 use Rattle.layout_parts.specs.LayoutParts.{member_count, required_count, group_count}
@@ -34,23 +35,23 @@ use Rattle.read_layout.specs.ReadLayout.{space_outcome, rules_outcome, layout_ou
 
 -- ---- rows 1 to 4
 
-is_ordered : Result ℕ Refusal → Bool
-is_ordered (Ok lines) = true
-is_ordered (Err refusal) = false
-
-short-by : (text : List ℕ) (long : Bool) (lines : ℕ) → ltb 65536 (length text) ≡ long → cond long (Err TextTooLong) (layout_order_of text) ≡ Ok lines → length text ≤ 65536
-unfolding is_ordered
-short-by text true lines test accepted = absurd (false≢true (ap is_ordered accepted))
-short-by text false lines test accepted = ltb-false 65536 (length text) test
-
 pub ordered-text : (text : List ℕ) (lines : ℕ) → layout_text_of text ≡ Ok lines → (length text ≤ 65536) × InOrder Members 0 (lines_at text 0)
-unfolding layout_text_of
-ordered-text text lines accepted = (short-by text (ltb 65536 (length text)) lines refl accepted, ordered-lines text lines accepted)
+ordered-text text lines accepted =
+    let passes : is_ok (layout_text_of text) ≡ true = ap is_ok accepted in
+    (accepted-short text passes, accepted-order text passes)
 
 module _ (text : List ℕ) (room : ℕ) where
   pub read-unordered : (refusal : Refusal) → layout_text_of text ≡ Err refusal → read_outcome text room ≡ Err refusal
   unfolding read_outcome
   read-unordered refusal refused = rw refused
+
+  read-passed_by : (outcome : Result ℕ Refusal) → layout_text_of text ≡ outcome → is_ok outcome ≡ true → read_outcome text room ≡ layout_outcome (layout_of text) room
+  unfolding read_outcome
+  read-passed_by (Ok lines) is accepted = rw is
+  read-passed_by (Err refusal) is accepted = absurd (false≢true accepted)
+
+  pub read-passed : is_ok (layout_text_of text) ≡ true → read_outcome text room ≡ layout_outcome (layout_of text) room
+  read-passed accepted = read-passed_by (layout_text_of text) refl accepted
 
   pub read-ordered : (lines : ℕ) → layout_text_of text ≡ Ok lines → read_outcome text room ≡ layout_outcome (layout_of text) room
   unfolding read_outcome
@@ -90,8 +91,6 @@ module _ (layout : Layout) (room : ℕ) where
 -- ---- what was counted
 
 pub record Writable (text : List ℕ) (parts : Parts) : Type 0 where
-  pub short : length text ≤ 65536
-  pub order : InOrder Members 0 (lines_at text 0)
   pub of_members : parts.members ≡ length (all_members (layout_of text))
   pub of_required : parts.required ≡ length (all_required (layout_of text))
   pub of_groups : parts.groups ≡ length (all_groups (layout_of text))
@@ -114,8 +113,6 @@ module _ (text : List ℕ) (short : length text ≤ 65536) (order : InOrder Memb
   module _ (few_members_lem : parts.members ≤ 8192) (few-required : parts.required ≤ 2048) where
     pub writable : Writable text parts
     writable = record {
-      short = short;
-      order = order;
       of_members = counted-members;
       of_required = counted-required;
       of_groups = of-groups.0 ∙ counts.of_groups;
@@ -138,8 +135,6 @@ module _ (text : List ℕ) (parts : Parts) (writable : Writable text parts) (nee
 
   pub gather_room : (members required rows starts : List ℕ) → length members ≡ 8192 → length required ≡ 2048 → length rows ≡ 32772 → length starts ≡ 5461 → GatherRoom text members required rows starts
   gather_room members required rows starts of-members of-required of-rows of-starts = record {
-    short = writable.short;
-    told = lines-told text writable.order;
     member_room = omega (arith, writable.of_members, writable.few_members, of-members);
     required_room = omega (arith, writable.of_required, writable.few_required, of-required);
     start_room = omega (arith, writable.of_groups, writable.few_groups, of-starts);

@@ -1,16 +1,13 @@
 // Reading a hand-made layout text into layout words.
-ghost use Rattle.std.specs.Prelude.{◌≡◌, ◌≤◌, length};
+ghost use Rattle.std.specs.Prelude.{◌≡◌, length};
 ghost use Rattle.layouts.specs.LayoutWords.{arranged};
-ghost use Rattle.layout_text.specs.LevelLines.{lines_at};
 ghost use Rattle.layout_text.specs.LayoutOfText.{layout_of};
-ghost use Rattle.layout_text.specs.declared.layout_text.Part.TheVariants.{Members};
-ghost use Rattle.layout_text.specs.InOrder.{InOrder};
 ghost use Rattle.read_layout.specs.ReadLayout.{space_outcome, layout_outcome, read_outcome, written_in, read_words};
 ghost use Rattle.read_layout.specs.ReadLayoutLaws.{Writable};
 
 use layout_parts::layout_parts::{Parts, count_parts, gather_layout};
 use layout_rules::layout_rules::first_broken;
-use layout_text::layout_text::check_layout_text;
+use layout_text::layout_text::LayoutText;
 use layouts::put_layout::put_layout;
 use refusals::refusal::Refusal;
 
@@ -20,10 +17,10 @@ const MEMBERS: usize = 8192;
 const REQUIRED: usize = 2048;
 
 // Writes the words of the layout if there is room for them. A text of 65,536 bytes has at most 5,461 blocks.
-fn write_layout(text: &[u8], words: &mut [u32], parts: Parts) -> Result<usize, Refusal>
-    requires { Writable text.now parts }
-    ensures outcome { result ≡ space_outcome (length (arranged (layout_of text.now))) (length words.old) }
-    ensures memory { words.new ≡ written_in result (layout_of text.now) words.old }
+fn write_layout(text: LayoutText<'_>, words: &mut [u32], parts: Parts) -> Result<usize, Refusal>
+    requires { Writable text.bytes.now parts }
+    ensures outcome { result ≡ space_outcome (length (arranged (layout_of text.entry.bytes.now))) (length words.old) }
+    ensures memory { words.new ≡ written_in result (layout_of text.entry.bytes.now) words.old }
 {
     let needed = 7 + 6 * parts.groups + parts.members + parts.required;
     if words.len() < needed {
@@ -46,10 +43,9 @@ fn write_layout(text: &[u8], words: &mut [u32], parts: Parts) -> Result<usize, R
 }
 
 // Reads a text whose lines are in order.
-fn read_ordered(text: &[u8], words: &mut [u32]) -> Result<usize, Refusal>
-    requires { (length text.now ≤ 65536) × InOrder Members 0 (lines_at text.now 0) }
-    ensures outcome { result ≡ layout_outcome (layout_of text.now) (length words.old) }
-    ensures memory { words.new ≡ written_in result (layout_of text.now) words.old }
+fn read_ordered(text: LayoutText<'_>, words: &mut [u32]) -> Result<usize, Refusal>
+    ensures outcome { result ≡ layout_outcome (layout_of text.entry.bytes.now) (length words.old) }
+    ensures memory { words.new ≡ written_in result (layout_of text.entry.bytes.now) words.old }
 {
     let parts = count_parts(text);
     if MEMBERS < parts.members || REQUIRED < parts.required {
@@ -67,6 +63,6 @@ pub fn read_layout(text: &[u8], words: &mut [u32]) -> Result<usize, Refusal>
     ensures outcome { result ≡ read_outcome text.now (length words.old) }
     ensures memory { words.new ≡ read_words text.now words.old }
 {
-    check_layout_text(text)?;
+    let text = LayoutText::new(text)?;
     read_ordered(text, words)
 }

@@ -8,7 +8,7 @@ use Rattle.layout_parts.specs.GatherLoop.{GatherSoFar}
 use Rattle.layout_parts.proofs.layout_parts.gather_layout.Given as goal
 
 abbrev pub invariant-loop-number : goal.invariant-loop-number
-invariant-loop-number l = GatherSoFar l.text l.members l.required l.rows l.starts l.number l.parts × (length l.members ≡ length l.initial.members) × (length l.required ≡ length l.initial.required) × (length l.rows ≡ length l.initial.rows) × (length l.starts ≡ length l.initial.starts)
+invariant-loop-number l = GatherSoFar l.text.bytes.now l.members l.required l.rows l.starts l.number l.parts × (length l.members ≡ length l.initial.members) × (length l.required ≡ length l.initial.required) × (length l.rows ≡ length l.initial.rows) × (length l.starts ≡ length l.initial.starts)
 
 abbrev pub decreases-loop-number : goal.decreases-loop-number
-decreases-loop-number l = length (all_groups (layout_of l.text)) - l.number
+decreases-loop-number l = length (all_groups (layout_of l.text.bytes.now)) - l.number

@@ -10,17 +10,17 @@ loop-line-init c = (c.new-lines.ensures.text, rw c.new-lines.ensures.first (bloc
 pub put_group-requires : goal.put_group-requires
 put_group-requires c =
     let next = rw c.loop-line.invariant.0 at c.in-Some.ensures.steps.1 in
-    (block_inside _ _ _ _ _ _ _ _ _ _ c.loop-line.invariant.1 c.in-Some.line c.next.new.self.first next.reads next.bounds.0 next.bounds.1 _ _ _ c.in-GroupLine.is c.if-depth-eq0.true c.requires.2 c.requires.3).1
+    (block_inside _ _ _ _ _ _ _ _ _ _ c.loop-line.invariant.1 c.in-Some.line c.next.new.self.first next.reads next.bounds.0 next.bounds.1 _ _ _ c.in-GroupLine.is c.if-depth-eq0.true c.requires.1 c.requires.2).1
 
 pub bounds-starts-count : goal.bounds-starts-count
 bounds-starts-count c =
     let next = rw c.loop-line.invariant.0 at c.in-Some.ensures.steps.1 in
-    (block_inside _ _ _ _ _ _ _ _ _ _ c.loop-line.invariant.1 c.in-Some.line c.next.new.self.first next.reads next.bounds.0 next.bounds.1 _ _ _ c.in-GroupLine.is c.if-depth-eq0.true c.requires.2 c.requires.3).0
+    (block_inside _ _ _ _ _ _ _ _ _ _ c.loop-line.invariant.1 c.in-Some.line c.next.new.self.first next.reads next.bounds.0 next.bounds.1 _ _ _ c.in-GroupLine.is c.if-depth-eq0.true c.requires.1 c.requires.2).0
 
 pub loop-line-preserved-then-depth-eq0 : goal.loop-line-preserved-then-depth-eq0
 loop-line-preserved-then-depth-eq0 c =
     let next = rw c.loop-line.invariant.0 at c.in-Some.ensures.steps.1 in
-    let inside = block_inside _ _ _ _ _ _ _ _ _ _ c.loop-line.invariant.1 c.in-Some.line c.next.new.self.first next.reads next.bounds.0 next.bounds.1 _ _ _ c.in-GroupLine.is c.if-depth-eq0.true c.requires.2 c.requires.3 in
+    let inside = block_inside _ _ _ _ _ _ _ _ _ _ c.loop-line.invariant.1 c.in-Some.line c.next.new.self.first next.reads next.bounds.0 next.bounds.1 _ _ _ c.in-GroupLine.is c.if-depth-eq0.true c.requires.1 c.requires.2 in
     (c.in-Some.ensures.steps.0 ∙ c.loop-line.invariant.0, rw c.place.ensures (blocks-at_group _ _ _ _ _ _ _ _ _ _ c.loop-line.invariant.1 c.in-Some.line c.next.new.self.first next.reads next.bounds.0 next.bounds.1 _ _ _ c.in-GroupLine.is c.if-depth-eq0.true inside.0 inside.1 _ c.put_group.ensures _ refl))
 
 pub loop-line-preserved-else-depth-eq0 : goal.loop-line-preserved-else-depth-eq0

@@ -4,4 +4,4 @@ use Rattle.layout_text.specs.LayoutTextLaws.{LevelsSoFar}
 use Rattle.layout_text.proofs.layout_text.read_levels.Given as goal
 
 abbrev pub invariant-loop-line : goal.invariant-loop-line
-invariant-loop-line l = LevelsSoFar l.text l.line-iterator.rest.now l.state l.lines
+invariant-loop-line l = LevelsSoFar l.text.bytes.now l.line-iterator.rest.now l.state l.lines

@@ -1,27 +1,23 @@
 -- `read_layout::read_layout::read_layout` meets its contract, by specs/ReadLayoutLaws.antt.
-use mathlib.Core.Path.{sym, ◌∙◌}
-use lib.ListN.{length}
-use Rattle.read_layout.specs.ReadLayoutLaws.{ordered-text, read-unordered, read-ordered, read-words}
-use Rattle.std.proofs.lemmas.Result.{err_from_is_err_and}
+use Rattle.std.proofs.Common.{◌≡◌, sym, ◌∙◌, length}
+use Rattle.refusals.specs.HandedOn.{handed_on}
+use Rattle.read_layout.specs.ReadLayoutLaws.{read-unordered, read-passed, read-words}
 use Rattle.read_layout.proofs.read_layout.read_layout.Goals as goal
 
-pub read_ordered-requires : goal.read_ordered-requires
-read_ordered-requires c = ordered-text _ _ (sym c.check_layout_text.ensures.outcome ∙ c.in_ok-check_layout_text.was)
-
--- check_layout_text(text)?;
-pub returns-in_err-check_layout_text : goal.returns-in_err-check_layout_text
-returns-in_err-check_layout_text c =
-    let same = err_from_is_err_and c.from_residual.result c.from_residual.ensures.1 in
-    let refused = read-unordered _ (length c.args.words.now) _ (sym c.check_layout_text.ensures.outcome ∙ c.in_err-check_layout_text.was) in
+-- let text = LayoutText::new(text)?;
+pub returns-in_err-text : goal.returns-in_err-text
+returns-in_err-text c =
+    let refused = read-unordered _ (length c.args.words.now) _ c.in_err-text.ensures.outcome in
     record {
-      outcome = rw (same.1, same.2) (sym refused);
+      outcome = handed_on _ _ c.from_residual.ensures.1 ∙ sym refused;
       memory = read-words _ _ _ (sym refused);
     }
 
 pub returns : goal.returns
 returns c =
-    let ordered = c.read_ordered.ensures.outcome ∙ sym (read-ordered _ (length c.args.words.now) _ (sym c.check_layout_text.ensures.outcome ∙ c.in_ok-check_layout_text.was)) in
+    let same : c.in_ok-text.text.bytes.now ≡ c.args.text.now = c.in_ok-text.ensures.outcome in
+    let ordered = rw same at c.read_ordered.ensures.outcome ∙ sym (read-passed _ (length c.args.words.now) (rw same at c.in_ok-text.text.accepted)) in
     record {
       outcome = ordered;
-      memory = c.read_ordered.ensures.memory ∙ read-words _ _ _ ordered;
+      memory = rw same at c.read_ordered.ensures.memory ∙ read-words _ _ _ ordered;
     }
