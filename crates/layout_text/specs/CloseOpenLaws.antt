@@ -1,5 +1,5 @@
 -- The law of `close_open` (`LayoutText.antt`): at most 40 group blocks stay open. Assumes nothing.
-use Rattle.std.specs.Prelude.{ℕ, ◌-◌, ◌≤◌, Bool, true, false, cond, eqb, get_or, Result, Ok, Err, IfOk}
+use Rattle.std.specs.Prelude.{ℕ, ◌-◌, ◌≤◌, Bool, true, false, cond, eqb, get_or, Ok, Err, IfOk}
 use Rattle.std.proofs.Common.{arith}
 use Rattle.refusals.specs.declared.refusal.Refusal.{Refusal}
 use Rattle.refusals.specs.declared.refusal.Refusal.TheVariants.{NotAllowed}

@@ -2,15 +2,15 @@
 -- lent words, and the rule of refusal 11 is broken at its tag. Assumes nothing.
 --
 --   Writable text parts   the layout of the text is within the limits, and `parts` counts it
-use Rattle.std.specs.Prelude.{◌≡◌, refl, ℕ, ◌+◌, ◌*◌, ◌-◌, ◌≤◌, ◌<◌, Bool, true, false, ◌&&◌, cond, List, ◌++◌, length, take, drop, leb, ltb, Result, Ok, Err, is_ok, Option, Some, None}
+use Rattle.std.specs.Prelude.{◌≡◌, refl, ℕ, ◌+◌, ◌*◌, ◌-◌, ◌≤◌, ◌<◌, Bool, true, false, ◌&&◌, cond, List, ◌++◌, length, take, drop, leb, Result, Ok, Err, is_ok, Option, Some, None}
 use Rattle.std.proofs.Common.{sym, ap, ◌∙◌, arith}
 use Rattle.std.proofs.lemmas.Bool.{false≢true}
 use Rattle.std.proofs.lemmas.List.Edits.{sets}
 use borrow.Author.Tests.{le-leb, lt-leb}
 use Rattle.refusals.specs.declared.refusal.Refusal.{Refusal}
-use Rattle.refusals.specs.declared.refusal.Refusal.TheVariants.{TextTooLong, MembersOver, RuleBroken, SpaceShort}
+use Rattle.refusals.specs.declared.refusal.Refusal.TheVariants.{MembersOver, RuleBroken, SpaceShort}
 use Rattle.refusals.specs.Refusal.{refusal_number}
-use Rattle.layout_text.specs.LayoutText.{layout_order_of, layout_text_of}
+use Rattle.layout_text.specs.LayoutText.{layout_text_of}
 use Rattle.layouts.specs.Limits.{gate_limits}
 use Rattle.layouts.specs.Layout.{Layout, all_groups, all_members, all_required}
 use Rattle.layouts.specs.LayoutRules.{meets_rules, meets_limits, BrokenAt}

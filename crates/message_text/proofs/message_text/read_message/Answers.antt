@@ -1,7 +1,6 @@
 -- `message_text::message_text::read_message` meets its contract, by specs/MessageTextLaws.antt.
-use Rattle.std.proofs.Common.{◌≡◌, ◌≤◌, ◌<◌, length, sym, ◌∙◌, arith}
+use Rattle.std.proofs.Common.{◌≡◌, sym, ◌∙◌, arith}
 use Rattle.std.proofs.lemmas.Option.{MatchOption-at_none, MatchOption-at_some}
-use Rattle.std.proofs.lemmas.Result.{err_from_is_err_and}
 use Rattle.refusals.specs.HandedOn.{handed_on}
 use Rattle.refusals.specs.declared.refusal.Refusal.TheVariants.{TextTooLong}
 use Rattle.message_text.specs.MessageTextLaws.{read-too_long, fields-too_long, read-counted, fields-counted}
