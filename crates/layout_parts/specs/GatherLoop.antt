@@ -389,6 +389,7 @@ level-put text first level members required rows starts before new_members new_r
 
 -- what `gather_layout` asks
 pub record GatherRoom (text members required rows starts : List ℕ) : Type 0 where
+  pub told : level_lines (layout_of text) [] ≡ lines_at text 0
   pub member_room : length (all_members (layout_of text)) ≤ length members
   pub required_room : length (all_required (layout_of text)) ≤ length required
   pub start_room : length (all_groups (layout_of text)) ≤ length starts
@@ -418,6 +419,7 @@ room-kept : (text members required rows starts new_members new_required new_rows
     → length new_members ≡ length members → length new_required ≡ length required → length new_rows ≡ length rows → length new_starts ≡ length starts
     → GatherRoom text new_members new_required new_rows new_starts
 room-kept text members required rows starts new_members new_required new_rows new_starts room of-members of-required of-rows of-starts = record {
+  told = room.told;
   member_room = omega (arith, room.member_room, of-members);
   required_room = omega (arith, room.required_room, of-required);
   start_room = omega (arith, room.start_room, of-starts);
@@ -492,7 +494,7 @@ order-count : (waiting : List Group) → length (level_order (group_total waitin
 order-count waiting = length-level_order (group_total waiting) waiting refl
 
 module _ (text members required rows starts : List ℕ) (room : GatherRoom text members required rows starts) (parts : Parts)
-    (told : level_lines (layout_of text) [] ≡ lines_at text 0) (no-members : parts.members ≡ 0) (no-required : parts.required ≡ 0) (none : parts.groups ≡ 0) where
+    (no-members : parts.members ≡ 0) (no-required : parts.required ≡ 0) (none : parts.groups ≡ 0) where
   top-few : length (groups_of (layout_of text)) ≤ length (all_groups (layout_of text))
   top-few = omega (arith, ap length (top-order (layout_of text)), order-count (groups_of (layout_of text)), waiting_few (groups_of (layout_of text)))
 
@@ -504,7 +506,7 @@ module _ (text members required rows starts : List ℕ) (room : GatherRoom text 
       level-room text members required rows starts room parts [] [] start own_members needed groups (map entry (all_groups (layout_of text)))
       (ap {B = List Level} (λ (level : Level). level ∷ map entry (all_groups (layout_of text))) is)
       (omega (arith, top-few, ap (λ (level : Level). length (groups_of level)) is))
-      0 [] (omega arith) tt (sym told ∙ ap (λ (level : Level). level_lines level []) is) 0 refl
+      0 [] (omega arith) tt (sym room.told ∙ ap (λ (level : Level). level_lines level []) is) 0 refl
 
   pub top-room : LevelRoom text 0 0 members required rows starts parts
   top-room = top-by (layout_of text) refl
@@ -512,7 +514,7 @@ module _ (text members required rows starts : List ℕ) (room : GatherRoom text 
   module _ (new_members new_required new_rows new_starts : List ℕ) (after : Parts) (put : LevelPut text 0 0 members required rows starts parts new_members new_required new_rows new_starts after) where
     gathered-top : (layout : Layout) → layout_of text ≡ layout → GatherSoFar text new_members new_required new_rows new_starts 0 after
     gathered-top (level_of_lem own_members needed groups) is =
-        let lines : lines_at text 0 ≡ level_lines (level_of_lem own_members needed groups) [] = sym told ∙ ap (λ (level : Level). level_lines level []) is in
+        let lines : lines_at text 0 ≡ level_lines (level_of_lem own_members needed groups) [] = sym room.told ∙ ap (λ (level : Level). level_lines level []) is in
         let own = level-parts own_members needed groups [] (lines_at text 0) tt lines in
         let sizes = level-sizes [] [] members required rows starts parts start text 0 0 refl top-room new_members new_required new_rows new_starts after put own_members needed groups [] own in
         record {

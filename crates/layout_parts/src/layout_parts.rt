@@ -9,6 +9,7 @@ ghost use Rattle.layout_parts.specs.GatherLoop.{LevelRoom, LevelPut, GatherRoom,
 
 use layout_text::layout_text::LayoutText;
 use layout_text::level_line::{LevelLine, LevelLines};
+use lines::text::Text;
 
 // How many members, required tags and groups there are.
 #[derive(Clone, Copy)]
@@ -26,17 +27,17 @@ pub struct TakenTags {
 }
 
 // How many member, required and group lines the text has. A block has 12 bytes at least.
-pub fn count_parts(text: LayoutText<'_>) -> Parts
-    ensures members { result.members ≡ member_count (lines_at text.entry.bytes.now 0) }
-    ensures required { result.required ≡ required_count (lines_at text.entry.bytes.now 0) }
-    ensures groups { (result.groups ≡ group_count (lines_at text.entry.bytes.now 0)) × (12 * result.groups ≤ length text.entry.bytes.now) }
+pub fn count_parts(layout: LayoutText<'_>) -> Parts
+    ensures members { result.members ≡ member_count (lines_at layout.entry.text.bytes.now 0) }
+    ensures required { result.required ≡ required_count (lines_at layout.entry.text.bytes.now 0) }
+    ensures groups { (result.groups ≡ group_count (lines_at layout.entry.text.bytes.now 0)) × (12 * result.groups ≤ length layout.entry.text.bytes.now) }
 {
     let mut parts = Parts {
         members: 0,
         required: 0,
         groups: 0,
     };
-    for line in LevelLines::new(text.bytes, 0) {
+    for line in LevelLines::new(layout.text.bytes, 0) {
         match line {
             LevelLine::MemberLine(_) => parts.members += 1,
             LevelLine::RequiredLine(_) => parts.required += 1,
@@ -107,7 +108,7 @@ fn put_ends(rows: &mut [u32], level: usize, parts: Parts)
 
 // Puts the rows of the blocks that begin at `first` after those of `groups` others, and where the lines in each block begin.
 fn put_groups(
-    text: LayoutText<'_>,
+    text: Text<'_>,
     first: usize,
     rows: &mut [u32],
     starts: &mut [u32],
@@ -145,7 +146,7 @@ fn put_groups(
 
 // Puts the parts of the level whose lines begin at `first` after those that were put before, and its ends into its row.
 fn gather_level(
-    text: LayoutText<'_>,
+    text: Text<'_>,
     first: usize,
     level: usize,
     members: &mut [u32],
@@ -172,7 +173,7 @@ fn gather_level(
 // Gathers the parts of the layout that the text tells, level by level: the top, then the entry level of each group in the order in which the
 // groups were put.
 pub fn gather_layout(
-    text: LayoutText<'_>,
+    text: Text<'_>,
     members: &mut [u32],
     required: &mut [u32],
     rows: &mut [u32],

@@ -79,14 +79,14 @@ fn top_broken(top: &[u32], counts: &[u32]) -> Option<(u32, u32)>
 }
 
 // The first broken rule of an accepted layout text: groups in the order of their `end` lines, the top last, and of each the lowest rule.
-pub fn first_broken(text: LayoutText<'_>) -> Option<(u32, u32)>
-    ensures { result ≡ first_broken (layout_of text.entry.bytes.now) }
+pub fn first_broken(layout: LayoutText<'_>) -> Option<(u32, u32)>
+    ensures { result ≡ first_broken (layout_of layout.entry.text.bytes.now) }
 {
     // a member line has 8 bytes at least, a block 12, and at most 40 blocks are open
     let mut members: Stack<u32, 8192> = Stack::new(0);
     let mut tags: Stack<u32, 5461> = Stack::new(0);
     let mut blocks: Stack<OpenBlock, 40> = Stack::new(NO_BLOCK);
-    for line in LevelLines::new(text.bytes, 0) {
+    for line in LevelLines::new(layout.text.bytes, 0) {
         match line {
             LevelLine::MemberLine(tag) => members.push(tag),
             LevelLine::GroupLine(count, delimiter, _) => blocks.push(OpenBlock {

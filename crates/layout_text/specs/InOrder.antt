@@ -42,6 +42,14 @@ refused-ordered : (refusal : Refusal) (lines : ℕ) → Err refusal ≡ Ok lines
 unfolding is_ordered
 refused-ordered refusal lines same = false≢true (ap is_ordered same)
 
+pub members_alone : (part : Part) → takes_member part ≡ true → part ≡ Members
+members_alone Members takes = refl
+members_alone Required takes = absurd (false≢true takes)
+members_alone Blocks takes = absurd (false≢true takes)
+
+pub no_block : (part : Part) → takes_required part ≡ true → part ≡ Blocks → ⊥
+no_block part takes same = false≢true (rw same at takes)
+
 -- one line, where what comes behind it is in order whenever it is accepted
 module _ (state : LevelState) (number total : ℕ) (goes_on : LevelState → Result ℕ Refusal) (later : List LevelLine)
     (rest : (next : LevelState) → goes_on next ≡ Ok total → InOrder next.part next.depth later) where
@@ -51,14 +59,6 @@ module _ (state : LevelState) (number total : ℕ) (goes_on : LevelState → Res
   refused : {A : Type 0} (refusal : Refusal) → Accepted (Err refusal) → A
   unfolding Accepted
   refused refusal accepted = absurd (refused-ordered refusal total accepted)
-
-  members_alone : (part : Part) → takes_member part ≡ true → part ≡ Members
-  members_alone Members takes = refl
-  members_alone Required takes = absurd (false≢true takes)
-  members_alone Blocks takes = absurd (false≢true takes)
-
-  no_block : (part : Part) → takes_required part ≡ true → part ≡ Blocks → ⊥
-  no_block part takes same = false≢true (rw same at takes)
 
   member-follows : (tag : ℕ) (test : Bool) → takes_member state.part ≡ test → Accepted (cond test (Ok state) (Err (NotAllowed number)))
       → InOrder state.part state.depth (MemberLine tag ∷ later)

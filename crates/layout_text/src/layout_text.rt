@@ -1,5 +1,8 @@
 // The layout text: the order of its lines.
 ghost use Rattle.std.specs.Prelude.{◌≡◌, ◌≤◌, ◌<◌, true, length, is_ok, Err, MatchResult};
+ghost use Rattle.layout_text.specs.declared.layout_text.Part.TheVariants.{Members};
+ghost use Rattle.layout_text.specs.LevelLines.{lines_at};
+ghost use Rattle.layout_text.specs.AcceptedText.{in_order};
 ghost use Rattle.layout_text.specs.LayoutText.{member_step, required_step, open_level, close_level, level_step_of, layout_end, layout_order_of, layout_text_of};
 
 use line_forms::line::{Line, line_of};
@@ -134,23 +137,24 @@ pub fn check_layout_text(text: &[u8]) -> Result<u64, Refusal>
     read_levels(text)
 }
 
-// A layout text whose lines are in order: it passed `check_layout_text`, so that a function which
-// is given it asks nothing of its length or of its lines.
+// A text whose lines are in the order of a layout text's: a function which is given it asks nothing
+// of its length or of its lines.
 #[derive(Clone, Copy)]
 pub struct LayoutText<'a> {
-    pub bytes: &'a [u8],
-    pub ghost accepted: { is_ok (layout_text_of bytes.now) ≡ true },
-    pub ghost short: { length bytes.now ≤ 65536 },
+    pub text: Text<'a>,
+    pub ghost ordered: { in_order Members 0 (lines_at text.bytes.now 0) ≡ true },
 }
 
 impl<'a> LayoutText<'a> {
     // The layout text that these bytes are, or its first faulty line.
     pub fn new(bytes: &'a [u8]) -> Result<Self, Refusal>
         ensures outcome { MatchResult result
-            (λ text. text.bytes.now ≡ bytes.now)
+            (λ layout. (layout.text.bytes.now ≡ bytes.now) × (is_ok (layout_text_of bytes.now) ≡ true))
             (λ refusal. layout_text_of bytes.now ≡ Err refusal) }
     {
         check_layout_text(bytes)?;
-        Ok(LayoutText { bytes })
+        Ok(LayoutText {
+            text: Text { bytes },
+        })
     }
 }

@@ -133,8 +133,9 @@ module _ (text : List ℕ) (parts : Parts) (writable : Writable text parts) (nee
   pub space-fits : (room : ℕ) → needed ≤ room → space_outcome (length (arranged (layout_of text))) room ≡ Ok needed
   space-fits room fits = rw (← needed-words, le-leb needed room fits)
 
-  pub gather_room : (members required rows starts : List ℕ) → length members ≡ 8192 → length required ≡ 2048 → length rows ≡ 32772 → length starts ≡ 5461 → GatherRoom text members required rows starts
-  gather_room members required rows starts of-members of-required of-rows of-starts = record {
+  pub gather_room : InOrder Members 0 (lines_at text 0) → (members required rows starts : List ℕ) → length members ≡ 8192 → length required ≡ 2048 → length rows ≡ 32772 → length starts ≡ 5461 → GatherRoom text members required rows starts
+  gather_room order members required rows starts of-members of-required of-rows of-starts = record {
+    told = lines-told text order;
     member_room = omega (arith, writable.of_members, writable.few_members, of-members);
     required_room = omega (arith, writable.of_required, writable.few_required, of-required);
     start_room = omega (arith, writable.of_groups, writable.few_groups, of-starts);

@@ -17,10 +17,10 @@ const MEMBERS: usize = 8192;
 const REQUIRED: usize = 2048;
 
 // Writes the words of the layout if there is room for them. A text of 65,536 bytes has at most 5,461 blocks.
-fn write_layout(text: LayoutText<'_>, words: &mut [u32], parts: Parts) -> Result<usize, Refusal>
-    requires { Writable text.bytes.now parts }
-    ensures outcome { result ≡ space_outcome (length (arranged (layout_of text.entry.bytes.now))) (length words.old) }
-    ensures memory { words.new ≡ written_in result (layout_of text.entry.bytes.now) words.old }
+fn write_layout(layout: LayoutText<'_>, words: &mut [u32], parts: Parts) -> Result<usize, Refusal>
+    requires { Writable layout.text.bytes.now parts }
+    ensures outcome { result ≡ space_outcome (length (arranged (layout_of layout.entry.text.bytes.now))) (length words.old) }
+    ensures memory { words.new ≡ written_in result (layout_of layout.entry.text.bytes.now) words.old }
 {
     let needed = 7 + 6 * parts.groups + parts.members + parts.required;
     if words.len() < needed {
@@ -31,7 +31,13 @@ fn write_layout(text: LayoutText<'_>, words: &mut [u32], parts: Parts) -> Result
     let mut required = [0u32; REQUIRED];
     let mut rows = [0u32; 32772];
     let mut starts = [0u32; 5461];
-    let gathered = gather_layout(text, &mut members, &mut required, &mut rows, &mut starts);
+    let gathered = gather_layout(
+        layout.text,
+        &mut members,
+        &mut required,
+        &mut rows,
+        &mut starts,
+    );
     put_layout(
         words,
         gathered.groups,
@@ -43,18 +49,18 @@ fn write_layout(text: LayoutText<'_>, words: &mut [u32], parts: Parts) -> Result
 }
 
 // Reads a text whose lines are in order.
-fn read_ordered(text: LayoutText<'_>, words: &mut [u32]) -> Result<usize, Refusal>
-    ensures outcome { result ≡ layout_outcome (layout_of text.entry.bytes.now) (length words.old) }
-    ensures memory { words.new ≡ written_in result (layout_of text.entry.bytes.now) words.old }
+fn read_ordered(layout: LayoutText<'_>, words: &mut [u32]) -> Result<usize, Refusal>
+    ensures outcome { result ≡ layout_outcome (layout_of layout.entry.text.bytes.now) (length words.old) }
+    ensures memory { words.new ≡ written_in result (layout_of layout.entry.text.bytes.now) words.old }
 {
-    let parts = count_parts(text);
+    let parts = count_parts(layout);
     if MEMBERS < parts.members || REQUIRED < parts.required {
         return Err(Refusal::MembersOver);
     }
-    if let Some((rule, tag)) = first_broken(text) {
+    if let Some((rule, tag)) = first_broken(layout) {
         return Err(Refusal::RuleBroken(rule, tag));
     }
-    write_layout(text, words, parts)
+    write_layout(layout, words, parts)
 }
 
 // Reads a hand-made layout text: writes the words of its layout and gives their number, or refuses and writes nothing. After the words of the
@@ -63,6 +69,6 @@ pub fn read_layout(text: &[u8], words: &mut [u32]) -> Result<usize, Refusal>
     ensures outcome { result ≡ read_outcome text.now (length words.old) }
     ensures memory { words.new ≡ read_words text.now words.old }
 {
-    let text = LayoutText::new(text)?;
-    read_ordered(text, words)
+    let layout = LayoutText::new(text)?;
+    read_ordered(layout, words)
 }

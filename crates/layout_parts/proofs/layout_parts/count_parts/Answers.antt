@@ -1,13 +1,13 @@
 -- `layout_parts::layout_parts::count_parts` meets its contract. The loop's invariant is `CountsSoFar` (specs/PartsLoops.antt).
 use Rattle.std.proofs.Common.{refl, ◌∙◌}
-use Rattle.layout_text.specs.AcceptedText.{accepted-order}
+use Rattle.layout_text.specs.AcceptedText.{passed-order}
 use Rattle.layout_parts.specs.PartsLoops.{counts-begin, counts_end, counts-member, counts-required, counts-group, counts-uncounted}
 use Rattle.layout_parts.proofs.layout_parts.count_parts.Goals as goal
 
 pub loop-line-init : goal.loop-line-init
 loop-line-init c =
     rw c.into_iter-line-iterator.ensures.into_iter_gives
-    (c.new-line-items.ensures.text, rw c.new-line-items.ensures.first (counts-begin _ (accepted-order _ c.args.text.accepted)))
+    (c.new-line-items.ensures.text, rw c.new-line-items.ensures.first (counts-begin _ (passed-order _ _ _ c.args.layout.ordered)))
 
 pub loop-line-preserved-in-MemberLine : goal.loop-line-preserved-in-MemberLine
 loop-line-preserved-in-MemberLine c =

@@ -4,4 +4,4 @@ use Rattle.layout_parts.specs.PartsLoops.{CountsSoFar}
 use Rattle.layout_parts.proofs.layout_parts.count_parts.Given as goal
 
 abbrev pub invariant-loop-line : goal.invariant-loop-line
-invariant-loop-line l = (l.line-iterator.text.now ≡ l.text.bytes.now) × CountsSoFar l.text.bytes.now l.line-iterator.first l.parts.members l.parts.required l.parts.groups
+invariant-loop-line l = (l.line-iterator.text.now ≡ l.layout.text.bytes.now) × CountsSoFar l.layout.text.bytes.now l.line-iterator.first l.parts.members l.parts.required l.parts.groups

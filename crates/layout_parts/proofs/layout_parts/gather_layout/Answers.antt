@@ -1,17 +1,16 @@
 -- `layout_parts::layout_parts::gather_layout` meets its contract. The loop's invariant is `GatherSoFar` (specs/GatherLoop.antt).
 use mathlib.Core.Path.{refl, ◌∙◌}
 use native.Mathlib.Omega.{arith}
-use Rattle.layout_text.specs.AcceptedText.{accepted-told}
 use Rattle.layout_parts.specs.GatherLoop.{top-room, gather_begins, gather_ends, start-inside, number_inside, next-room, next-sizes, gather_goes_on}
 use Rattle.layout_parts.proofs.layout_parts.gather_layout.Goals as goal
 
 -- let mut parts = gather_level(text, 0, 0, members, required, rows, starts, none);
 pub gather_level-parts-requires : goal.gather_level-parts-requires
-gather_level-parts-requires c = top-room _ _ _ _ _ c.requires _ (accepted-told _ c.args.text.accepted) refl refl refl
+gather_level-parts-requires c = top-room _ _ _ _ _ c.requires _ refl refl refl
 
 -- while number < parts.groups {
 pub loop-number-init : goal.loop-number-init
-loop-number-init c = (gather_begins _ _ _ _ _ c.requires _ (accepted-told _ c.args.text.accepted) refl refl refl _ _ _ _ _ c.gather_level-parts.ensures, refl, refl, refl, refl)
+loop-number-init c = (gather_begins _ _ _ _ _ c.requires _ refl refl refl _ _ _ _ _ c.gather_level-parts.ensures, refl, refl, refl, refl)
 
 pub bounds-starts-number : goal.bounds-starts-number
 bounds-starts-number c = start-inside _ _ _ _ _ _ _ c.loop-number.invariant.0 c.loop-number-test.true

@@ -1,14 +1,14 @@
 -- `layout_rules::layout_rules::first_broken` meets its contract. The loop's invariant is `RulesSoFar`; every answer cites a law of
 -- specs/RulesLoop.antt.
 use Rattle.std.proofs.Common.{refl, sym, ◌∙◌, arith}
-use Rattle.layout_text.specs.AcceptedText.{accepted-order}
+use Rattle.layout_text.specs.AcceptedText.{passed-order}
 use Rattle.layout_rules.specs.RulesLoop.{rules-begin, rules-end, rules-member, member-inside, rules-group, room_of_block, end-open, block_parts, rules-break, rules-close, rules-passed}
 use Rattle.layout_rules.proofs.layout_rules.first_broken.Goals as goal
 
 pub loop-line-init : goal.loop-line-init
 loop-line-init c =
     rw (c.into_iter-line-iterator.ensures.into_iter_gives, c.new-members.ensures, c.new-tags.ensures, c.new-blocks.ensures)
-    (c.new-line-items.ensures.text, rw c.new-line-items.ensures.first (rules-begin _ c.args.text.short (accepted-order _ c.args.text.accepted)))
+    (c.new-line-items.ensures.text, rw c.new-line-items.ensures.first (rules-begin _ c.args.layout.text.short (passed-order _ _ _ c.args.layout.ordered)))
 
 pub push-requires : goal.push-requires
 push-requires c =

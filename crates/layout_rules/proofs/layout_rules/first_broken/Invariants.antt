@@ -5,4 +5,4 @@ use Rattle.layout_rules.specs.RulesLoop.{RulesSoFar}
 use Rattle.layout_rules.proofs.layout_rules.first_broken.Given as goal
 
 abbrev pub invariant-loop-line : goal.invariant-loop-line
-invariant-loop-line l = (l.line-iterator.text.now ≡ l.text.bytes.now) × RulesSoFar l.text.bytes.now l.members l.tags l.blocks l.line-iterator.first
+invariant-loop-line l = (l.line-iterator.text.now ≡ l.layout.text.bytes.now) × RulesSoFar l.layout.text.bytes.now l.members l.tags l.blocks l.line-iterator.first

@@ -1,5 +1,6 @@
 -- `read_layout::read_layout::write_layout` meets its contract, by specs/ReadLayoutLaws.antt.
 use mathlib.Core.Path.{refl, sym}
+use Rattle.layout_text.specs.AcceptedText.{passed-order}
 use Rattle.read_layout.specs.ReadLayoutLaws.{space_short, space-fits, gather_room, put-room, words_written}
 use Rattle.read_layout.proofs.read_layout.write_layout.Goals as goal
 
@@ -11,7 +12,7 @@ returns-then-words-needed c = record {
 }
 
 pub gather_layout-gathered-requires : goal.gather_layout-gathered-requires
-gather_layout-gathered-requires c = gather_room _ _ c.requires _ refl _ _ _ _ refl refl refl refl
+gather_layout-gathered-requires c = gather_room _ _ c.requires _ refl (passed-order _ _ _ c.args.layout.ordered) _ _ _ _ refl refl refl refl
 
 -- put_layout(
 pub put_layout-requires : goal.put_layout-requires
