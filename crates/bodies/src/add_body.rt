@@ -133,7 +133,7 @@ fn add_component(
     if path.contains(&name) {
         return Ok(node);
     }
-    let mut names = [0u32; 33];
+    let mut names = [0u32; 33]; // no heap: a component is at most 33 deep
     let open = open_component(&mut names, path, name);
     let collects = collect && required;
     let first = number + 1;

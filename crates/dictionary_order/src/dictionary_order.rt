@@ -22,7 +22,8 @@ pub enum Stage {
     InMessage,
 }
 
-// Which lines of the innermost open body were read last.
+// Which lines of the innermost open body were read last. NoBody is a state of its own, in which no
+// line of a body may stand, so it is no Option of a part.
 #[derive(Clone, Copy)]
 pub enum Part {
     Fields,
@@ -33,6 +34,7 @@ pub enum Part {
     NoBody,
 }
 
+// That at most 40 blocks are open is asked of a state and is no ghost field: `..state` takes none.
 #[derive(Clone, Copy)]
 pub struct State {
     pub stage: Stage,
@@ -116,6 +118,7 @@ fn close_block(state: State, number: u64, is_open: bool, stage: Stage) -> Result
     Err(Refusal::NotAllowed(number))
 }
 
+// Like `member_step` of layout_text in form alone: the parts of a body are others than a level's.
 fn field_step(state: State, number: u64) -> Result<State, Refusal>
     ensures { result ≡ field_step state number }
 {

@@ -28,7 +28,7 @@ pub fn check_field_table(fields: &[u32], message_len: usize) -> Result<(), Refus
 
 // A field table that is accepted for a message, both lent: three words a field, tag, first byte,
 // byte after the last, in the message (document 01, 'The events of a walk'). The Rust's slice of
-// FieldRef.
+// FieldRef. A method asks that the index is one of its rows, which ties its argument to the value.
 #[derive(Clone, Copy)]
 pub struct FieldTable<'a> {
     pub fields: &'a [u32],

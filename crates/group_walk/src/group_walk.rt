@@ -20,6 +20,7 @@ pub struct GroupEnd {
 }
 
 // The same for an entry, with its number of distinct direct members and whether one of them repeats.
+// No Option: the place and the flag are told of each entry.
 #[derive(Clone, Copy)]
 pub struct EntryEnd {
     pub next: usize,
@@ -60,6 +61,7 @@ pub fn walk_group(
     let mut cursor = index + 1;
     let mut entries: u64 = 0;
     let mut unparseable = false;
+    // no `for`, here and in the scans: an entry and a nested group move the cursor over their fields
     loop {
         match opening_at(table, spec, enclosing, declared, entries, cursor) {
             Turn::Over => break,

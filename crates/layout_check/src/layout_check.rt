@@ -1,5 +1,6 @@
 // The check of lent layout words: whether they begin with the arrangement of a layout that meets the
-// seven rules and the limits.
+// seven rules and the limits. What its parts ask of the number of groups stands in their clauses:
+// words that are no layout yet have no type.
 ghost use Rattle.std.specs.Prelude.{◌≡◌, ◌<◌, ◌≤◌, ◌&&◌, true, length};
 ghost use Rattle.std.specs.Option.{option_map};
 ghost use Rattle.ascii.specs.Notation.{◌≤ᵇ◌};

@@ -59,7 +59,8 @@ fn tag_of(line: LevelLine, required: bool) -> Option<u32>
     }
 }
 
-// Puts the tags of the lines of one kind that stand at `first` after the `count` tags of the row.
+// Puts the tags of the lines of one kind that stand at `first` after the `count` tags of the row. No
+// `for`: the place of the first other line is handed on.
 fn put_tags(text: &[u8], first: usize, required: bool, tags: &mut [u32], count: usize) -> TakenTags
     requires { (first ≤ length text.now) × (count + length (own_tags required (lines_at text.now first)) ≤ length tags.old) }
     ensures tags { tags.new ≡ sets tags.old count (own_tags required (lines_at text.now first)) }
@@ -106,7 +107,8 @@ fn put_ends(rows: &mut [u32], level: usize, parts: Parts)
     rows[first..first + 3].copy_from_slice(&ends);
 }
 
-// Puts the rows of the blocks that begin at `first` after those of `groups` others, and where the lines in each block begin.
+// Puts the rows of the blocks that begin at `first` after those of `groups` others, and where the
+// lines in each block begin. No `for`: a block's place is that of the iterator after its first line.
 fn put_groups(
     text: Text<'_>,
     first: usize,

@@ -19,6 +19,7 @@ pub enum Part {
     Blocks,
 }
 
+// That at most 40 blocks are open is asked of a state and is no ghost field: `..state` takes none.
 #[derive(Clone, Copy)]
 pub struct LevelState {
     pub part: Part,

@@ -8,7 +8,8 @@ ghost use Rattle.layouts.specs.LayoutCheck.{is_layout};
 
 use ascending::search::Ascending;
 
-// A number of words or a place among them, as a word.
+// A number of words or a place among them, as a word. No `try_from`: that the number fits is known, and
+// its Result would have no use.
 pub fn narrow(number: usize) -> u32
     requires { number < 4294967296 }
     ensures { result ≡ number }
@@ -27,7 +28,8 @@ pub fn stretch_at(words: &[u32], place: usize) -> &[u32]
 }
 
 // Lent words that passed the check of a layout (crate layout_check, `layout_of`). Level 0 is the
-// top, and level `number + 1` is the entry level of group `number`.
+// top, and level `number + 1` is the entry level of group `number`. A method asks that the group or the
+// level is one of the layout's: that ties its argument to the value, and stands in no type.
 #[derive(Clone, Copy)]
 pub struct Layout<'a> {
     pub words: &'a [u32],
@@ -52,7 +54,8 @@ impl<'a> Layout<'a> {
         self.words[7 + 3 * groups + number]
     }
 
-    // The delimiter of a group.
+    // The delimiter of a group. Each column of the groups' words has a function of its name: one that
+    // is told the column's number would be no plainer.
     pub fn delimiter_at(self, number: usize) -> u32
         requires { number < group_count self.words.now }
         ensures { result ≡ delimiter_at self.entry.words.now number }

@@ -1,4 +1,5 @@
-// The lines of the list, written as bytes into lent space (document 01, 'One list in full').
+// The lines of the list, written as bytes into lent space, since the gate has no heap (document 01,
+// 'One list in full').
 ghost use Rattle.std.specs.Prelude.{◌+◌, ◌≤◌, length};
 ghost use Rattle.list_lines.specs.ListLines.{numeral_of, labelled, type_line, kind_name, event_line, verdict_digits, verdict_line, refused_line};
 ghost use Rattle.list_lines.specs.ListLinesLaws.{Put};

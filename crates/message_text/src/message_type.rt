@@ -10,6 +10,7 @@ pub struct Stretch {
     pub past: usize,
 }
 
+// FIX's tag MsgType
 const MSG_TYPE: u32 = 35;
 
 // The first row of a field 35.

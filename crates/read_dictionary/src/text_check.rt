@@ -107,6 +107,7 @@ pub fn check_text(text: &[u8]) -> Result<Counts, Refusal>
     ensures outcome { result ≡ dictionary_text_of text.now }
 {
     let text = Text::new(text).ok_or(Refusal::TextTooLong)?;
+    // no heap: a line that defines something has at least five bytes, its line feed with it
     let mut tags = [0u32; 13108];
     let mut components = [0u32; 13108];
     let mut messages = [0u32; 13108];

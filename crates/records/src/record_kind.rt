@@ -36,7 +36,7 @@ impl From<RecordKind> for u32 {
     }
 }
 
-// The kind with this number.
+// The kind with this number. A match: Rattle turns no number into a case by itself.
 impl TryFrom<u32> for RecordKind {
     type Error = UnknownKind;
 

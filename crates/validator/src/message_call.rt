@@ -37,7 +37,7 @@ fn walk_level(
         (walk_of dictionary.entry.words.now layout.entry.words.now table.entry.fields.now table.entry.message.now) }
 {
     let defined = DefinedTags::new(defined_tags(dictionary));
-    let mut words = [0u64; 171];
+    let mut words = [0u64; 171]; // no heap: a bit for each of 10,922 defined tags
     let at = walk_fields(&defined, layout, table, &mut words, events);
     let seen = SeenSet {
         defined,
