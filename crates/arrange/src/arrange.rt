@@ -70,6 +70,7 @@ fn order_groups(
 }
 
 // Closes the row of a level: the delimiter of its group, and how many members, required tags and groups there are up to its end.
+// That the numbers fit a word is asked, since they are cast.
 fn close_row(
     rows: &mut [u32],
     level: usize,

@@ -39,6 +39,8 @@ fn open_component(names: &mut [u32], path: &[u32], name: u32) -> usize
 }
 
 // Adds what is left of the body that is open at `place`, a line at a time: fields, groups and uses.
+// No struct of `trace` and `builder`: the builder is given back by value, the trace is lent, and each
+// clause names what the one was and became beside the other.
 #[cycle(add_body_add_component_add_group)]
 pub fn add_body(
     dictionary: Dictionary<'_>,

@@ -19,7 +19,8 @@ use refusals::refusal::Refusal;
 use sorting::sort::sort_unstable;
 use texts::dictionary_text::{Counts, Defined, at_end, check_dictionary_text, defined_by};
 
-// Counts a line, and keeps the name that it defines after those of its kind.
+// Counts a line, and keeps the name that it defines after those of its kind. The names of each kind
+// stand in a space of their own, since each is sorted by itself.
 fn keep_name(
     counts: Counts,
     defined: Option<Defined>,

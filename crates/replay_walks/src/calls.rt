@@ -5,7 +5,8 @@ use validator::message_call::walk_message;
 use verdicts::verdicts_call::check_values;
 use walk::walk_call::walk_group;
 
-// The walk of the group with this count tag from the position on.
+// The walk of the group with this count tag from the position on. The block is read and the space is
+// lent by turns (`replay_call`), so they stand in no struct.
 pub fn group_given(block: &Block, position: usize, tag: u32, space: &mut [u64]) -> Given {
     let layout = block.layout.as_slice();
     let fields = block.fields.as_slice();

@@ -32,7 +32,8 @@ impl From<Verdict> for u64 {
     }
 }
 
-// Returns true if `value` has the form of its type, and in strict mode its ranges.
+// Returns true if `value` has the form of its type, and in strict mode its ranges. The type is the
+// definition's, the value the message's: no struct has both.
 fn has_format(field_type: FieldType, value: &[u8], strict: bool) -> bool
     ensures { result ≡ has_format strict field_type value.now }
 {

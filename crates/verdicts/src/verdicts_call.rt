@@ -9,7 +9,8 @@ use field_table::field_table::FieldTable;
 use refusals::refusal::Refusal;
 use verdict::verdict::{Verdict, check_value, record_of};
 
-// Writes the number of the record that defines each field's tag.
+// Writes the number of the record that defines each field's tag. That the space has a word for each
+// field ties the space to the table, and stands in no type of one of them.
 fn write_records(dictionary: Dictionary<'_>, table: FieldTable<'_>, verdicts: &mut [u64])
     requires fields_in_bounds { row_count table.fields.now ≤ length verdicts.old }
     ensures memory { verdicts.new ≡ filled_in (field_record dictionary.entry.words.now table.entry.fields.now)
