@@ -39,6 +39,7 @@ struct LinesRead {
 
 // Takes the lines of so many records, one after the other. A text with no block open may end after
 // them.
+// A slice of the records, in a struct with the bound, was tried: `is_dictionary` took 1.4 % more.
 fn take_lines(words: &[u32], lines: usize) -> Option<LinesRead>
     requires { (lines ≤ 4294967295) × (4 + 10 * lines ≤ length words.now) }
     ensures accepted { is_some result ≡ takes start 1 (lines_from lines (drop 4 words.now)) }
@@ -75,6 +76,7 @@ fn take_lines(words: &[u32], lines: usize) -> Option<LinesRead>
 
 // Whether the lines of records are those of an accepted text, but for what is defined again. The
 // bytes of the text are counted only where it may have too many.
+// A slice of the records, in a struct with the bound, was tried: `is_dictionary` took 1.4 % more.
 fn read_lines(words: &[u32], lines: usize) -> Option<LinesRead>
     requires { (lines ≤ 4294967295) × (4 + 10 * lines ≤ length words.now) }
     ensures accepted { is_some result ≡ accepts start 1 0 (lines_from lines (drop 4 words.now)) }
