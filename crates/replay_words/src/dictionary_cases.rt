@@ -58,5 +58,7 @@ fn replay_long(text: &[u8], lines: u32, space: &mut [u32]) -> Replayed {
     };
     let same = space.first() == Some(&lines);
     clear(space);
-    Replayed::from(same && is_short_of_one(&|lent| dictionary_given(text, lent), written.words, space))
+    Replayed::from(
+        same && is_short_of_one(&|lent| dictionary_given(text, lent), written.words, space),
+    )
 }
