@@ -1,11 +1,42 @@
 // The field table: three words a field, tag, first byte, byte after the last, in the message (document 01, 'The events of a walk'). The Rust's
 // slice of FieldRef.
 ghost use Rattle.std.specs.Prelude.{◌≡◌, ◌<◌, length, Ok, Err, MatchResult};
-ghost use Rattle.field_table.specs.FieldTable.{row_count, tag_of, table_check_of, fields_of};
+ghost use Rattle.field_table.specs.FieldTable.{row_count, tag_of, first_of, past_of, table_check_of, fields_of};
 ghost use Rattle.field_table.specs.WalkInput.{count_at};
 
 use counts::count::parse_count;
 use refusals::refusal::Refusal;
+
+// How many fields the table has.
+pub fn row_count(fields: &[u32]) -> usize
+    ensures { result ≡ row_count fields.now }
+{
+    fields.len() / 3
+}
+
+// The tag of the field at `index`.
+pub fn tag_at(fields: &[u32], index: usize) -> u32
+    requires { index < row_count fields.now }
+    ensures { result ≡ tag_of fields.now index }
+{
+    fields[3 * index]
+}
+
+// Where its value begins in the message.
+pub fn first_at(fields: &[u32], index: usize) -> usize
+    requires { index < row_count fields.now }
+    ensures { result ≡ first_of fields.now index }
+{
+    fields[3 * index + 1] as usize
+}
+
+// The place after its value.
+pub fn past_at(fields: &[u32], index: usize) -> usize
+    requires { index < row_count fields.now }
+    ensures { result ≡ past_of fields.now index }
+{
+    fields[3 * index + 2] as usize
+}
 
 // Checks the table against a message of so many bytes: words in threes, at most 4,096 fields, and each field inside the message.
 pub fn check_field_table(fields: &[u32], message_len: usize) -> Result<(), Refusal>
@@ -51,7 +82,7 @@ impl<'a> FieldTable<'a> {
     pub fn len(self) -> usize
         ensures { result ≡ row_count self.entry.fields.now }
     {
-        self.fields.len() / 3
+        row_count(self.fields)
     }
 
     // The tag of the field at `index`.
@@ -59,7 +90,7 @@ impl<'a> FieldTable<'a> {
         requires { index < row_count self.fields.now }
         ensures { result ≡ tag_of self.entry.fields.now index }
     {
-        self.fields[3 * index]
+        tag_at(self.fields, index)
     }
 
     // The value of the field at `index`, a part of the message.

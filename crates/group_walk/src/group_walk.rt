@@ -4,7 +4,7 @@ ghost use Rattle.walk_steps.specs.WalkWords.{GroupRead};
 ghost use Rattle.group_walk.specs.WalkPromises.{WalkAsks, Walks, ScanAsks, Scans};
 
 use ascending::search::Ascending;
-use entry_tags::entry_tags::{EntryTags, RankSet, WideEntryTags};
+use entry_tags::entry_tags::{EntryTags, WideEntryTags};
 use events::event::Kind;
 use field_table::field_table::FieldTable;
 use layouts::layout_words::Layout;
@@ -63,7 +63,7 @@ pub fn walk_group(
     let mut unparseable = false;
     // no `for`, here and in the scans: an entry and a nested group move the cursor over their fields
     loop {
-        match opening_at(table, spec, enclosing, declared, entries, cursor) {
+        match opening_at(table.fields, spec, enclosing, declared, entries, cursor) {
             Turn::Over => break,
             Turn::Entry => {}
             Turn::Lead(member) => {
@@ -121,7 +121,7 @@ fn scan_entry(
     let mut unparseable = false;
     let mut to = at;
     loop {
-        match step_at(table, spec, start, cursor) {
+        match step_at(table.fields, spec, start, cursor) {
             EntryStep::Stop => break,
             EntryStep::Plain(rank, member) => {
                 let (with, fresh) = seen.insert_rank(rank);
@@ -187,7 +187,7 @@ fn scan_wide(
     let mut unparseable = false;
     let mut to = at;
     loop {
-        match step_at(table, spec, start, cursor) {
+        match step_at(table.fields, spec, start, cursor) {
             EntryStep::Stop => break,
             EntryStep::Plain(rank, member) => {
                 let (with, fresh) = seen.insert_rank(rank);

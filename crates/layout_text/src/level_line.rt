@@ -17,7 +17,7 @@ pub enum LevelLine {
     GroupLine(u32, u32, bool),
     // end=COUNT
     EndLine,
-    // a line of no form known to a layout text: a refusal tells of it by its place, so it is a line too
+    // a line of no form known to a layout text: the lines are told of any text, and an accepted one has none
     OtherLine,
 }
 

@@ -9,7 +9,7 @@ ghost use Rattle.walk_steps.specs.WordSteps.{member_step, entry_step, lead_by, t
 
 use crate::layout_input::GroupSpec;
 use ascending::search::Ascending;
-use field_table::field_table::FieldTable;
+use field_table::field_table::{row_count, tag_at};
 
 // What the field at a cursor is to an entry.
 #[derive(Clone, Copy)]
@@ -45,14 +45,14 @@ fn taken_step(spec: GroupSpec<'_>, rank: usize, tag: u32) -> EntryStep
 }
 
 // What the field at the cursor is to an entry that begins at `start`. "One search answers both \"is it a member\" and its bitset slot."
-pub fn step_at(table: FieldTable<'_>, spec: GroupSpec<'_>, start: usize, cursor: usize) -> EntryStep
-    ensures { result ≡ entry_step table.entry.fields.now spec.entry.members.words.now
+pub fn step_at(fields: &[u32], spec: GroupSpec<'_>, start: usize, cursor: usize) -> EntryStep
+    ensures { result ≡ entry_step fields.now spec.entry.members.words.now
         spec.entry.tags.words.now spec.entry.first spec.entry.delimiter start cursor }
 {
-    if table.len() <= cursor {
+    if row_count(fields) <= cursor {
         return EntryStep::Stop;
     }
-    let tag = table.tag_at(cursor);
+    let tag = tag_at(fields, cursor);
     let Some(rank) = spec.members.binary_search(tag) else {
         return EntryStep::Stop;
     };
@@ -106,20 +106,20 @@ fn lead_at(
 
 // What the field at the cursor is to a group that has so many entries.
 pub fn opening_at(
-    table: FieldTable<'_>,
+    fields: &[u32],
     spec: GroupSpec<'_>,
     enclosing: Ascending<'_>,
     declared: Option<u64>,
     entries: u64,
     cursor: usize,
 ) -> Turn
-    ensures { result ≡ turn_at table.entry.fields.now spec.entry.members.words.now
+    ensures { result ≡ turn_at fields.now spec.entry.members.words.now
         enclosing.entry.words.now spec.entry.delimiter declared entries cursor }
 {
-    if table.len() <= cursor {
+    if row_count(fields) <= cursor {
         return Turn::Over;
     }
-    let tag = table.tag_at(cursor);
+    let tag = tag_at(fields, cursor);
     if tag != spec.delimiter {
         return lead_at(spec, enclosing, declared, entries, tag);
     }
