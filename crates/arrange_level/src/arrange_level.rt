@@ -2,6 +2,7 @@
 ghost use Rattle.std.specs.Prelude.{◌≡◌, ◌≤◌, length};
 ghost use Rattle.ascending.specs.Sort.{sorted};
 ghost use Rattle.ascending.specs.Dedup.{deduped, deduped_in};
+ghost use Rattle.expansion.specs.Trace.{tag_in, count_tag_in};
 ghost use Rattle.arrange_level.specs.ArrangeTrace.{own_at, kept_required, kept_in};
 ghost use Rattle.arrange_level.specs.ArrangeLevelLaws.{Passes, ReadRoom, OwnRead};
 
@@ -17,6 +18,20 @@ pub struct OwnLevel {
     pub required: usize,
     pub groups: usize,
     pub delimiter: u32,
+}
+
+// The tag in a word of the trace, whatever its step is.
+pub fn tag_in(word: u64) -> u32
+    ensures { result ≡ tag_in word }
+{
+    (word / 4 % 0x1_0000_0000) as u32
+}
+
+// The count tag in a word that enters a group, and the same part of any other word.
+pub fn count_tag_in(word: u64) -> u32
+    ensures { result ≡ count_tag_in word }
+{
+    (word / 8 % 0x1_0000_0000) as u32
 }
 
 // The place after the word that leaves the group that is open at `place`.

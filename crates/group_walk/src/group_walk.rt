@@ -63,7 +63,15 @@ pub fn walk_group(
     let mut unparseable = false;
     // no `for`, here and in the scans: an entry and a nested group move the cursor over their fields
     loop {
-        match opening_at(table.fields, spec, enclosing, declared, entries, cursor) {
+        match opening_at(
+            table.fields,
+            spec.members,
+            enclosing,
+            spec.delimiter,
+            declared,
+            entries,
+            cursor,
+        ) {
             Turn::Over => break,
             Turn::Entry => {}
             Turn::Lead(member) => {

@@ -58,8 +58,9 @@ impl<T: Copy, const N: usize> Stack<T, N> {
         self.len += 1;
     }
 
+    // An empty stack gives none and stays empty.
     pub fn pop(&mut self) -> Option<T>
-        ensures { MatchOption result (self.old ≡ []) (λ item. self.old ≡ self.new ++ item ∷ []) }
+        ensures { MatchOption result ((self.old ≡ []) × (self.new ≡ [])) (λ item. self.old ≡ self.new ++ item ∷ []) }
     {
         if self.len == 0 {
             return None;

@@ -83,19 +83,19 @@ fn ends_group(declared: Option<u64>, entries: u64, enclosing: Ascending<'_>, tag
 
 // A field other than the delimiter: a member ahead of any delimiter, or not the group's.
 fn lead_at(
-    spec: GroupSpec<'_>,
+    members: Ascending<'_>,
     enclosing: Ascending<'_>,
     declared: Option<u64>,
     entries: u64,
     tag: u32,
 ) -> Turn
-    ensures { result ≡ lead_by (eqb entries 0) (tag ∈ᵇ spec.entry.members.words.now)
+    ensures { result ≡ lead_by (eqb entries 0) (tag ∈ᵇ members.entry.words.now)
         (ends_group declared entries (among enclosing.entry.words.now) tag) tag }
 {
     if entries != 0 {
         return Turn::Over;
     }
-    let Some(_) = spec.members.binary_search(tag) else {
+    let Some(_) = members.binary_search(tag) else {
         return Turn::Over;
     };
     if ends_group(declared, entries, enclosing, tag) {
@@ -107,21 +107,22 @@ fn lead_at(
 // What the field at the cursor is to a group that has so many entries.
 pub fn opening_at(
     fields: &[u32],
-    spec: GroupSpec<'_>,
+    members: Ascending<'_>,
     enclosing: Ascending<'_>,
+    delimiter: u32,
     declared: Option<u64>,
     entries: u64,
     cursor: usize,
 ) -> Turn
-    ensures { result ≡ turn_at fields.now spec.entry.members.words.now
-        enclosing.entry.words.now spec.entry.delimiter declared entries cursor }
+    ensures { result ≡ turn_at fields.now members.entry.words.now
+        enclosing.entry.words.now delimiter declared entries cursor }
 {
     if row_count(fields) <= cursor {
         return Turn::Over;
     }
     let tag = tag_at(fields, cursor);
-    if tag != spec.delimiter {
-        return lead_at(spec, enclosing, declared, entries, tag);
+    if tag != delimiter {
+        return lead_at(members, enclosing, declared, entries, tag);
     }
     if ends_group(declared, entries, enclosing, tag) {
         return Turn::Over;

@@ -34,7 +34,7 @@ loop-line-preserved-in-GroupLine c =
 pub loop-line-preserved-in_default-pop : goal.loop-line-preserved-in_default-pop
 loop-line-preserved-in_default-pop c =
     let next = rw c.loop-line.invariant.0 at c.in-Some.ensures.steps.1 in
-    absurd (end-open _ _ _ _ _ c.loop-line.invariant.1 c.in-Some.line c.next.new.self.first next c.in-EndLine.is c.in_default-pop.ensures)
+    absurd (end-open _ _ _ _ _ c.loop-line.invariant.1 c.in-Some.line c.next.new.self.first next c.in-EndLine.is c.in_default-pop.ensures.0)
 
 pub loop-line-preserved : goal.loop-line-preserved
 loop-line-preserved c =
