@@ -2,33 +2,35 @@
 // with a space between them.
 #![tactic(auto)]
 
-use files::file::say_unread;
+use files::file::read_file;
 use list_files::print::print_list;
+use std::io;
 use std::rt::Files;
-use std::{fs, io};
 
 fn main(rt: HostRuntime) -> io::Result<()> {
-    match fs::read_to_string(&rt, "cases.txt") {
-        Ok(cases) => print_cases(&rt, cases.as_str()),
-        Err(error) => {
-            say_unread(&rt, b"cases.txt", error);
-            Ok(())
-        }
+    // no heap: what stands in the file after so many bytes is not read
+    let mut space = [0u8; 16384];
+    match read_file(&rt, b"cases.txt", &mut space) {
+        Some(cases) => print_cases(&rt, cases),
+        None => Ok(()),
     }
 }
 
-fn print_cases<R: Files + Print + Eprint>(rt: &R, cases: &str) -> io::Result<()> {
-    for line in cases.lines() {
-        print_case(rt, line)?;
+// A line is its bytes, whatever they are: also those of a name that is not UTF-8.
+fn print_cases<R: Files + Print + Eprint>(rt: &R, cases: &[u8]) -> io::Result<()> {
+    for line in cases.split_inclusive(|byte| *byte == b'\n') {
+        print_case(rt, line.strip_suffix(b"\n").unwrap_or(line))?;
     }
     Ok(())
 }
 
 // The case's line after `-- `, then its list.
-fn print_case<R: Files + Print + Eprint>(rt: &R, line: &str) -> io::Result<()> {
-    println!(rt; "-- {line}")?;
-    match line.split_once(' ') {
-        Some((dictionary, message)) => print_list(rt, dictionary.as_bytes(), message.as_bytes()),
+fn print_case<R: Files + Print + Eprint>(rt: &R, line: &[u8]) -> io::Result<()> {
+    rt.write_all(b"-- ")?;
+    rt.write_all(line)?;
+    rt.write_all(b"\n")?;
+    match line.iter().position(|byte| *byte == b' ') {
+        Some(space) => print_list(rt, &line[..space], &line[space + 1..]),
         None => Ok(()),
     }
 }

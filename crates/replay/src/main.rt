@@ -32,7 +32,7 @@ fn main(rt: HostRuntime) -> io::Result<()> {
         &rt,
         "check_dictionary_text",
         b"read_dictionary.cases",
-        DictionaryTextCases { alloc },
+        DictionaryTextCases::new(alloc),
     )?;
     replay(
         &rt,
@@ -44,7 +44,7 @@ fn main(rt: HostRuntime) -> io::Result<()> {
         &rt,
         "check_layout_text",
         b"read_layout.cases",
-        LayoutTextCases { alloc },
+        LayoutTextCases::new(alloc),
     )?;
     replay(
         &rt,

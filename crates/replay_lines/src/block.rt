@@ -1,39 +1,109 @@
 // What cases run on: lines before them give the words of a dictionary, of a layout and of a field
 // table, and the bytes of a message.
 use crate::cases::NotReplayed;
-use crate::recorded_values::{read_bytes, read_numbers};
+use crate::recorded_values::{read_numbers, read_pairs};
 use std::alloc::Global;
 
+// Each is None where its line is of no known form.
 #[derive(Drop)]
 pub struct Block {
     alloc: Global,
-    pub dictionary: Vec<u32>,
-    pub layout: Vec<u32>,
-    pub fields: Vec<u32>,
-    pub message: Vec<u8>,
+    pub dictionary: Option<Vec<u32>>,
+    pub layout: Option<Vec<u32>>,
+    pub fields: Option<Vec<u32>>,
+    pub message: Option<Vec<u8>>,
 }
+
+// The parts of a block whose lines are all of a known form.
+#[derive(Clone, Copy)]
+pub struct Parts<'a> {
+    pub dictionary: &'a [u32],
+    pub layout: &'a [u32],
+    pub fields: &'a [u32],
+    pub message: &'a [u8],
+}
+
+// How many words there are at most, of a dictionary, and of a layout or a field table.
+pub const DICTIONARY_WORDS: usize = 65536;
+
+pub const OTHER_WORDS: usize = 16384;
 
 impl Block {
     pub fn new(alloc: Global) -> Self {
         Self {
             alloc,
-            dictionary: Vec::new(alloc),
-            layout: Vec::new(alloc),
-            fields: Vec::new(alloc),
-            message: Vec::new(alloc),
+            dictionary: Some(Vec::new(alloc)),
+            layout: Some(Vec::new(alloc)),
+            fields: Some(Vec::new(alloc)),
+            message: Some(Vec::new(alloc)),
         }
     }
 
-    // Takes what a line gives whose first word is `dictionary`, `layout`, `fields` or `message`.
-    pub fn read_part(&mut self, kind: &str, text: &str) -> Result<(), NotReplayed> {
+    // Takes what a line gives whose first word begins as `dictionary`, `layout`, `fields` or
+    // `message`.
+    pub fn read_part(&mut self, kind: &[u8], text: &[u8]) -> Result<(), NotReplayed> {
         let alloc = self.alloc;
-        match kind {
-            "dictionary" => self.dictionary = read_numbers(alloc, text)?,
-            "layout" => self.layout = read_numbers(alloc, text)?,
-            "fields" => self.fields = read_numbers(alloc, text)?,
-            "message" => self.message = read_bytes(alloc, text)?,
+        match kind.first() {
+            Some(b'd') => {
+                self.dictionary = None;
+                self.dictionary = Some(read_words(alloc, text, DICTIONARY_WORDS)?);
+            }
+            Some(b'l') => {
+                self.layout = None;
+                self.layout = Some(read_words(alloc, text, OTHER_WORDS)?);
+            }
+            Some(b'f') => {
+                self.fields = None;
+                self.fields = Some(read_words(alloc, text, OTHER_WORDS)?);
+            }
+            Some(b'm') => {
+                self.message = None;
+                self.message = Some(read_pairs(alloc, text)?);
+            }
             _ => return Err(NotReplayed::NoForm),
         }
         Ok(())
+    }
+
+    // The words of a dictionary that there is no room for stand in the place of those of the layout
+    // and of the field table.
+    pub fn write_over(&mut self, words: &[u32]) {
+        put_over(&mut self.layout, words);
+        if let Some(rest) = words.get(OTHER_WORDS..) {
+            put_over(&mut self.fields, rest);
+        }
+    }
+
+    pub fn parts(&self) -> Result<Parts<'_>, NotReplayed> {
+        Ok(Parts {
+            dictionary: slice_of(&self.dictionary)?,
+            layout: slice_of(&self.layout)?,
+            fields: slice_of(&self.fields)?,
+            message: slice_of(&self.message)?,
+        })
+    }
+}
+
+// Puts the words over the first that the part has.
+fn put_over(part: &mut Option<Vec<u32>>, words: &[u32]) {
+    if let Some(part) = part {
+        for (old, word) in part.as_mut_slice().iter_mut().zip(words) {
+            *old = *word;
+        }
+    }
+}
+
+fn read_words(alloc: Global, text: &[u8], most: usize) -> Result<Vec<u32>, NotReplayed> {
+    let words = read_numbers::<u32>(alloc, text)?;
+    if most < words.len() {
+        return Err(NotReplayed::NoForm);
+    }
+    Ok(words)
+}
+
+fn slice_of<T>(part: &Option<Vec<T>>) -> Result<&[T], NotReplayed> {
+    match part {
+        Some(words) => Ok(words.as_slice()),
+        None => Err(NotReplayed::NoForm),
     }
 }

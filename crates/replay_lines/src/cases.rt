@@ -64,5 +64,5 @@ impl From<ParseIntError> for NotReplayed {
 // The cases of a recorded list, replayed line by line.
 pub trait Cases: Drop {
     // How the line's case went; None where the line only gives what cases run on.
-    fn replay(&mut self, line: &str) -> Result<Option<Replayed>, NotReplayed>;
+    fn replay(&mut self, line: &[u8]) -> Result<Option<Replayed>, NotReplayed>;
 }

@@ -1,11 +1,10 @@
 // What a call gave, beside what was recorded of it.
-ghost use Rattle.std.specs.Prelude.{◌≡◌, ◌↔◌, ◌⊎◌, IsTrue, IsSome, IfOk, MatchResult, false, codes, nat_eq};
-ghost use Rattle.std.specs.List.{starts_with};
+ghost use Rattle.std.specs.Prelude.{◌≡◌, ◌↔◌, IsTrue, MatchResult, false, codes, take};
 ghost use Rattle.refusals.specs.Refusal.{refusal_number, refusal_place};
 ghost use Rattle.refusals.specs.declared.refusal.Refusal.TheVariants.{SpaceShort};
 
-use crate::cases::NotReplayed;
 use crate::recorded_values::first_word;
+use counts::count::parse_count;
 use refusals::refusal::Refusal;
 
 // What a call wrote: how many words, and the number that it tells beside them: the nodes of an
@@ -67,25 +66,20 @@ impl From<Refusal> for Refused {
 }
 
 impl Refused {
-    // Refused with 10 or 11: the lines of a layout text are in order, but make no layout.
-    pub fn is_of_layout(self) -> bool
-        ensures { IsTrue result ↔ ((self.number ≡ 10) ⊎ (self.number ≡ 11)) }
-    {
-        self.number == 10 || self.number == 11
+    // The refusal whose number and place the text has, with a space between them; None where it has
+    // another form.
+    pub fn recorded(text: &[u8]) -> Option<Self> {
+        let (number, place) = first_word(text).ok()?;
+        Some(Self {
+            number: parse_count(number)?,
+            place: parse_count(place)?,
+        })
     }
+}
 
-    // The refusal that an answer `refused NUMBER PLACE` records; None where it is no refusal.
-    pub fn recorded(answer: &str) -> Result<Option<Self>, NotReplayed>
-        ensures { IfOk result (λ recorded.
-            IsSome recorded ↔ IsTrue (starts_with nat_eq answer.now (codes "refused "))) }
-    {
-        let Some(refused) = answer.strip_prefix("refused ") else {
-            return Ok(None);
-        };
-        let (number, place) = first_word(refused)?;
-        Ok(Some(Self {
-            number: number.parse()?,
-            place: place.parse()?,
-        }))
-    }
+// Whether an answer is a refusal: it begins with an r.
+pub fn is_refusal(answer: &[u8]) -> bool
+    ensures { IsTrue result ↔ (take 1 answer.now ≡ codes "r") }
+{
+    answer.starts_with(b"r")
 }

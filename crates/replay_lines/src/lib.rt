@@ -5,6 +5,7 @@
 pub mod block;
 pub mod cases;
 pub mod given;
+pub mod lines;
 pub mod recorded_files;
 pub mod recorded_values;
 #[cfg(test)]

@@ -1,9 +1,10 @@
 // A recorded list, replayed line by line.
 use crate::cases::{Cases, NotReplayed, Replayed};
+use crate::lines::{first_line, next_line};
 use files::file::{open_named, say_unread};
 use std::alloc::AllocError;
 use std::io;
-use std::io::{BufRead, BufReader, Read};
+use std::io::Read;
 use std::rt::Files;
 
 // How many cases ran, how many of them differ, and how many lines are of no known form.
@@ -30,16 +31,32 @@ pub fn replay_file<R: Files + Print + Eprint + AllocGlobal, C: Cases>(
     }
 }
 
-// Replays the list that the file holds, which is open.
+// Replays the list that the file holds, which is open, in room for its longest line.
 fn replay_open<R: Print + AllocGlobal, F: Read + Drop, C: Cases>(
     rt: &R,
-    file: F,
+    mut file: F,
+    cases: C,
+) -> io::Result<Tally> {
+    let mut buffer = vec![in rt.alloc(); 0u8; 131072]?;
+    replay_lines(rt, &mut file, buffer.as_mut_slice(), cases)
+}
+
+// A proved loop has to end, and nothing says that a file does: it takes as many turns as no run
+// uses up.
+fn replay_lines<R: Print, F: Read, C: Cases>(
+    rt: &R,
+    file: &mut F,
+    buffer: &mut [u8],
     mut cases: C,
 ) -> io::Result<Tally> {
     let mut tally = Tally::default();
-    for line in BufReader::new(rt.alloc(), file)?.lines(rt.alloc()) {
-        let line = line?;
-        replay_line(rt, line.as_str(), &mut cases, &mut tally)?;
+    let mut line = first_line(file, buffer);
+    for _ in 0..0xffff_ffffu64 {
+        let Some(read) = line else {
+            return Ok(tally);
+        };
+        replay_line(rt, &buffer[read.first..read.past], &mut cases, &mut tally)?;
+        line = next_line(file, buffer, read);
     }
     Ok(tally)
 }
@@ -48,11 +65,11 @@ fn replay_open<R: Print + AllocGlobal, F: Read + Drop, C: Cases>(
 // begins with # is a comment.
 fn replay_line<R: Print, C: Cases>(
     rt: &R,
-    line: &str,
+    line: &[u8],
     cases: &mut C,
     tally: &mut Tally,
 ) -> io::Result<()> {
-    if line.is_empty() || line.starts_with('#') {
+    if line.is_empty() || line.starts_with(b"#") {
         return Ok(());
     }
     let replayed = match cases.replay(line) {
@@ -61,14 +78,20 @@ fn replay_line<R: Print, C: Cases>(
         Err(NotReplayed::NoForm) => {
             tally.cases = tally.cases.wrapping_add(1);
             tally.unread = tally.unread.wrapping_add(1);
-            return println!(rt; "of no known form: {line}");
+            return print_line(rt, b"of no known form: ", line);
         }
         Err(NotReplayed::OutOfMemory) => return Err(io::Error::from(AllocError)),
     };
     tally.cases = tally.cases.wrapping_add(1);
     if replayed == Replayed::Differs {
         tally.differ = tally.differ.wrapping_add(1);
-        return println!(rt; "differs: {line}");
+        return print_line(rt, b"differs: ", line);
     }
     Ok(())
+}
+
+fn print_line<R: Print>(rt: &R, what: &[u8], line: &[u8]) -> io::Result<()> {
+    rt.write_all(what)?;
+    rt.write_all(line)?;
+    rt.write_all(b"\n")
 }

@@ -1,46 +1,102 @@
-// Values in the recorded lists: bytes in hexadecimal, `-` for no bytes, and decimal numbers with
-// spaces between them.
-ghost use Rattle.std.specs.Prelude.{◌≡◌, ◌≢◌, ◌==◌, [], ◌++◌, ◌∷◌, IfOk, codes};
+// Values in the recorded lists: bytes in lower-case hexadecimal, `-` for no bytes, and decimal
+// numbers with single spaces between them.
+ghost use Rattle.std.specs.Prelude.{◌≡◌, ◌≢◌, ◌==◌, [], ◌++◌, ◌∷◌, ◌↔◌, IfOk, IsTrue, codes, position};
 ghost use Rattle.std.specs.List.{before_first, after_first};
 ghost use Rattle.hex.specs.Hex.{decode_of};
+ghost use Rattle.counts.specs.Count.{count_of};
 
 use crate::cases::NotReplayed;
+use counts::count::parse_count;
 use std::alloc::Global;
 use std::num::ParseIntError;
 use std::str::FromStr;
 
-pub fn read_bytes(alloc: Global, text: &str) -> Result<Vec<u8>, NotReplayed>
+pub fn read_bytes(alloc: Global, text: &[u8]) -> Result<Vec<u8>, NotReplayed>
     ensures none { text.now ≡ codes "-" → IfOk result (λ bytes. bytes.items ≡ []) }
     ensures some { text.now ≢ codes "-" →
         IfOk result (λ bytes. decode_of text.now ≡ Ok bytes.items) }
 {
-    if text == "-" {
+    if text == b"-".as_slice() {
         return Ok(Vec::new(alloc));
     }
     Ok(hex::decode(alloc, text)?)
 }
 
+// The bytes as a list has them: no byte for one alone, as for `-`, and a digit that no other
+// follows is passed over. No digit is in upper case.
+pub fn read_pairs(alloc: Global, text: &[u8]) -> Result<Vec<u8>, NotReplayed> {
+    if text.len() == 1 {
+        return Ok(Vec::new(alloc));
+    }
+    let pairs = &text[..text.len() / 2 * 2];
+    if pairs.iter().any(|byte| byte.is_ascii_uppercase()) {
+        return Err(NotReplayed::NoForm);
+    }
+    read_bytes(alloc, pairs)
+}
+
+// More numbers than this are on no line of a list.
+const NUMBERS: usize = 24576;
+
 pub fn read_numbers<W: FromStr<Err = ParseIntError> + Drop>(
     alloc: Global,
-    text: &str,
+    text: &[u8],
 ) -> Result<Vec<W>, NotReplayed> {
-    text.split_ascii_whitespace()
-        .map(|word| -> Result<W, NotReplayed> { Ok(word.parse::<W>()?) })
-        .try_collect(alloc)
+    if text.is_empty() {
+        return Ok(Vec::new(alloc));
+    }
+    let numbers: Vec<W> = text
+        .strip_suffix(b" ")
+        .unwrap_or(text)
+        .split(|byte| *byte == b' ')
+        .map(|word| -> Result<W, NotReplayed> { read_number::<W>(word) })
+        .try_collect(alloc)?;
+    if NUMBERS < numbers.len() {
+        return Err(NotReplayed::NoForm);
+    }
+    Ok(numbers)
+}
+
+// A number in digits alone.
+fn read_number<W: FromStr<Err = ParseIntError> + Drop>(word: &[u8]) -> Result<W, NotReplayed> {
+    match str::from_utf8(word) {
+        Ok(digits) if !digits.starts_with('+') => Ok(digits.parse::<W>()?),
+        _ => Err(NotReplayed::NoForm),
+    }
+}
+
+// Whether the number is the one recorded.
+pub fn same_number(number: u64, recorded: &[u8]) -> bool
+    ensures { IsTrue result ↔ (count_of recorded.now ≡ Some number) }
+{
+    parse_count(recorded) == Some(number)
+}
+
+// Where the line's first space stands.
+fn space_in(line: &[u8]) -> Option<usize>
+    ensures { result ≡ position (λ byte. byte == 32) line.now }
+{
+    line.iter().position(|byte| *byte == b' ')
 }
 
 // The line's first word, and what follows it and a space: nothing where there is no space.
-pub fn split_kind(line: &str) -> (&str, &str)
+pub fn split_kind(line: &[u8]) -> (&[u8], &[u8])
     ensures word { result.0.now ≡ before_first (λ byte. byte == 32) line.now }
     ensures rest { result.1.now ≡ after_first (λ byte. byte == 32) line.now }
 {
-    line.split_once(' ').unwrap_or((line, ""))
+    match space_in(line) {
+        Some(space) => (&line[..space], &line[space + 1..]),
+        None => (line, &line[line.len()..]),
+    }
 }
 
 // The same, where something has to follow.
-pub fn first_word(line: &str) -> Result<(&str, &str), NotReplayed>
+pub fn first_word(line: &[u8]) -> Result<(&[u8], &[u8]), NotReplayed>
     ensures parts { IfOk result (λ parts. line.now ≡ parts.0.now ++ 32 ∷ parts.1.now) }
     ensures word { IfOk result (λ parts. parts.0.now ≡ before_first (λ byte. byte == 32) line.now) }
 {
-    line.split_once(' ').ok_or(NotReplayed::NoForm)
+    match space_in(line) {
+        Some(space) => Ok((&line[..space], &line[space + 1..])),
+        None => Err(NotReplayed::NoForm),
+    }
 }

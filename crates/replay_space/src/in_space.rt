@@ -19,7 +19,8 @@ pub fn replay_written<W: Word, F: Fn(&mut [W]) -> Given>(
     }
     let just = writes(&call, number, words, &mut space[..needed]);
     let ample = writes(&call, number, words, space);
-    Replayed::from(just && ample && is_short_of_one(&call, needed, space))
+    let short = is_short_of_one(&call, needed, &mut space[..needed]);
+    Replayed::from(just && ample && short)
 }
 
 // The call writes just these words. The space is made as it was before.
@@ -61,16 +62,19 @@ pub fn is_short_of_one<W: Word, F: Fn(&mut [W]) -> Given>(
     is_short(given, needed) && is_unwritten(space)
 }
 
-// With space and with none the refusal is the one recorded, and nothing is written.
+// With space and with none the refusal is the one recorded, if one is, and nothing is written.
 pub fn replay_refused<W: Word, F: Fn(&mut [W]) -> Given>(
     call: F,
-    refused: Refused,
+    recorded: Option<Refused>,
     space: &mut [W],
 ) -> Replayed
     requires { F.IsAlwaysCallable call }
 {
     let in_space = call(space);
     let in_none = call(&mut space[..0]);
+    let Some(refused) = recorded else {
+        return Replayed::Differs;
+    };
     Replayed::from(
         is_refused_as(in_space, refused) && is_refused_as(in_none, refused) && is_unwritten(space),
     )

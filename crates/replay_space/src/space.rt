@@ -1,6 +1,6 @@
 // Space for words that a call is lent, and what it holds where none was written.
 ghost use Rattle.std.proofs.Common.{rules};
-ghost use Rattle.std.specs.Prelude.{◌≡◌, ℕ, ◌↔◌, IsTrue, All, IfOk, length, take, drop, replicate};
+ghost use Rattle.std.specs.Prelude.{◌≡◌, ℕ, ◌↔◌, ◌≤◌, ◌<◌, ◌++◌, IsTrue, All, IfOk, length, take, drop, replicate};
 ghost use Rattle.std.specs.Bool.{Decides};
 
 use std::alloc::{AllocError, Global};
@@ -63,16 +63,21 @@ pub fn make_space<W: Word>(alloc: Global) -> Result<Vec<W>, AllocError>
     vec![in alloc; W::UNWRITTEN; W::MOST]
 }
 
-// The space holds these words at its start and none after them. It is made as it was before.
+// The space holds these words at its start and none after them. Where they stand it is made as it was
+// before; a word that is written after them stays, so that each later case in the space differs too.
 pub fn took_words<W: Word>(space: &mut [W], words: &[W]) -> bool
     ensures took { IsTrue result ↔ (
         (take (length words.now) space.old ≡ words.now)
         × All (λ word. word ≡ W.UNWRITTEN) (drop (length words.now) space.old)
         ) }
-    ensures cleared { space.new ≡ replicate (length space.old) W.UNWRITTEN }
+    ensures cleared { length words.now ≤ length space.old →
+        space.new ≡ replicate (length words.now) W.UNWRITTEN ++ drop (length words.now) space.old }
+    ensures short { length space.old < length words.now → space.new ≡ space.old }
 {
     let took = holds(space, words);
-    clear(space);
+    if words.len() <= space.len() {
+        clear(&mut space[..words.len()]);
+    }
     took
 }
 

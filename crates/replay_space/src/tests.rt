@@ -42,13 +42,13 @@ fn replays_a_refusal(rt: HostRuntime) -> Result<(), Fail> {
     let refused = Refused::from(Refusal::MembersOver);
     let replayed = replay_refused(
         |_lent: &mut [u32]| Err(Refusal::MembersOver),
-        refused,
+        Some(refused),
         space.as_mut_slice(),
     );
     assert_eq!(rt; replayed, Replayed::Same);
     let replayed = replay_refused(
         |_lent: &mut [u32]| Err(Refusal::TypeNotDefined),
-        refused,
+        Some(refused),
         space.as_mut_slice(),
     );
     assert_eq!(rt; replayed, Replayed::Differs);

@@ -1,7 +1,8 @@
 // Cases of `parse_count`: the value in hexadecimal, then the number that the Rust gave, or `none`.
 use counts::count::parse_count;
+use itoa::Buffer;
 use replay_lines::cases::{Cases, NotReplayed, Replayed};
-use replay_lines::recorded_values::{first_word, read_bytes};
+use replay_lines::recorded_values::{first_word, read_pairs};
 use std::alloc::Global;
 
 #[derive(Drop)]
@@ -9,15 +10,25 @@ pub struct CountCases {
     pub alloc: Global,
 }
 
+// A value has at most so many bytes.
+const VALUE_BYTES: usize = 64;
+
 impl Cases for CountCases {
-    fn replay(&mut self, line: &str) -> Result<Option<Replayed>, NotReplayed> {
+    fn replay(&mut self, line: &[u8]) -> Result<Option<Replayed>, NotReplayed> {
         let (value, answer) = first_word(line)?;
-        let value = read_bytes(self.alloc, value)?;
-        let recorded = match answer {
-            "none" => None,
-            number => Some(number.parse::<u64>()?),
-        };
-        let same = parse_count(value.as_slice()) == recorded;
+        let value = read_pairs(self.alloc, value)?;
+        if VALUE_BYTES < value.len() {
+            return Err(NotReplayed::NoForm);
+        }
+        let same = is_recorded(parse_count(value.as_slice()), answer);
         Ok(Some(Replayed::from(same)))
+    }
+}
+
+// Whether the answer is the one recorded: decimal digits, or `none`.
+fn is_recorded(count: Option<u64>, answer: &[u8]) -> bool {
+    match count {
+        Some(number) => Buffer::new().format(number).as_bytes() == answer,
+        None => answer.len() == 4 && answer.starts_with(b"n"),
     }
 }

@@ -2,64 +2,82 @@
 // of lines, or `refused` with the number and the place. After the number of lines of a dictionary
 // text stand its words, which replay_words compares; those of a layout text stand on a line of their
 // own.
-use crate::recorded_text::read_text;
+use crate::recorded_text::TextAbove;
 use layout_text::layout_text::check_layout_text;
 use replay_lines::cases::{Cases, NotReplayed, Replayed};
-use replay_lines::given::Refused;
-use replay_lines::recorded_values::split_kind;
+use replay_lines::given::{Refused, is_refusal};
+use replay_lines::recorded_values::{same_number, split_kind};
+use refusals::refusal::Refusal;
 use std::alloc::Global;
 use texts::dictionary_text::check_dictionary_text;
 
 #[derive(Drop)]
 pub struct DictionaryTextCases {
-    pub alloc: Global,
+    text: TextAbove,
+}
+
+impl DictionaryTextCases {
+    pub fn new(alloc: Global) -> Self {
+        Self {
+            text: TextAbove::new(alloc),
+        }
+    }
 }
 
 impl Cases for DictionaryTextCases {
-    fn replay(&mut self, line: &str) -> Result<Option<Replayed>, NotReplayed> {
-        let (text, answer) = read_text(self.alloc, line)?;
-        let lines = check_dictionary_text(text.as_slice()).map(|counts| counts.lines);
-        let same = match Refused::recorded(answer)? {
-            Some(refused) => lines.is_err_and(|refusal| Refused::from(refusal) == refused),
-            None => {
-                let recorded = accepted_lines(answer)?;
-                lines.is_ok_and(|lines| lines == recorded)
-            }
+    fn replay(&mut self, line: &[u8]) -> Result<Option<Replayed>, NotReplayed> {
+        let (text, answer) = self.text.read(line)?;
+        let recorded = split_kind(answer).1;
+        let same = match check_dictionary_text(text) {
+            Ok(counts) => is_accepted(answer) && same_number(counts.lines, split_kind(recorded).0),
+            Err(refusal) => is_recorded(refusal, answer),
         };
         Ok(Some(Replayed::from(same)))
     }
 }
 
-// The number of lines after the word `accepted`.
-fn accepted_lines(answer: &str) -> Result<u64, NotReplayed> {
-    let accepted = answer.strip_prefix("accepted ").ok_or(NotReplayed::NoForm)?;
-    let (lines, _) = split_kind(accepted);
-    Ok(lines.parse()?)
+fn is_accepted(answer: &[u8]) -> bool {
+    answer.starts_with(b"a")
+}
+
+// Whether the answer is this refusal.
+fn is_recorded(refusal: Refusal, answer: &[u8]) -> bool {
+    is_refusal(answer) && Refused::recorded(split_kind(answer).1) == Some(Refused::from(refusal))
 }
 
 #[derive(Drop)]
 pub struct LayoutTextCases {
-    pub alloc: Global,
+    text: TextAbove,
+}
+
+impl LayoutTextCases {
+    pub fn new(alloc: Global) -> Self {
+        Self {
+            text: TextAbove::new(alloc),
+        }
+    }
 }
 
 // The order of a layout text's lines; a text that is refused with 10 or 11 has its lines in order.
 impl Cases for LayoutTextCases {
-    fn replay(&mut self, line: &str) -> Result<Option<Replayed>, NotReplayed> {
-        if line.starts_with("words") {
+    fn replay(&mut self, line: &[u8]) -> Result<Option<Replayed>, NotReplayed> {
+        let (text, answer) = self.text.read(line)?;
+        if line.starts_with(b"w") {
             return Ok(None);
         }
-        let (text, answer) = read_text(self.alloc, line)?;
-        let lines = check_layout_text(text.as_slice());
-        let same = match Refused::recorded(answer)? {
-            Some(refused) => match lines {
-                Ok(_) => refused.is_of_layout(),
-                Err(refusal) => Refused::from(refusal) == refused,
-            },
-            None => {
-                let recorded = accepted_lines(answer)?;
-                lines.is_ok_and(|lines| lines == recorded)
-            }
+        let same = match check_layout_text(text) {
+            Ok(lines) => is_ordered(lines, answer),
+            Err(refusal) => is_recorded(refusal, answer),
         };
         Ok(Some(Replayed::from(same)))
     }
+}
+
+// Recorded as accepted with so many lines, or refused with a number of two digits: 10 or 11.
+fn is_ordered(lines: u64, answer: &[u8]) -> bool {
+    let recorded = split_kind(answer).1;
+    if is_accepted(answer) {
+        return same_number(lines, recorded);
+    }
+    split_kind(recorded).0.len() == 2
 }

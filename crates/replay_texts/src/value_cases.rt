@@ -3,7 +3,7 @@
 use field_types::field_type::FieldType;
 use formats::field_value::{is_strict_value, is_valid_value};
 use replay_lines::cases::{Cases, NotReplayed, Replayed};
-use replay_lines::recorded_values::{first_word, read_bytes};
+use replay_lines::recorded_values::read_pairs;
 use std::alloc::Global;
 
 #[derive(Drop)]
@@ -11,26 +11,37 @@ pub struct ValueCases {
     pub alloc: Global,
 }
 
+// A value has at most so many bytes.
+const VALUE_BYTES: usize = 512;
+
 impl Cases for ValueCases {
-    fn replay(&mut self, line: &str) -> Result<Option<Replayed>, NotReplayed> {
-        let (number, rest) = first_word(line)?;
-        let (value, answers) = first_word(rest)?;
-        let (plain, strict) = first_word(answers)?;
-        let field_type = FieldType::try_from(number.parse::<usize>()?).or(Err(
-            NotReplayed::NoForm,
-        ))?;
-        let value = read_bytes(self.alloc, value)?;
+    fn replay(&mut self, line: &[u8]) -> Result<Option<Replayed>, NotReplayed> {
+        let [tens, ones, _, value @ .., space, plain, _, strict] = line else {
+            return Err(NotReplayed::NoForm);
+        };
+        if *space != b' ' || value.is_empty() || value.contains(&b' ') {
+            return Err(NotReplayed::NoForm);
+        }
+        let field_type = type_of(*tens, *ones).ok_or(NotReplayed::NoForm)?;
+        let value = read_pairs(self.alloc, value)?;
+        if VALUE_BYTES < value.len() {
+            return Err(NotReplayed::NoForm);
+        }
         let value = value.as_slice();
-        let same = is_valid_value(field_type, value) == read_answer(plain)?
-            && is_strict_value(field_type, value) == read_answer(strict)?;
+        let same = recorded_as(is_valid_value(field_type, value), *plain)
+            && recorded_as(is_strict_value(field_type, value), *strict);
         Ok(Some(Replayed::from(same)))
     }
 }
 
-fn read_answer(text: &str) -> Result<bool, NotReplayed> {
-    match text {
-        "1" => Ok(true),
-        "0" => Ok(false),
-        _ => Err(NotReplayed::NoForm),
+// The type of a number in two digits.
+fn type_of(tens: u8, ones: u8) -> Option<FieldType> {
+    if !tens.is_ascii_digit() || !ones.is_ascii_digit() {
+        return None;
     }
+    FieldType::try_from(usize::from(tens - b'0') * 10 + usize::from(ones - b'0')).ok()
+}
+
+fn recorded_as(answer: bool, byte: u8) -> bool {
+    byte == if answer { b'1' } else { b'0' }
 }

@@ -3,13 +3,14 @@
 // events that the Rust's message walk has, `plain WORD WORD ..` the Rust's verdict on each field and
 // `strict` that with document 01's strict mode, or `refused N P` the refusal.
 use crate::calls::{message_given, verdicts_given};
+use crate::walk_cases::is_part;
 use replay_lines::block::Block;
 use replay_lines::cases::{Cases, NotReplayed, Replayed};
-use replay_lines::given::{Given, Refused};
+use replay_lines::given::{Given, Refused, is_refusal};
 use replay_lines::recorded_values::{read_numbers, split_kind};
 use replay_space::in_space::{replay_refused, replay_written};
 use replay_space::space::make_space;
-use replay_words::dictionary_line::read_dictionary_line;
+use replay_words::dictionary_line::{make_room, read_dictionary_line};
 use std::alloc::{AllocError, Global};
 
 // What a line `dictionary` gives: its words, or a text.
@@ -24,6 +25,7 @@ pub struct MessageCases {
     alloc: Global,
     form: DictionaryForm,
     block: Block,
+    room: Vec<u32>,
     space: Vec<u64>,
 }
 
@@ -33,36 +35,38 @@ impl MessageCases {
             alloc,
             form,
             block: Block::new(alloc),
+            room: make_room(alloc)?,
             space: make_space(alloc)?,
         })
     }
 }
 
 impl Cases for MessageCases {
-    fn replay(&mut self, line: &str) -> Result<Option<Replayed>, NotReplayed> {
+    fn replay(&mut self, line: &[u8]) -> Result<Option<Replayed>, NotReplayed> {
         let (kind, rest) = split_kind(line);
         let alloc = self.alloc;
-        let block = &mut self.block;
+        if self.form == DictionaryForm::Text && line.starts_with(b"d") {
+            let room = self.room.as_mut_slice();
+            read_dictionary_line(alloc, rest, &mut self.block, room)?;
+        } else if is_part(line) {
+            self.block.read_part(kind, rest)?;
+        }
+        let parts = self.block.parts()?;
+        if is_part(line) {
+            return Ok(None);
+        }
         let space = self.space.as_mut_slice();
-        // The line's first word is read, and no step is chosen: what to run is a closure, each of a type of its own.
-        let replayed = match kind {
-            "walk" => replay_call(alloc, |lent| message_given(block, lent), rest, space)?,
-            "plain" => replay_call(
-                alloc,
-                |lent| verdicts_given(block, false, lent),
-                rest,
-                space,
-            )?,
-            "strict" => replay_call(alloc, |lent| verdicts_given(block, true, lent), rest, space)?,
-            "dictionary" if self.form == DictionaryForm::Text => {
-                block.dictionary = read_dictionary_line(alloc, rest)?;
-                return Ok(None);
-            }
-            _ => {
-                block.read_part(kind, rest)?;
-                return Ok(None);
-            }
-        };
+        if line.starts_with(b"w") {
+            let replayed = replay_call(alloc, |lent| message_given(parts, lent), rest, space)?;
+            return Ok(Some(replayed));
+        }
+        let strict = line.starts_with(b"s");
+        let replayed = replay_call(
+            alloc,
+            |lent| verdicts_given(parts, strict, lent),
+            rest,
+            space,
+        )?;
         Ok(Some(replayed))
     }
 }
@@ -71,12 +75,13 @@ impl Cases for MessageCases {
 fn replay_call<F: Fn(&mut [u64]) -> Given>(
     alloc: Global,
     call: F,
-    answer: &str,
+    answer: &[u8],
     space: &mut [u64],
 ) -> Result<Replayed, NotReplayed>
     requires { F.IsAlwaysCallable call }
 {
-    if let Some(refused) = Refused::recorded(answer)? {
+    if is_refusal(answer) {
+        let refused = Refused::recorded(split_kind(answer).1);
         return Ok(replay_refused(call, refused, space));
     }
     let words = read_numbers::<u64>(alloc, answer)?;

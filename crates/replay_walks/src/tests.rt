@@ -12,19 +12,19 @@ fn replays_walks(rt: HostRuntime) -> Result<(), Fail> {
         "message 393d3001313d7601",
         "fields 9 2 3 1 6 7",
     ] {
-        assert_eq!(rt; cases.replay(line), Ok(None));
+        assert_eq!(rt; cases.replay(line.as_bytes()), Ok(None));
     }
     let same = Ok(Some(Replayed::Same));
     assert_eq!(rt;
-        cases.replay("walk 0 9 2 1 9 0 0 0 5 9 0 0 1 6 9 0 0 1 8 9 0 0 1"),
+        cases.replay(b"walk 0 9 2 1 9 0 0 0 5 9 0 0 1 6 9 0 0 1 8 9 0 0 1"),
         same
     );
     assert_eq!(rt;
-        cases.replay("walk 1 9 2 1 9 0 0 0 2 9 0 1 0 8 9 0 0 0"),
+        cases.replay(b"walk 1 9 2 1 9 0 0 0 2 9 0 1 0 8 9 0 0 0"),
         same
     );
-    assert_eq!(rt; cases.replay("walk 2 9 3"), Ok(Some(Replayed::Differs)));
-    assert_eq!(rt; cases.replay("walk 2 9"), Err(NotReplayed::NoForm));
+    assert_eq!(rt; cases.replay(b"walk 2 9 3"), Ok(Some(Replayed::Differs)));
+    assert_eq!(rt; cases.replay(b"walk 2 9"), Err(NotReplayed::NoForm));
     Ok(())
 }
 
@@ -37,10 +37,10 @@ fn replays_verdicts(rt: HostRuntime) -> Result<(), Fail> {
         "message -",
         "fields",
     ] {
-        assert_eq!(rt; cases.replay(line), Ok(None));
+        assert_eq!(rt; cases.replay(line.as_bytes()), Ok(None));
     }
-    assert_eq!(rt; cases.replay("plain"), Ok(Some(Replayed::Same)));
-    assert_eq!(rt; cases.replay("strict"), Ok(Some(Replayed::Same)));
-    assert_eq!(rt; cases.replay("plain 0"), Ok(Some(Replayed::Differs)));
+    assert_eq!(rt; cases.replay(b"plain"), Ok(Some(Replayed::Same)));
+    assert_eq!(rt; cases.replay(b"strict"), Ok(Some(Replayed::Same)));
+    assert_eq!(rt; cases.replay(b"plain 0"), Ok(Some(Replayed::Differs)));
     Ok(())
 }

@@ -2,7 +2,7 @@
 // `walk POSITION COUNT NEXT WORD WORD ..` gives the position and the words of the events that the
 // Rust's walk has. Each walk runs also with more space than it can need.
 use crate::calls::group_given;
-use replay_lines::block::Block;
+use replay_lines::block::{Block, Parts};
 use replay_lines::cases::{Cases, NotReplayed, Replayed};
 use replay_lines::recorded_values::{read_numbers, split_kind};
 use replay_space::in_space::replay_written;
@@ -16,15 +16,19 @@ pub struct WalkCases {
     space: Vec<u64>,
 }
 
+// A line that gives no part of the block and is no walk is passed over.
 impl Cases for WalkCases {
-    fn replay(&mut self, line: &str) -> Result<Option<Replayed>, NotReplayed> {
-        match split_kind(line) {
-            ("walk", walk) => Ok(Some(self.replay_walk(walk)?)),
-            (kind, text) => {
-                self.block.read_part(kind, text)?;
-                Ok(None)
-            }
+    fn replay(&mut self, line: &[u8]) -> Result<Option<Replayed>, NotReplayed> {
+        let (kind, rest) = split_kind(line);
+        if is_part(line) {
+            self.block.read_part(kind, rest)?;
         }
+        let parts = self.block.parts()?;
+        if !line.starts_with(b"w") {
+            return Ok(None);
+        }
+        let space = self.space.as_mut_slice();
+        Ok(Some(replay_walk(self.alloc, parts, rest, space)?))
     }
 }
 
@@ -36,27 +40,36 @@ impl WalkCases {
             space: make_space(alloc)?,
         })
     }
+}
 
-    // Position and count tag of the walk, then the Rust's position and words.
-    fn replay_walk(&mut self, walk: &str) -> Result<Replayed, NotReplayed> {
-        let numbers = read_numbers::<u64>(self.alloc, walk)?;
-        let [position, tag, next, words @ ..] = numbers.as_slice() else {
-            return Err(NotReplayed::NoForm);
-        };
-        let position = *position as usize;
-        let tag = u32::try_from(*tag).or(Err(NotReplayed::NoForm))?;
-        let block = &self.block;
-        let ample = ample_space(block.fields.len() / 3, position);
-        let Some((space, _)) = self.space.split_at_mut_checked(ample) else {
-            return Ok(Replayed::Differs);
-        };
-        Ok(replay_written(
-            |lent| group_given(block, position, tag, lent),
-            *next as usize,
-            words,
-            space,
-        ))
-    }
+// The line gives words or bytes that walks run on.
+pub fn is_part(line: &[u8]) -> bool {
+    matches!(line.first(), Some(b'd' | b'l' | b'f' | b'm'))
+}
+
+// Position and count tag of the walk, then the Rust's position and words.
+fn replay_walk(
+    alloc: Global,
+    parts: Parts<'_>,
+    walk: &[u8],
+    space: &mut [u64],
+) -> Result<Replayed, NotReplayed> {
+    let numbers = read_numbers::<u64>(alloc, walk)?;
+    let [position, tag, next, words @ ..] = numbers.as_slice() else {
+        return Err(NotReplayed::NoForm);
+    };
+    let position = *position as usize;
+    let tag = u32::try_from(*tag).or(Err(NotReplayed::NoForm))?;
+    let ample = ample_space(parts.fields.len() / 3, position);
+    let Some((space, _)) = space.split_at_mut_checked(ample) else {
+        return Ok(Replayed::Differs);
+    };
+    Ok(replay_written(
+        |lent| group_given(parts, position, tag, lent),
+        *next as usize,
+        words,
+        space,
+    ))
 }
 
 // Five words for each of the 5 N - 2 events that a walk over N fields may have, and ten more.

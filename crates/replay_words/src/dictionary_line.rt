@@ -1,25 +1,42 @@
 // The words of a dictionary, and a dictionary that a line gives as a text in hexadecimal.
 use read_dictionary::read_dictionary::read_dictionary;
+use replay_lines::block::{Block, DICTIONARY_WORDS};
 use replay_lines::cases::NotReplayed;
 use replay_lines::given::{Given, Written};
-use replay_lines::recorded_values::read_bytes;
-use std::alloc::Global;
+use replay_lines::recorded_values::read_pairs;
+use std::alloc::{AllocError, Global};
 
 pub fn dictionary_given(text: &[u8], space: &mut [u32]) -> Given {
     read_dictionary(text, space).map(Written::from)
 }
 
-// The words of the dictionary that the text gives; none where it is refused.
-pub fn read_dictionary_line(alloc: Global, line: &str) -> Result<Vec<u32>, NotReplayed> {
-    let text = read_bytes(alloc, line)?;
-    let mut words = vec![in alloc; 0u32; DICTIONARY_WORDS]?;
-    let written = match dictionary_given(text.as_slice(), words.as_mut_slice()) {
+// Room for the words of any dictionary that a line gives.
+const ROOM: usize = 98304;
+
+pub fn make_room(alloc: Global) -> Result<Vec<u32>, AllocError> {
+    vec![in alloc; 0u32; ROOM]
+}
+
+// Reads the dictionary text that the line gives into the block, by way of the room: no words where
+// it is refused. No message is left.
+pub fn read_dictionary_line(
+    alloc: Global,
+    line: &[u8],
+    block: &mut Block,
+    room: &mut [u32],
+) -> Result<(), NotReplayed> {
+    block.message = Some(Vec::new(alloc));
+    block.dictionary = None;
+    let text = read_pairs(alloc, line)?;
+    let words = match dictionary_given(text.as_slice(), room) {
         Ok(written) => written.words,
         Err(_) => 0,
     };
-    words.truncate(written);
-    Ok(words)
+    let dictionary = room.get(..words).ok_or(NotReplayed::NoForm)?;
+    if DICTIONARY_WORDS < dictionary.len() {
+        block.write_over(&dictionary[DICTIONARY_WORDS..]);
+        return Err(NotReplayed::NoForm);
+    }
+    block.dictionary = Some(Vec::from_slice(alloc, dictionary)?);
+    Ok(())
 }
-
-// More words than the dictionary of any such line has.
-const DICTIONARY_WORDS: usize = 65536;

@@ -6,5 +6,6 @@ pub mod dictionary_cases;
 pub mod dictionary_line;
 pub mod expand_cases;
 pub mod layout_cases;
+pub mod recorded_words;
 #[cfg(test)]
 mod tests;

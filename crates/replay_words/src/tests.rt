@@ -9,8 +9,8 @@ use std::test::Fail;
 fn replays_dictionaries(rt: HostRuntime) -> Result<(), Fail> {
     let mut cases = DictionaryCases::new(rt.alloc())?;
     let same = Ok(Some(Replayed::Same));
-    assert_eq!(rt; cases.replay("- refused 3 1"), same);
-    let line = "626567696e3d6865616465720a656e643d6865616465720a626567696e3d747261696c65720a\
+    assert_eq!(rt; cases.replay(b"- refused 3 1"), same);
+    let line = b"626567696e3d6865616465720a656e643d6865616465720a626567696e3d747261696c65720a\
                 656e643d747261696c65720a accepted 4 4 0 0 0 3 0 0 0 0 0 0 0 0 0 10 0 0 0 0 0 \
                 0 0 0 0 4 0 0 0 0 0 0 0 0 0 11 0 0 0 0 0 0 0 0 0";
     assert_eq!(rt; cases.replay(line), same);
@@ -20,13 +20,13 @@ fn replays_dictionaries(rt: HostRuntime) -> Result<(), Fail> {
 #[test]
 fn replays_layouts(rt: HostRuntime) -> Result<(), Fail> {
     let mut cases = LayoutCases::new(rt.alloc())?;
-    assert_eq!(rt; cases.replay("- accepted 0"), Ok(None));
+    assert_eq!(rt; cases.replay(b"- accepted 0"), Ok(None));
     assert_eq!(rt;
-        cases.replay("words 0 7 7 7 7 7 7"),
+        cases.replay(b"words 0 7 7 7 7 7 7"),
         Ok(Some(Replayed::Same))
     );
     assert_eq!(rt;
-        cases.replay("words 0 7 7 7 7 7 8"),
+        cases.replay(b"words 0 7 7 7 7 7 8"),
         Ok(Some(Replayed::Differs))
     );
     Ok(())
@@ -36,15 +36,15 @@ fn replays_layouts(rt: HostRuntime) -> Result<(), Fail> {
 fn replays_expansions(rt: HostRuntime) -> Result<(), Fail> {
     let mut cases = ExpandCases::new(rt.alloc())?;
     let same = Ok(Some(Replayed::Same));
-    let line = "dictionary 6465663d33352c537472696e670a6465663d3434382c537472696e670a6465663d34\
+    let line = b"dictionary 6465663d33352c537472696e670a6465663d3434382c537472696e670a6465663d34\
                 34372c436861720a76616c75653d440a6465663d3435332c4e756d496e47726f75700a626567696e\
                 3d6865616465720a6669656c643d33352c310a656e643d6865616465720a626567696e3d74726169\
                 6c65720a656e643d747261696c65720a6d6573736167653d442c6170700a67726f75703d3435332c\
                 3434382c310a6669656c643d3434372c310a656e643d3435330a656e643d440a";
     assert_eq!(rt; cases.replay(line), Ok(None));
-    let line = "expand 44 1 1 13 15 17 17 18 19 10 11 11 453 448 1 35 453 447 448 35 447";
+    let line = b"expand 44 1 1 13 15 17 17 18 19 10 11 11 453 448 1 35 453 447 448 35 447";
     assert_eq!(rt; cases.replay(line), same);
-    assert_eq!(rt; cases.replay("expand 45 refused 6 0"), same);
-    assert_eq!(rt; cases.replay("walk 0"), Err(NotReplayed::NoForm));
+    assert_eq!(rt; cases.replay(b"expand 45 refused 6 0"), same);
+    assert_eq!(rt; cases.replay(b"walk 0"), Err(NotReplayed::NoForm));
     Ok(())
 }

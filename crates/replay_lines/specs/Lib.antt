@@ -1,0 +1,2 @@
+-- What the contracts of replay_lines rest on.
+pub mod FirstSpaceLaws
