@@ -196,3 +196,12 @@ pub fn run_after(
         _ => Some(Run::default()),
     }
 }
+
+// The same run, of no lines where there is none.
+pub fn run_behind(standing: Standing, clean: bool, count: usize, words: &[u32], first: usize) -> Run
+    requires { (count ≤ 4294967295) × (first + 10 * count ≤ length words.now) }
+    ensures run { PassedOver standing result.lines result.bytes result.tags (drop first words.now) }
+    ensures few { FewIn result count }
+{
+    run_after(standing, clean, count, words, first).unwrap_or_default()
+}

@@ -6,13 +6,14 @@
 use Prim.Native.Nat.{ℕ, zero, suc, ◌+◌, ◌*◌, ◌-◌, ◌≤◌, ◌<◌}
 use Rattle.std.specs.Prelude.{◌≡◌, refl, get_or, set, drop}
 use Rattle.std.proofs.Math.Path.{sym, ap}
-use Rattle.std.proofs.Common.{ap₂, ◌∙◌, add-one, length-set, length-append, get_or-set_same, get_or-set_other, take_all}
+use Rattle.std.proofs.Common.{ap₂, ◌∙◌, add-one, drop_of_length-le, length-set, length-append, get_or-set_same, get_or-set_other, take_all}
 use mathlib.Core.List.{List, [], ◌∷◌, ◌++◌, map}
 use native.Mathlib.Omega.{arith}
 use Rattle.std.proofs.Math.ListN.{length}
 use Rattle.std.proofs.lemmas.List.{length-map}
 use Rattle.std.proofs.Math.Seq.{sets, paste}
 use Rattle.std.proofs.lemmas.List.Edits.{sets-eq}
+use Rattle.ascii.specs.BytesLaws.{drop-step}
 use Rattle.layouts.specs.Layout.{Level, Layout, members_of, required_of, count_tags_of, count_tag, delimiter, entry, groups_below, groups_of, all_groups, all_levels, joined}
 use Rattle.layouts.specs.LayoutLaws.{groups_below-total, level_order-count_tags}
 use Rattle.layouts.specs.LayoutWords.{first_member, first_count_tag, flag, places_from, arranged_parts, arranged}
@@ -181,6 +182,26 @@ module _ (words rows : List ℕ) (to field count : ℕ) where
       places-end so_far over before stored =
           let next : to + 1 ≡ suc to = omega arith in
           storing-ends words (shifted first (column rows field count)) (to + 1) index now (rw (none-shifted over) at so_far.storing) ∙ rw (stored, next)
+
+-- a list that is written as it stands
+pub record TagsSoFar (words tags : List ℕ) (to index : ℕ) (now : List ℕ) : Type 0 where
+  pub within : index ≤ length tags
+  pub storing : Storing words tags to index now (drop index tags)
+
+module _ (words tags : List ℕ) (to : ℕ) where
+  pub tags-begin : TagsSoFar words tags to 0 words
+  tags-begin = record { within = omega arith; storing = storing-begins words tags to }
+
+  module _ (index : ℕ) (now : List ℕ) (so_far : TagsSoFar words tags to index now) where
+    pub tags-go_on : index < length tags → TagsSoFar words tags to (index + 1) (set now (to + index) (get_or tags index 0))
+    tags-go_on more =
+        record {
+          within = omega arith;
+          storing = storing-goes_on words tags to index now (get_or tags index 0) (drop (index + 1) tags) (rw (drop-step tags index more) at so_far.storing);
+        }
+
+    pub tags-end : length tags ≤ index → now ≡ sets words to tags
+    tags-end over = storing-ends words tags to index now (rw (drop_of_length-le tags over) at so_far.storing)
 
 -- a list that is copied as it stands
 pub pasted_is : (words tags : List ℕ) (to : ℕ) → to + length tags ≤ length words → paste words to tags (length tags) ≡ sets words to tags

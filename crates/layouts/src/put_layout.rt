@@ -33,7 +33,10 @@ fn put_tags(words: &mut [u32], to: usize, tags: &[u32])
     requires { to + length tags.now ≤ length words.old }
     ensures { words.new ≡ sets words.old to tags.now }
 {
-    words[to..to + tags.len()].copy_from_slice(tags);
+    // no `copy_from_slice`: for it the archive for C would need a memmove from outside
+    for index in 0..tags.len() {
+        words[to + index] = tags[index];
+    }
 }
 
 // Writes the words of the layout whose parts were gathered. After them the words stay as they were.

@@ -40,12 +40,7 @@ pub fn next_line<F: Read>(file: &mut F, buffer: &mut [u8], line: Line) -> Option
 
 // Moves the bytes from `first` on to the front, reads more after them, and gives the line at the
 // front.
-fn refill<F: Read>(
-    file: &mut F,
-    buffer: &mut [u8],
-    first: usize,
-    filled: usize,
-) -> Option<Line>
+fn refill<F: Read>(file: &mut F, buffer: &mut [u8], first: usize, filled: usize) -> Option<Line>
     requires { (first ≤ filled) × (filled ≤ length buffer.old) }
     ensures { IfSome result (λ line. (line.first ≤ line.past) × (line.past < line.filled) × (line.filled ≤ length buffer.new)) }
 {

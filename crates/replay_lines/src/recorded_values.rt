@@ -1,6 +1,6 @@
 // Values in the recorded lists: bytes in lower-case hexadecimal, `-` for no bytes, and decimal
 // numbers with single spaces between them.
-ghost use Rattle.std.specs.Prelude.{◌≡◌, ◌≢◌, ◌==◌, [], ◌++◌, ◌∷◌, ◌↔◌, IfOk, IsTrue, codes, position};
+ghost use Rattle.std.specs.Prelude.{◌≡◌, ◌≢◌, ◌==◌, ◌*◌, ◌/◌, [], ◌++◌, ◌∷◌, ◌↔◌, IfOk, IsTrue, codes, length, position, take};
 ghost use Rattle.std.specs.List.{before_first, after_first};
 ghost use Rattle.hex.specs.Hex.{decode_of};
 ghost use Rattle.counts.specs.Count.{count_of};
@@ -24,11 +24,15 @@ pub fn read_bytes(alloc: Global, text: &[u8]) -> Result<Vec<u8>, NotReplayed>
 
 // The bytes as a list has them: no byte for one alone, as for `-`, and a digit that no other
 // follows is passed over. No digit is in upper case.
-pub fn read_pairs(alloc: Global, text: &[u8]) -> Result<Vec<u8>, NotReplayed> {
+pub fn read_pairs(alloc: Global, text: &[u8]) -> Result<Vec<u8>, NotReplayed>
+    ensures one { length text.now ≡ 1 → IfOk result (λ bytes. bytes.items ≡ []) }
+    ensures pairs { length text.now ≢ 1 → IfOk result (λ bytes.
+        decode_of (take (length text.now / 2 * 2) text.now) ≡ Ok bytes.items) }
+{
     if text.len() == 1 {
         return Ok(Vec::new(alloc));
     }
-    let pairs = &text[..text.len() / 2 * 2];
+    let pairs = &text[..text.len() / 2 * 2]; // no byte alone, so not "-"
     if pairs.iter().any(|byte| byte.is_ascii_uppercase()) {
         return Err(NotReplayed::NoForm);
     }

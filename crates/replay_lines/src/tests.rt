@@ -51,7 +51,10 @@ fn reads_a_block(rt: HostRuntime) -> Result<(), Fail> {
     assert_eq!(rt; parts.fields, [35, 0, 1].as_slice());
     assert_eq!(rt; parts.message, b"D".as_slice());
     assert_eq!(rt; block.read_part(b"walk", b"0 1"), Err(NotReplayed::NoForm));
-    assert_eq!(rt; block.read_part(b"layout", b"0,7"), Err(NotReplayed::NoForm));
+    assert_eq!(rt;
+        block.read_part(b"layout", b"0,7"),
+        Err(NotReplayed::NoForm)
+    );
     assert!(rt; block.parts().is_err());
     Ok(())
 }

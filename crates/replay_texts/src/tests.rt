@@ -31,10 +31,16 @@ fn replays_lines(rt: HostRuntime) {
         CountCases { alloc }.replay(b"31 2"),
         Ok(Some(Replayed::Differs))
     );
-    assert_eq!(rt; CountCases { alloc }.replay(b"31"), Err(NotReplayed::NoForm));
+    assert_eq!(rt;
+        CountCases { alloc }.replay(b"31"),
+        Err(NotReplayed::NoForm)
+    );
     assert_eq!(rt; ValueCases { alloc }.replay(b"00 - 0 0"), same);
     assert_eq!(rt; ValueCases { alloc }.replay(b"00 30 1 1"), same);
-    assert_eq!(rt; DictionaryTextCases::new(alloc).replay(b"- refused 3 1"), same);
+    assert_eq!(rt;
+        DictionaryTextCases::new(alloc).replay(b"- refused 3 1"),
+        same
+    );
     assert_eq!(rt;
         DictionaryTextCases::new(alloc).replay(b"@65535 0a refused 2 1"),
         same

@@ -4,10 +4,10 @@
 // own.
 use crate::recorded_text::TextAbove;
 use layout_text::layout_text::check_layout_text;
+use refusals::refusal::Refusal;
 use replay_lines::cases::{Cases, NotReplayed, Replayed};
 use replay_lines::given::{Refused, is_refusal};
 use replay_lines::recorded_values::{same_number, split_kind};
-use refusals::refusal::Refusal;
 use std::alloc::Global;
 use texts::dictionary_text::check_dictionary_text;
 

@@ -7,7 +7,14 @@ use walk::walk_call::walk_group;
 
 // The walk of the group with this count tag from the position on.
 pub fn group_given(parts: Parts<'_>, position: usize, tag: u32, space: &mut [u64]) -> Given {
-    let walked = walk_group(parts.layout, parts.fields, parts.message, position, tag, space);
+    let walked = walk_group(
+        parts.layout,
+        parts.fields,
+        parts.message,
+        position,
+        tag,
+        space,
+    );
     walked.map(|walked| Written {
         number: walked.position,
         words: walked.words,
