@@ -4,9 +4,9 @@ use crate::cases::NotReplayed;
 use crate::recorded_values::{read_numbers, read_pairs};
 use std::alloc::Global;
 
-// Each is None where its line is of no known form.
+// The parts of a block that the lines so far give; None where their line is of no known form.
 #[derive(Drop)]
-pub struct Block {
+pub struct Parts {
     alloc: Global,
     pub dictionary: Option<Vec<u32>>,
     pub layout: Option<Vec<u32>>,
@@ -14,9 +14,9 @@ pub struct Block {
     pub message: Option<Vec<u8>>,
 }
 
-// The parts of a block whose lines are all of a known form.
+// What a case runs on.
 #[derive(Clone, Copy)]
-pub struct Parts<'a> {
+pub struct Block<'a> {
     pub dictionary: &'a [u32],
     pub layout: &'a [u32],
     pub fields: &'a [u32],
@@ -28,7 +28,7 @@ pub const DICTIONARY_WORDS: usize = 65536;
 
 pub const OTHER_WORDS: usize = 16384;
 
-impl Block {
+impl Parts {
     pub fn new(alloc: Global) -> Self {
         Self {
             alloc,
@@ -74,8 +74,9 @@ impl Block {
         }
     }
 
-    pub fn parts(&self) -> Result<Parts<'_>, NotReplayed> {
-        Ok(Parts {
+    // The block, where the lines of all its parts are of a known form.
+    pub fn block(&self) -> Result<Block<'_>, NotReplayed> {
+        Ok(Block {
             dictionary: slice_of(&self.dictionary)?,
             layout: slice_of(&self.layout)?,
             fields: slice_of(&self.fields)?,

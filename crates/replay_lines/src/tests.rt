@@ -1,5 +1,5 @@
 // What reads a recorded line, with memory.
-use crate::block::Block;
+use crate::block::Parts;
 use crate::cases::NotReplayed;
 use crate::given::{Refused, is_refusal};
 use crate::recorded_values::{first_word, read_bytes, read_numbers, read_pairs, split_kind};
@@ -40,22 +40,22 @@ fn reads_values_of_another_form(rt: HostRuntime) -> Result<(), Fail> {
 
 #[test]
 fn reads_a_block(rt: HostRuntime) -> Result<(), Fail> {
-    let mut block = Block::new(rt.alloc());
-    block.read_part(b"dictionary", b"9 4")?;
-    block.read_part(b"layout", b"0 7 7")?;
-    block.read_part(b"fields", b"35 0 1")?;
-    block.read_part(b"message", b"44")?;
-    let parts = block.parts()?;
-    assert_eq!(rt; parts.dictionary, [9, 4].as_slice());
-    assert_eq!(rt; parts.layout, [0, 7, 7].as_slice());
-    assert_eq!(rt; parts.fields, [35, 0, 1].as_slice());
-    assert_eq!(rt; parts.message, b"D".as_slice());
-    assert_eq!(rt; block.read_part(b"walk", b"0 1"), Err(NotReplayed::NoForm));
+    let mut parts = Parts::new(rt.alloc());
+    parts.read_part(b"dictionary", b"9 4")?;
+    parts.read_part(b"layout", b"0 7 7")?;
+    parts.read_part(b"fields", b"35 0 1")?;
+    parts.read_part(b"message", b"44")?;
+    let block = parts.block()?;
+    assert_eq!(rt; block.dictionary, [9, 4].as_slice());
+    assert_eq!(rt; block.layout, [0, 7, 7].as_slice());
+    assert_eq!(rt; block.fields, [35, 0, 1].as_slice());
+    assert_eq!(rt; block.message, b"D".as_slice());
+    assert_eq!(rt; parts.read_part(b"walk", b"0 1"), Err(NotReplayed::NoForm));
     assert_eq!(rt;
-        block.read_part(b"layout", b"0,7"),
+        parts.read_part(b"layout", b"0,7"),
         Err(NotReplayed::NoForm)
     );
-    assert!(rt; block.parts().is_err());
+    assert!(rt; parts.block().is_err());
     Ok(())
 }
 

@@ -1,16 +1,16 @@
 // The calls that write words of 64 bits, each lent the words of a block and its message.
-use replay_lines::block::Parts;
+use replay_lines::block::Block;
 use replay_lines::given::{Given, Written};
 use validator::message_call::walk_message;
 use verdicts::verdicts_call::check_values;
 use walk::walk_call::walk_group;
 
 // The walk of the group with this count tag from the position on.
-pub fn group_given(parts: Parts<'_>, position: usize, tag: u32, space: &mut [u64]) -> Given {
+pub fn group_given(block: Block<'_>, position: usize, tag: u32, space: &mut [u64]) -> Given {
     let walked = walk_group(
-        parts.layout,
-        parts.fields,
-        parts.message,
+        block.layout,
+        block.fields,
+        block.message,
         position,
         tag,
         space,
@@ -21,17 +21,17 @@ pub fn group_given(parts: Parts<'_>, position: usize, tag: u32, space: &mut [u64
     })
 }
 
-pub fn message_given(parts: Parts<'_>, space: &mut [u64]) -> Given {
+pub fn message_given(block: Block<'_>, space: &mut [u64]) -> Given {
     let walked = walk_message(
-        parts.dictionary,
-        parts.layout,
-        parts.fields,
-        parts.message,
+        block.dictionary,
+        block.layout,
+        block.fields,
+        block.message,
         space,
     );
     walked.map(Written::from)
 }
 
-pub fn verdicts_given(parts: Parts<'_>, strict: bool, space: &mut [u64]) -> Given {
-    check_values(parts.dictionary, parts.fields, parts.message, strict, space).map(Written::from)
+pub fn verdicts_given(block: Block<'_>, strict: bool, space: &mut [u64]) -> Given {
+    check_values(block.dictionary, block.fields, block.message, strict, space).map(Written::from)
 }

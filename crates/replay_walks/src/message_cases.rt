@@ -4,7 +4,7 @@
 // `strict` that with document 01's strict mode, or `refused N P` the refusal.
 use crate::calls::{message_given, verdicts_given};
 use crate::walk_cases::is_part;
-use replay_lines::block::Block;
+use replay_lines::block::Parts;
 use replay_lines::cases::{Cases, NotReplayed, Replayed};
 use replay_lines::given::{Given, Refused, is_refusal};
 use replay_lines::recorded_values::{read_numbers, split_kind};
@@ -24,7 +24,7 @@ pub enum DictionaryForm {
 pub struct MessageCases {
     alloc: Global,
     form: DictionaryForm,
-    block: Block,
+    parts: Parts,
     room: Vec<u32>,
     space: Vec<u64>,
 }
@@ -34,7 +34,7 @@ impl MessageCases {
         Ok(Self {
             alloc,
             form,
-            block: Block::new(alloc),
+            parts: Parts::new(alloc),
             room: make_room(alloc)?,
             space: make_space(alloc)?,
         })
@@ -47,23 +47,23 @@ impl Cases for MessageCases {
         let alloc = self.alloc;
         if self.form == DictionaryForm::Text && line.starts_with(b"d") {
             let room = self.room.as_mut_slice();
-            read_dictionary_line(alloc, rest, &mut self.block, room)?;
+            read_dictionary_line(alloc, rest, &mut self.parts, room)?;
         } else if is_part(line) {
-            self.block.read_part(kind, rest)?;
+            self.parts.read_part(kind, rest)?;
         }
-        let parts = self.block.parts()?;
+        let block = self.parts.block()?;
         if is_part(line) {
             return Ok(None);
         }
         let space = self.space.as_mut_slice();
         if line.starts_with(b"w") {
-            let replayed = replay_call(alloc, |lent| message_given(parts, lent), rest, space)?;
+            let replayed = replay_call(alloc, |lent| message_given(block, lent), rest, space)?;
             return Ok(Some(replayed));
         }
         let strict = line.starts_with(b"s");
         let replayed = replay_call(
             alloc,
-            |lent| verdicts_given(parts, strict, lent),
+            |lent| verdicts_given(block, strict, lent),
             rest,
             space,
         )?;

@@ -12,7 +12,7 @@ use std::alloc::{AllocError, Global};
 #[derive(Drop)]
 pub struct WalkCases {
     alloc: Global,
-    block: Block,
+    parts: Parts,
     space: Vec<u64>,
 }
 
@@ -21,14 +21,14 @@ impl Cases for WalkCases {
     fn replay(&mut self, line: &[u8]) -> Result<Option<Replayed>, NotReplayed> {
         let (kind, rest) = split_kind(line);
         if is_part(line) {
-            self.block.read_part(kind, rest)?;
+            self.parts.read_part(kind, rest)?;
         }
-        let parts = self.block.parts()?;
+        let block = self.parts.block()?;
         if !line.starts_with(b"w") {
             return Ok(None);
         }
         let space = self.space.as_mut_slice();
-        Ok(Some(replay_walk(self.alloc, parts, rest, space)?))
+        Ok(Some(replay_walk(self.alloc, block, rest, space)?))
     }
 }
 
@@ -36,7 +36,7 @@ impl WalkCases {
     pub fn new(alloc: Global) -> Result<Self, AllocError> {
         Ok(Self {
             alloc,
-            block: Block::new(alloc),
+            parts: Parts::new(alloc),
             space: make_space(alloc)?,
         })
     }
@@ -50,7 +50,7 @@ pub fn is_part(line: &[u8]) -> bool {
 // Position and count tag of the walk, then the Rust's position and words.
 fn replay_walk(
     alloc: Global,
-    parts: Parts<'_>,
+    block: Block<'_>,
     walk: &[u8],
     space: &mut [u64],
 ) -> Result<Replayed, NotReplayed> {
@@ -60,12 +60,12 @@ fn replay_walk(
     };
     let position = *position as usize;
     let tag = u32::try_from(*tag).or(Err(NotReplayed::NoForm))?;
-    let ample = ample_space(parts.fields.len() / 3, position);
+    let ample = ample_space(block.fields.len() / 3, position);
     let Some((space, _)) = space.split_at_mut_checked(ample) else {
         return Ok(Replayed::Differs);
     };
     Ok(replay_written(
-        |lent| group_given(parts, position, tag, lent),
+        |lent| group_given(block, position, tag, lent),
         *next as usize,
         words,
         space,

@@ -1,6 +1,6 @@
 // The words of a dictionary, and a dictionary that a line gives as a text in hexadecimal.
 use read_dictionary::read_dictionary::read_dictionary;
-use replay_lines::block::{Block, DICTIONARY_WORDS};
+use replay_lines::block::{DICTIONARY_WORDS, Parts};
 use replay_lines::cases::NotReplayed;
 use replay_lines::given::{Given, Written};
 use replay_lines::recorded_values::read_pairs;
@@ -17,16 +17,16 @@ pub fn make_room(alloc: Global) -> Result<Vec<u32>, AllocError> {
     vec![in alloc; 0u32; ROOM]
 }
 
-// Reads the dictionary text that the line gives into the block, by way of the room: no words where
+// Reads the dictionary text that the line gives into the parts, by way of the room: no words where
 // it is refused. No message is left.
 pub fn read_dictionary_line(
     alloc: Global,
     line: &[u8],
-    block: &mut Block,
+    parts: &mut Parts,
     room: &mut [u32],
 ) -> Result<(), NotReplayed> {
-    block.message = Some(Vec::new(alloc));
-    block.dictionary = None;
+    parts.message = Some(Vec::new(alloc));
+    parts.dictionary = None;
     let text = read_pairs(alloc, line)?;
     let words = match dictionary_given(text.as_slice(), room) {
         Ok(written) => written.words,
@@ -34,9 +34,9 @@ pub fn read_dictionary_line(
     };
     let dictionary = room.get(..words).ok_or(NotReplayed::NoForm)?;
     if DICTIONARY_WORDS < dictionary.len() {
-        block.write_over(&dictionary[DICTIONARY_WORDS..]);
+        parts.write_over(&dictionary[DICTIONARY_WORDS..]);
         return Err(NotReplayed::NoForm);
     }
-    block.dictionary = Some(Vec::from_slice(alloc, dictionary)?);
+    parts.dictionary = Some(Vec::from_slice(alloc, dictionary)?);
     Ok(())
 }

@@ -4,7 +4,7 @@
 use crate::dictionary_line::{make_room, read_dictionary_line};
 use crate::recorded_words::replay_numbers;
 use expand::expand_call::expand;
-use replay_lines::block::Block;
+use replay_lines::block::Parts;
 use replay_lines::cases::{Cases, NotReplayed, Replayed};
 use replay_lines::given::{Given, Refused, Written, is_refusal};
 use replay_lines::recorded_values::{first_word, read_numbers, read_pairs, split_kind};
@@ -15,7 +15,7 @@ use std::alloc::{AllocError, Global};
 #[derive(Drop)]
 pub struct ExpandCases {
     alloc: Global,
-    block: Block,
+    parts: Parts,
     room: Vec<u32>,
     space: Vec<u32>,
 }
@@ -28,11 +28,11 @@ impl Cases for ExpandCases {
         let (kind, rest) = split_kind(line);
         if line.starts_with(b"d") {
             let room = self.room.as_mut_slice();
-            read_dictionary_line(self.alloc, rest, &mut self.block, room)?;
+            read_dictionary_line(self.alloc, rest, &mut self.parts, room)?;
         } else if is_part(line) {
-            self.block.read_part(kind, rest)?;
+            self.parts.read_part(kind, rest)?;
         }
-        let dictionary = self.block.parts()?.dictionary;
+        let dictionary = self.parts.block()?.dictionary;
         if line.starts_with(b"d") {
             return Ok(None);
         }
@@ -50,7 +50,7 @@ impl ExpandCases {
     pub fn new(alloc: Global) -> Result<Self, AllocError> {
         Ok(Self {
             alloc,
-            block: Block::new(alloc),
+            parts: Parts::new(alloc),
             room: make_room(alloc)?,
             space: make_space(alloc)?,
         })
