@@ -12,6 +12,7 @@ use replay_walks::walk_cases::WalkCases;
 use replay_words::dictionary_cases::DictionaryCases;
 use replay_words::expand_cases::ExpandCases;
 use replay_words::layout_cases::LayoutCases;
+use std::alloc::AllocError;
 use std::io;
 
 fn main(rt: HostRuntime) -> io::Result<()> {
@@ -20,62 +21,67 @@ fn main(rt: HostRuntime) -> io::Result<()> {
         &rt,
         "is_valid_value, plain and strict",
         b"is_valid_value.cases",
-        ValueCases { alloc },
+        Ok(ValueCases { alloc }),
     )?;
     replay(
         &rt,
         "parse_count",
         b"parse_count.cases",
-        CountCases { alloc },
+        Ok(CountCases { alloc }),
     )?;
     replay(
         &rt,
         "check_dictionary_text",
         b"read_dictionary.cases",
-        DictionaryTextCases::new(alloc),
+        Ok(DictionaryTextCases::new(alloc)),
     )?;
     replay(
         &rt,
         "read_dictionary",
         b"read_dictionary.cases",
-        DictionaryCases::new(alloc)?,
+        DictionaryCases::new(alloc),
     )?;
     replay(
         &rt,
         "check_layout_text",
         b"read_layout.cases",
-        LayoutTextCases::new(alloc),
+        Ok(LayoutTextCases::new(alloc)),
     )?;
     replay(
         &rt,
         "read_layout",
         b"read_layout.cases",
-        LayoutCases::new(alloc)?,
+        LayoutCases::new(alloc),
     )?;
     replay(
         &rt,
         "walk_group",
         b"walk_group.cases",
-        WalkCases::new(alloc)?,
+        WalkCases::new(alloc),
     )?;
     replay(
         &rt,
         "check_values, plain and strict",
         b"check_values.cases",
-        MessageCases::new(alloc, DictionaryForm::Words)?,
+        MessageCases::new(alloc, DictionaryForm::Words),
     )?;
     replay(
         &rt,
         "walk_message, with its verdicts",
         b"walk_message.cases",
-        MessageCases::new(alloc, DictionaryForm::Text)?,
+        MessageCases::new(alloc, DictionaryForm::Text),
     )?;
-    replay(&rt, "expand", b"expand.cases", ExpandCases::new(alloc)?)
+    replay(&rt, "expand", b"expand.cases", ExpandCases::new(alloc))
 }
 
 // One line: the name of the call, the cases, those that differ and those whose line is of no known
 // form.
-fn replay<C: Cases>(rt: &HostRuntime, call: &str, file: &[u8], cases: C) -> io::Result<()> {
+fn replay<C: Cases>(
+    rt: &HostRuntime,
+    call: &str,
+    file: &[u8],
+    cases: Result<C, AllocError>,
+) -> io::Result<()> {
     let tally = replay_file(rt, file, cases)?;
     let cases = tally.cases;
     let differ = tally.differ;

@@ -15,15 +15,26 @@ pub struct Tally {
     pub unread: u64,
 }
 
-// Replays the list that the file holds. Where it cannot be opened, the reason is said on standard
-// error.
+impl Tally {
+    // One case more, and so many that differ or are of no known form.
+    fn add(&mut self, differ: u64, unread: u64) {
+        self.cases = self.cases.wrapping_add(1);
+        self.differ = self.differ.wrapping_add(differ);
+        self.unread = self.unread.wrapping_add(unread);
+    }
+}
+
+// Replays the list that the file holds. Where it cannot be opened, or there is no memory for what its
+// cases need, the reason is said on standard error.
 pub fn replay_file<R: Files + Print + Eprint + AllocGlobal, C: Cases>(
     rt: &R,
     name: &[u8],
-    cases: C,
+    cases: Result<C, AllocError>,
 ) -> io::Result<Tally> {
-    match open_named(rt, name) {
-        Ok(file) => replay_open(rt, file, cases),
+    match open_with(rt, name, cases) {
+        Ok((mut file, mut buffer, cases)) => {
+            replay_lines(rt, name, &mut file, buffer.as_mut_slice(), cases)
+        }
         Err(error) => {
             say_unread(rt, name, error);
             Ok(Tally::default())
@@ -31,20 +42,23 @@ pub fn replay_file<R: Files + Print + Eprint + AllocGlobal, C: Cases>(
     }
 }
 
-// Replays the list that the file holds, which is open, in room for its longest line.
-fn replay_open<R: Print + AllocGlobal, F: Read + Drop, C: Cases>(
+// The file, open, with room for its longest line, and the cases.
+fn open_with<R: Files + AllocGlobal, C: Cases>(
     rt: &R,
-    mut file: F,
-    cases: C,
-) -> io::Result<Tally> {
-    let mut buffer = vec![in rt.alloc(); 0u8; 131072]?;
-    replay_lines(rt, &mut file, buffer.as_mut_slice(), cases)
+    name: &[u8],
+    cases: Result<C, AllocError>,
+) -> io::Result<(R::File, Vec<u8>, C)> {
+    let cases = cases?;
+    let buffer = vec![in rt.alloc(); 0u8; 131072]?;
+    let file = open_named(rt, name)?;
+    Ok((file, buffer, cases))
 }
 
 // A proved loop has to end, and nothing says that a file does: it takes as many turns as no run
 // uses up.
-fn replay_lines<R: Print, F: Read, C: Cases>(
+fn replay_lines<R: Print + Eprint, F: Read, C: Cases>(
     rt: &R,
+    name: &[u8],
     file: &mut F,
     buffer: &mut [u8],
     mut cases: C,
@@ -55,16 +69,23 @@ fn replay_lines<R: Print, F: Read, C: Cases>(
         let Some(read) = line else {
             return Ok(tally);
         };
-        replay_line(rt, &buffer[read.first..read.past], &mut cases, &mut tally)?;
+        replay_line(
+            rt,
+            name,
+            &buffer[read.first..read.past],
+            &mut cases,
+            &mut tally,
+        )?;
         line = next_line(file, buffer, read);
     }
     Ok(tally)
 }
 
-// Replays the line, and prints it where it differs or is of no known form. One that is empty or
-// begins with # is a comment.
-fn replay_line<R: Print, C: Cases>(
+// Replays the line, and prints it where it differs or is of no known form. One that there is no
+// memory for is told of on standard error too. One that is empty or begins with # is a comment.
+fn replay_line<R: Print + Eprint, C: Cases>(
     rt: &R,
+    name: &[u8],
     line: &[u8],
     cases: &mut C,
     tally: &mut Tally,
@@ -72,22 +93,24 @@ fn replay_line<R: Print, C: Cases>(
     if line.is_empty() || line.starts_with(b"#") {
         return Ok(());
     }
-    let replayed = match cases.replay(line) {
-        Ok(None) => return Ok(()),
-        Ok(Some(replayed)) => replayed,
-        Err(NotReplayed::NoForm) => {
-            tally.cases = tally.cases.wrapping_add(1);
-            tally.unread = tally.unread.wrapping_add(1);
-            return print_line(rt, b"of no known form: ", line);
+    match cases.replay(line) {
+        Ok(None) => Ok(()),
+        Ok(Some(Replayed::Same)) => {
+            tally.add(0, 0);
+            Ok(())
         }
-        Err(NotReplayed::OutOfMemory) => return Err(io::Error::from(AllocError)),
-    };
-    tally.cases = tally.cases.wrapping_add(1);
-    if replayed == Replayed::Differs {
-        tally.differ = tally.differ.wrapping_add(1);
-        return print_line(rt, b"differs: ", line);
+        Ok(Some(Replayed::Differs)) => {
+            tally.add(1, 0);
+            print_line(rt, b"differs: ", line)
+        }
+        Err(error) => {
+            if error == NotReplayed::OutOfMemory {
+                say_unread(rt, name, io::Error::from(AllocError));
+            }
+            tally.add(0, 1);
+            print_line(rt, b"of no known form: ", line)
+        }
     }
-    Ok(())
 }
 
 fn print_line<R: Print>(rt: &R, what: &[u8], line: &[u8]) -> io::Result<()> {
