@@ -29,10 +29,20 @@ impl TextAbove {
         let rest = if line.starts_with(b"w") {
             split_kind(line).1
         } else {
-            self.bytes = Some(Vec::new(self.alloc));
-            let (bytes, rest) = read_text(self.alloc, line)?;
-            self.bytes = bytes;
-            rest
+            self.bytes = None;
+            match read_text(self.alloc, line) {
+                Ok((bytes, rest)) => {
+                    self.bytes = bytes;
+                    rest
+                }
+                Err(error) => {
+                    // a line that begins with no text at all leaves one of no bytes
+                    if error == NotReplayed::NoForm {
+                        self.bytes = Some(Vec::new(self.alloc));
+                    }
+                    return Err(error);
+                }
+            }
         };
         match &self.bytes {
             Some(bytes) => Ok((bytes.as_slice(), rest)),
