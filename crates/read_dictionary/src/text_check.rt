@@ -102,6 +102,15 @@ fn are_once_each(names: &mut [u32]) -> bool
     is_strictly_ascending(names)
 }
 
+// The first line that defines a name again, or is faulty in another way. It is compiled by itself,
+// so that a text in which all names differ does not take its memory.
+#[inline(never)]
+fn check_again(text: Text<'_>) -> Result<Counts, Refusal>
+    ensures { result ≡ dictionary_text_of text.entry.bytes.now }
+{
+    check_dictionary_text(text.bytes)
+}
+
 // Reads a dictionary text: what it has, or its first faulty line. The call's own memory for the
 // names takes 157,296 bytes.
 pub fn check_text(text: &[u8]) -> Result<Counts, Refusal>
@@ -118,7 +127,7 @@ pub fn check_text(text: &[u8]) -> Result<Counts, Refusal>
         || !are_once_each(&mut components[..counts.components as usize])
         || !are_once_each(&mut messages[..counts.messages as usize])
     {
-        return check_dictionary_text(text.bytes);
+        return check_again(text);
     }
     outcome
 }
