@@ -20,14 +20,15 @@ pub struct OwnLevel {
     pub delimiter: u32,
 }
 
-// The tag in a word of the trace, whatever its step is.
+// The tag in a word of the trace, where it enters no group. The levels are read by
+// `From<u64> for Step`; this and the next tell the parts of a word alone.
 pub fn tag_in(word: u64) -> u32
     ensures { result ≡ tag_in word }
 {
     (word / 4 % 0x1_0000_0000) as u32
 }
 
-// The count tag in a word that enters a group, and the same part of any other word.
+// The count tag in a word that enters a group.
 pub fn count_tag_in(word: u64) -> u32
     ensures { result ≡ count_tag_in word }
 {

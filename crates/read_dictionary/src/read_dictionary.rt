@@ -65,18 +65,18 @@ fn put_dictionary(text: &[u8], counts: Counts, words: &mut [u32])
     let tags_at = 4 + 10 * lines;
     let components_at = tags_at + 2 * tags;
     let messages_at = components_at + 2 * components;
-    put_index(words, lines, RecordKind::Def as u32, tags_at, tags);
+    put_index(words, lines, u32::from(RecordKind::Def), tags_at, tags);
     put_index(
         words,
         lines,
-        RecordKind::Component as u32,
+        u32::from(RecordKind::Component),
         components_at,
         components,
     );
     put_index(
         words,
         lines,
-        RecordKind::Message as u32,
+        u32::from(RecordKind::Message),
         messages_at,
         messages,
     );

@@ -23,9 +23,10 @@ pub struct Block<'a> {
     pub message: &'a [u8],
 }
 
-// How many words there are at most, of a dictionary, and of a layout or a field table.
+// The most words of a dictionary.
 pub const DICTIONARY_WORDS: usize = 65536;
 
+// The most words of a layout or of a field table.
 pub const OTHER_WORDS: usize = 16384;
 
 impl Parts {
@@ -43,6 +44,7 @@ impl Parts {
     // `message`.
     pub fn read_part(&mut self, kind: &[u8], text: &[u8]) -> Result<(), NotReplayed> {
         let alloc = self.alloc;
+        // None first: a line of no known form leaves none of the part before it
         match kind.first() {
             Some(b'd') => {
                 self.dictionary = None;
@@ -65,8 +67,8 @@ impl Parts {
         Ok(())
     }
 
-    // The words of a dictionary that there is no room for stand in the place of those of the layout
-    // and of the field table.
+    // The words of a dictionary that there is no room for are written over those of the layout and
+    // of the field table, which stand after it.
     pub fn write_over(&mut self, words: &[u32]) {
         put_over(&mut self.layout, words);
         if let Some(rest) = words.get(OTHER_WORDS..) {
@@ -92,6 +94,11 @@ fn put_over(part: &mut Option<Vec<u32>>, words: &[u32]) {
             *old = *word;
         }
     }
+}
+
+// Whether the line gives a part.
+pub fn is_part(line: &[u8]) -> bool {
+    matches!(line.first(), Some(b'd' | b'l' | b'f' | b'm'))
 }
 
 fn read_words(alloc: Global, text: &[u8], most: usize) -> Result<Vec<u32>, NotReplayed> {

@@ -1,9 +1,11 @@
 // What a call gave, beside what was recorded of it.
-ghost use Rattle.std.specs.Prelude.{◌≡◌, ◌↔◌, IsTrue, MatchResult, false, codes, take};
+ghost use Rattle.std.specs.Prelude.{◌≡◌, ◌==◌, ◌↔◌, IsTrue, IfSome, MatchResult, Some, false, codes, take};
+ghost use Rattle.std.specs.List.{before_first, after_first};
+ghost use Rattle.counts.specs.Count.{count_of};
 ghost use Rattle.refusals.specs.Refusal.{refusal_number, refusal_place};
 ghost use Rattle.refusals.specs.declared.refusal.Refusal.TheVariants.{SpaceShort};
 
-use crate::recorded_values::first_word;
+use crate::recorded_values::split_kind;
 use counts::count::parse_count;
 use refusals::refusal::Refusal;
 
@@ -68,8 +70,12 @@ impl From<Refusal> for Refused {
 impl Refused {
     // The refusal whose number and place the text has, with a space between them; None where it has
     // another form.
-    pub fn recorded(text: &[u8]) -> Option<Self> {
-        let (number, place) = first_word(text).ok()?;
+    pub fn recorded(text: &[u8]) -> Option<Self>
+        ensures { IfSome result (λ refused.
+            (count_of (before_first (λ byte. byte == 32) text.now) ≡ Some refused.number)
+            × (count_of (after_first (λ byte. byte == 32) text.now) ≡ Some refused.place)) }
+    {
+        let (number, place) = split_kind(text);
         Some(Self {
             number: parse_count(number)?,
             place: parse_count(place)?,

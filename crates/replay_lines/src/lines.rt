@@ -1,5 +1,5 @@
-// The lines of a file, one after the other in a buffer that is filled anew where a line does not end
-// in it.
+// The lines of a file, one after the other in a buffer that is filled anew where a line does
+// not end in it.
 ghost use Rattle.std.specs.Prelude.{ℕ, ◌≤◌, ◌<◌, length, IfSome};
 
 use files::file::read_full;
@@ -23,11 +23,14 @@ pub fn first_line<F: Read>(file: &mut F, buffer: &mut [u8]) -> Option<Line>
 // The line after this one; None after the last line feed, and before a line that the buffer is too
 // small for.
 pub fn next_line<F: Read>(file: &mut F, buffer: &mut [u8], line: Line) -> Option<Line>
-    requires { (line.first ≤ line.past) × (line.past < line.filled) × (line.filled ≤ length buffer.old) }
+    requires { (line.first ≤ line.past) × (line.past ≤ line.filled) × (line.filled ≤ length buffer.old) }
     ensures { IfSome result (λ next. (next.first ≤ next.past) × (next.past < next.filled) × (next.filled ≤ length buffer.new)) }
 {
-    let first = line.past + 1;
     let filled = line.filled;
+    if filled <= line.past {
+        return refill(file, buffer, filled, filled);
+    }
+    let first = line.past + 1;
     match feed_in(&buffer[first..filled]) {
         Some(size) => Some(Line {
             first,

@@ -22,8 +22,8 @@ pub fn read_bytes(alloc: Global, text: &[u8]) -> Result<Vec<u8>, NotReplayed>
     Ok(hex::decode(alloc, text)?)
 }
 
-// The bytes as a list has them: no byte for one alone, as for `-`, and a digit that no other
-// follows is passed over. No digit is in upper case.
+// The bytes as a list has them: none where the text is one byte, as - is; a digit at the end that
+// has no other after it is passed over. A digit in upper case is of no known form.
 pub fn read_pairs(alloc: Global, text: &[u8]) -> Result<Vec<u8>, NotReplayed>
     ensures one { length text.now ≡ 1 → IfOk result (λ bytes. bytes.items ≡ []) }
     ensures pairs { length text.now ≢ 1 → IfOk result (λ bytes.
@@ -40,7 +40,7 @@ pub fn read_pairs(alloc: Global, text: &[u8]) -> Result<Vec<u8>, NotReplayed>
 }
 
 // More numbers than this are on no line of a list.
-const NUMBERS: usize = 24576;
+const MOST_NUMBERS: usize = 24576;
 
 pub fn read_numbers<W: FromStr<Err = ParseIntError> + Drop>(
     alloc: Global,
@@ -55,7 +55,7 @@ pub fn read_numbers<W: FromStr<Err = ParseIntError> + Drop>(
         .split(|byte| *byte == b' ')
         .map(|word| -> Result<W, NotReplayed> { read_number::<W>(word) })
         .try_collect(alloc)?;
-    if NUMBERS < numbers.len() {
+    if MOST_NUMBERS < numbers.len() {
         return Err(NotReplayed::NoForm);
     }
     Ok(numbers)

@@ -19,11 +19,12 @@ pub fn replay_written<W: Word, F: Fn(&mut [W]) -> Given>(
     }
     let just = writes(&call, number, words, &mut space[..needed]);
     let ample = writes(&call, number, words, space);
+    // all three calls are made, also where one differs: what a call writes stays in the space
     let short = is_short_of_one(&call, needed, &mut space[..needed]);
     Replayed::from(just && ample && short)
 }
 
-// The call writes just these words. The space is made as it was before.
+// The call writes just these words; `took_words` says what becomes of the space.
 fn writes<W: Word, F: Fn(&mut [W]) -> Given>(
     call: &F,
     number: usize,
@@ -62,7 +63,8 @@ pub fn is_short_of_one<W: Word, F: Fn(&mut [W]) -> Given>(
     is_short(given, needed) && is_unwritten(space)
 }
 
-// With space and with none the refusal is the one recorded, if one is, and nothing is written.
+// With space and with none the refusal is the one recorded, and nothing is written. What was recorded
+// in another form differs.
 pub fn replay_refused<W: Word, F: Fn(&mut [W]) -> Given>(
     call: F,
     recorded: Option<Refused>,

@@ -63,8 +63,9 @@ pub fn make_space<W: Word>(alloc: Global) -> Result<Vec<W>, AllocError>
     vec![in alloc; W::UNWRITTEN; W::MOST]
 }
 
-// The space holds these words at its start and none after them. Where they stand it is made as it was
-// before; a word that is written after them stays, so that each later case in the space differs too.
+// The space holds these words at its start and none after them. So many words at its start are made
+// as they were before, where it has so many. What was written after them stays, so that a later
+// case finds it.
 pub fn took_words<W: Word>(space: &mut [W], words: &[W]) -> bool
     ensures took { IsTrue result ↔ (
         (take (length words.now) space.old ≡ words.now)

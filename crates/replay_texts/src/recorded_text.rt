@@ -48,11 +48,11 @@ pub fn read_text(alloc: Global, line: &[u8]) -> Result<(Option<Vec<u8>>, &[u8]),
         return read_pieces(alloc, line);
     }
     let (bytes, rest) = first_word(line)?;
-    Ok((if_read(read_pairs(alloc, bytes))?, rest))
+    Ok((if_of_known_form(read_pairs(alloc, bytes))?, rest))
 }
 
 // None for a value of no known form.
-fn if_read(read: Result<Vec<u8>, NotReplayed>) -> Result<Option<Vec<u8>>, NotReplayed> {
+fn if_of_known_form(read: Result<Vec<u8>, NotReplayed>) -> Result<Option<Vec<u8>>, NotReplayed> {
     match read {
         Ok(bytes) => Ok(Some(bytes)),
         Err(NotReplayed::NoForm) => Ok(None),
@@ -65,6 +65,7 @@ fn if_read(read: Result<Vec<u8>, NotReplayed>) -> Result<Option<Vec<u8>>, NotRep
 fn read_pieces(alloc: Global, line: &[u8]) -> Result<(Option<Vec<u8>>, &[u8]), NotReplayed> {
     let mut text = Some(Vec::new(alloc));
     let mut rest = line;
+    // a proved loop has to end: a line has fewer pieces than bytes
     for _ in 0..line.len() {
         let Some(piece) = rest.strip_prefix(b"@") else {
             return Ok((text, rest));
@@ -90,14 +91,14 @@ fn repeated(
     if times == 0 {
         return Ok(Some(text));
     }
-    let Some(bytes) = if_read(read_pairs(alloc, bytes))? else {
+    let Some(bytes) = if_of_known_form(read_pairs(alloc, bytes))? else {
         return Ok(None);
     };
     if bytes.is_empty() {
         return Ok(Some(text));
     }
     for _ in 0..times {
-        if TEXT_BYTES < text.len() || TEXT_BYTES - text.len() < bytes.len() {
+        if TEXT_BYTES.saturating_sub(text.len()) < bytes.len() {
             return Ok(None);
         }
         text.extend_from_slice(bytes.as_slice())?;

@@ -16,6 +16,7 @@ const VALUE_BYTES: usize = 512;
 
 impl Cases for ValueCases {
     fn replay(&mut self, line: &[u8]) -> Result<Option<Replayed>, NotReplayed> {
+        // the bytes after the type and between the answers are not looked at
         let [tens, ones, _, value @ .., space, plain, _, strict] = line else {
             return Err(NotReplayed::NoForm);
         };

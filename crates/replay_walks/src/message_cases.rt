@@ -3,8 +3,7 @@
 // events that the Rust's message walk has, `plain WORD WORD ..` the Rust's verdict on each field and
 // `strict` that with document 01's strict mode, or `refused N P` the refusal.
 use crate::calls::{message_given, verdicts_given};
-use crate::walk_cases::is_part;
-use replay_lines::block::Parts;
+use replay_lines::block::{Parts, is_part};
 use replay_lines::cases::{Cases, NotReplayed, Replayed};
 use replay_lines::given::{Given, Refused, is_refusal};
 use replay_lines::recorded_values::{read_numbers, split_kind};
@@ -60,6 +59,7 @@ impl Cases for MessageCases {
             let replayed = replay_call(alloc, |lent| message_given(block, lent), rest, space)?;
             return Ok(Some(replayed));
         }
+        // any other line is taken as plain
         let strict = line.starts_with(b"s");
         let replayed = replay_call(
             alloc,

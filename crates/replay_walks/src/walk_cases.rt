@@ -2,7 +2,7 @@
 // `walk POSITION COUNT NEXT WORD WORD ..` gives the position and the words of the events that the
 // Rust's walk has. Each walk runs also with more space than it can need.
 use crate::calls::group_given;
-use replay_lines::block::{Block, Parts};
+use replay_lines::block::{Block, Parts, is_part};
 use replay_lines::cases::{Cases, NotReplayed, Replayed};
 use replay_lines::recorded_values::{read_numbers, split_kind};
 use replay_space::in_space::replay_written;
@@ -40,11 +40,6 @@ impl WalkCases {
             space: make_space(alloc)?,
         })
     }
-}
-
-// The line gives words or bytes that walks run on.
-pub fn is_part(line: &[u8]) -> bool {
-    matches!(line.first(), Some(b'd' | b'l' | b'f' | b'm'))
 }
 
 // Position and count tag of the walk, then the Rust's position and words.

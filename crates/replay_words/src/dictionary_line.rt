@@ -1,6 +1,6 @@
 // The words of a dictionary, and a dictionary that a line gives as a text in hexadecimal.
 use read_dictionary::read_dictionary::read_dictionary;
-use replay_lines::block::{DICTIONARY_WORDS, Parts};
+use replay_lines::block::{DICTIONARY_WORDS, OTHER_WORDS, Parts};
 use replay_lines::cases::NotReplayed;
 use replay_lines::given::{Given, Written};
 use replay_lines::recorded_values::read_pairs;
@@ -10,8 +10,9 @@ pub fn dictionary_given(text: &[u8], space: &mut [u32]) -> Given {
     read_dictionary(text, space).map(Written::from)
 }
 
-// Room for the words of any dictionary that a line gives.
-const ROOM: usize = 98304;
+// Room for the words of a dictionary, and beyond them for those of a layout and of a field table: a
+// dictionary of more words is taken as refused.
+const ROOM: usize = DICTIONARY_WORDS + 2 * OTHER_WORDS;
 
 pub fn make_room(alloc: Global) -> Result<Vec<u32>, AllocError> {
     vec![in alloc; 0u32; ROOM]

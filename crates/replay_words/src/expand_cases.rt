@@ -4,7 +4,7 @@
 use crate::dictionary_line::{make_room, read_dictionary_line};
 use crate::recorded_words::replay_numbers;
 use expand::expand_call::expand;
-use replay_lines::block::Parts;
+use replay_lines::block::{Parts, is_part};
 use replay_lines::cases::{Cases, NotReplayed, Replayed};
 use replay_lines::given::{Given, Refused, Written, is_refusal};
 use replay_lines::recorded_values::{first_word, read_numbers, read_pairs, split_kind};
@@ -23,6 +23,7 @@ pub struct ExpandCases {
 // A message type has at most so many bytes.
 const TYPE_BYTES: usize = 64;
 
+// Every line but `dictionary` is replayed as a case, one that gives a part too.
 impl Cases for ExpandCases {
     fn replay(&mut self, line: &[u8]) -> Result<Option<Replayed>, NotReplayed> {
         let (kind, rest) = split_kind(line);
@@ -39,11 +40,6 @@ impl Cases for ExpandCases {
         let space = self.space.as_mut_slice();
         Ok(Some(replay_type(self.alloc, rest, dictionary, space)?))
     }
-}
-
-// A layout, a field table or a message, of which no expansion is.
-fn is_part(line: &[u8]) -> bool {
-    matches!(line.first(), Some(b'l' | b'f' | b'm'))
 }
 
 impl ExpandCases {

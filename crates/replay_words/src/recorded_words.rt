@@ -4,7 +4,8 @@ use replay_lines::given::Given;
 use replay_space::in_space::replay_written;
 use std::alloc::Global;
 
-// The words are those recorded. A number of more than 32 bits is no word.
+// The words are those recorded. A number of more than 32 bits is no word; the call is made with its low
+// bits all the same, as what it writes stays in the space.
 pub fn replay_numbers<F: Fn(&mut [u32]) -> Given>(
     alloc: Global,
     call: F,
