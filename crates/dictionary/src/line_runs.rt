@@ -197,8 +197,7 @@ pub fn run_after(
     }
 }
 
-// The run that `run_after` gives, and one of no lines where it gives none. `take_lines` calls that, which
-// tells the two apart.
+// The same run, of no lines where there is none.
 pub fn run_behind(standing: Standing, clean: bool, count: usize, words: &[u32], first: usize) -> Run
     requires { (count ≤ 4294967295) × (first + 10 * count ≤ length words.now) }
     ensures run { PassedOver standing result.lines result.bytes result.tags (drop first words.now) }
