@@ -54,6 +54,7 @@ pub fn read_numbers<W: FromStr<Err = ParseIntError> + Drop>(
         .unwrap_or(text)
         .split(|byte| *byte == b' ')
         .map(|word| -> Result<W, NotReplayed> { read_number::<W>(word) })
+        .take(MOST_NUMBERS + 1)
         .try_collect(alloc)?;
     if MOST_NUMBERS < numbers.len() {
         return Err(NotReplayed::NoForm);
