@@ -24,7 +24,7 @@ use Rattle.refusals.specs.declared.refusal.Refusal.TheVariants.{NotAllowed}
 use Rattle.dictionary_order.specs.declared.dictionary_order.State.{State}
 use Rattle.dictionary_order.specs.declared.dictionary_order.Stage.TheVariants.{Beginning, Definitions, AfterHeader, AfterTrailer, AfterMessage, InHeader, InTrailer, InComponent, InMessage}
 use Rattle.dictionary_order.specs.declared.dictionary_order.Part.TheVariants.{Fields, Groups, Uses}
-use Rattle.dictionary_order.specs.DictionaryOrder.{stage_number, part_number, is_at, is_from, goes_on_with, start, standing, allowed_if, after, opened_block, closed_block, used_in, is_name, open_group, end_step, step_of}
+use Rattle.dictionary_order.specs.DictionaryOrder.{stage_number, part_number, is_at, is_from, goes_on_with, has_uses, start, standing, allowed_if, after, opened_block, closed_block, used_in, is_name, open_group, end_step, step_of}
 use Rattle.dictionary.specs.DictionaryWords.{is_of, name_of, place_of}
 use Rattle.dictionary.specs.DictionaryCheck.{is_taken, accepts}
 use Rattle.records.specs.LineLengths.{length_of}
@@ -94,10 +94,10 @@ module _ (state : State) (number : ℕ) where
   group-allowed count true test passes = (leb-true (part_number state.part) 1 test, group-moves count (ltb state.depth 40) refl passes)
   group-allowed count false test passes = absurd (false≢true passes)
 
-  use_where : (deep inside : Bool) → ltb 0 state.depth ≡ deep → is_from InComponent InMessage state.stage ≡ inside → deep || inside ≡ true
+  use_where : (deep inside : Bool) → ltb 0 state.depth ≡ deep → has_uses state.stage ≡ inside → deep || inside ≡ true
       → state.depth ≡ 0 → 7 ≤ stage_number state.stage
   use_where true inside test other holds none = absurd (omega (arith, ltb-true 0 state.depth test))
-  use_where false inside test other holds none = (is_between-range 7 8 (stage_number state.stage) (other ∙ holds)).0
+  use_where false inside test other holds none = leb-true 7 (stage_number state.stage) (other ∙ holds)
 
   end-moves : (name : Option ℕ) (letters : Option ℕ) (deep component message : Bool)
       → ltb 0 state.depth ≡ deep
@@ -157,11 +157,11 @@ moves (Field tag required) state number passes =
     (omega (arith, leb-true (part_number state.part) 0 step.0), step.1)
 moves (Group count delimiter required) state number passes = group-allowed state number count (goes_on_with Groups state.part) refl passes
 moves (Use name required) state number passes =
-    let step = allowed state number (goes_on_with Uses state.part && (ltb 0 state.depth || is_from InComponent InMessage state.stage)) (used_in state) passes in
+    let step = allowed state number (goes_on_with Uses state.part && (ltb 0 state.depth || has_uses state.stage)) (used_in state) passes in
     let where-used = and_right (goes_on_with Uses state.part) _ step.0 in (
       (
         leb-true (part_number state.part) 2 (and_left (goes_on_with Uses state.part) _ step.0),
-        use_where state number (ltb 0 state.depth) (is_from InComponent InMessage state.stage) refl refl where-used,
+        use_where state number (ltb 0 state.depth) (has_uses state.stage) refl refl where-used,
       ),
       rw step.1 (refl, (refl, refl)),
     )

@@ -5,7 +5,7 @@ use Rattle.dictionary_order.specs.declared.dictionary_order.State.{State}
 use Rattle.dictionary_order.specs.declared.dictionary_order.Stage.{Stage}
 use Rattle.dictionary_order.specs.declared.dictionary_order.Stage.TheVariants.{Beginning, Definitions, InComponent, InMessage}
 use Rattle.dictionary_order.specs.declared.dictionary_order.Part.TheVariants.{Fields, Uses}
-use Rattle.dictionary_order.specs.DictionaryOrder.{is_at, is_from, goes_on_with, allowed_if, after, is_name, close_group, close_component, close_message, def_step, value_step, open_block, close_block, field_step, use_step, end_step}
+use Rattle.dictionary_order.specs.DictionaryOrder.{is_at, is_from, goes_on_with, has_uses, allowed_if, after, is_name, close_group, close_component, close_message, def_step, value_step, open_block, close_block, field_step, use_step, end_step}
 use Rattle.dictionary.specs.LineOrder.{state_of, kept_of}
 
 -- the state after a line that is taken is made of what is kept of it
@@ -40,7 +40,7 @@ module _ (state : State) (number : ℕ) where
   field_counts = counts-allowed (goes_on_with Fields state.part) _ refl
 
   pub use_counts : (after state (use_step state number)).counts ≡ state.counts
-  use_counts = counts-allowed (goes_on_with Uses state.part && (ltb 0 state.depth || is_from InComponent InMessage state.stage)) _ refl
+  use_counts = counts-allowed (goes_on_with Uses state.part && (ltb 0 state.depth || has_uses state.stage)) _ refl
 
   pub end-counts : (name : Option ℕ) (letters : Option ℕ) → (after state (end_step name letters state number)).counts ≡ state.counts
   end-counts name letters =

@@ -96,7 +96,7 @@ fn use_step(standing: Standing) -> Option<Standing>
     ensures { Follows result standing use_step }
 {
     let is_allowed = match standing.stage {
-        Stage::InComponent | Stage::InMessage => true,
+        Stage::InComponent | Stage::InMessage | Stage::Other(_) => true,
         _ => 0 < standing.depth,
     };
     match standing.part {
@@ -112,7 +112,7 @@ fn group_step(standing: Standing, counts: &mut [u32; 40], count: u32) -> Option<
     ensures next { Follows result standing (group_step count) }
     ensures counts { (number : ℕ) → counts.new ≡ (after (state_of standing counts.old) (group_step count (state_of standing counts.old) number)).counts }
 {
-    if matches!(standing.part, Part::Uses | Part::NoBody) {
+    if !matches!(standing.part, Part::Fields | Part::Groups) {
         return None;
     }
     let depth = standing.depth;

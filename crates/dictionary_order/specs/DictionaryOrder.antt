@@ -11,8 +11,10 @@ use Rattle.line_forms.specs.declared.line.Line.TheVariants.{Def, Value, BeginHea
 use Rattle.dictionary_order.specs.declared.dictionary_order.State.{State}
 use Rattle.dictionary_order.specs.declared.dictionary_order.Stage.{Stage}
 use Rattle.dictionary_order.specs.declared.dictionary_order.Stage.TheVariants.{Beginning, Definitions, AfterHeader, AfterTrailer, AfterMessage, InHeader, InTrailer, InComponent, InMessage}
+use Rattle.dictionary_order.specs.declared.dictionary_order.Stage.TheVariants as stages
 use Rattle.dictionary_order.specs.declared.dictionary_order.Part.{Part}
 use Rattle.dictionary_order.specs.declared.dictionary_order.Part.TheVariants.{Fields, Groups, Uses, NoBody}
+use Rattle.dictionary_order.specs.declared.dictionary_order.Part.TheVariants as parts
 
 -- ---- the stages of a text: no block open, and what was read last; then the block that is open. Numbered as they may follow one another
 
@@ -28,6 +30,8 @@ stage_number InHeader = 5
 stage_number InTrailer = 6
 stage_number InComponent = 7
 stage_number InMessage = 8
+-- none of them
+stage_number (stages.Other above) = 9 + above
 
 abbrev pub is_at : Stage → Stage → Bool
 is_at here stage = stage_number stage ≡ᵇ stage_number here
@@ -44,6 +48,8 @@ part_number Fields = 0
 part_number Groups = 1
 part_number Uses = 2
 part_number NoBody = 3
+-- none of them
+part_number (parts.Other above) = 4 + above
 
 -- a body of which this part was read last may go on with that one
 abbrev pub goes_on_with : Part → Part → Bool
@@ -113,10 +119,14 @@ group_step count state number =
     then open_group count state number
     else Err (NotAllowed number)
 
+-- a component and a message
+abbrev pub has_uses : Stage → Bool
+has_uses stage = stage_number InComponent ≤ᵇ stage_number stage
+
 -- "Header and trailer bodies have no `use`; group blocks in them may."
 abbrev pub use_step : State → ℕ → Result State Refusal
 use_step state number =
-    allowed_if (goes_on_with Uses state.part && (0 <ᵇ state.depth || is_from InComponent InMessage state.stage)) (used_in state) number
+    allowed_if (goes_on_with Uses state.part && (0 <ᵇ state.depth || has_uses state.stage)) (used_in state) number
 
 -- ---- ends: an end line closes the innermost open block
 

@@ -1,6 +1,6 @@
 // The order of the lines of a dictionary text: which lines may stand where.
 ghost use Rattle.std.specs.Prelude.{◌≡◌, ◌≤◌};
-ghost use Rattle.dictionary_order.specs.DictionaryOrder.{opened_block, closed_block, def_step, value_step, open_block, close_block, field_step, group_step, use_step, end_step, step_of};
+ghost use Rattle.dictionary_order.specs.DictionaryOrder.{stage_number, part_number, opened_block, closed_block, def_step, value_step, open_block, close_block, field_step, group_step, use_step, end_step, step_of};
 
 use line_forms::line::Line;
 use refusals::refusal::Refusal;
@@ -20,6 +20,28 @@ pub enum Stage {
     InTrailer,
     InComponent,
     InMessage,
+    // what names no stage: by how much its number is above 9. Only lines of a body are taken there
+    Other(u8),
+}
+
+// The stage with this number.
+impl From<u8> for Stage {
+    ghost from_gives = { λ number stage. stage_number stage ≡ number };
+
+    fn from(number: u8) -> Stage {
+        match number {
+            0 => Stage::Beginning,
+            1 => Stage::Definitions,
+            2 => Stage::AfterHeader,
+            3 => Stage::AfterTrailer,
+            4 => Stage::AfterMessage,
+            5 => Stage::InHeader,
+            6 => Stage::InTrailer,
+            7 => Stage::InComponent,
+            8 => Stage::InMessage,
+            _ => Stage::Other(number - 9),
+        }
+    }
 }
 
 // Which lines of the innermost open body were read last. NoBody is a state of its own, in which no
@@ -32,6 +54,23 @@ pub enum Part {
     Uses,
     // no body is open
     NoBody,
+    // what names no part: by how much its number is above 4. No line of a body is taken there
+    Other(u8),
+}
+
+// The part with this number.
+impl From<u8> for Part {
+    ghost from_gives = { λ number part. part_number part ≡ number };
+
+    fn from(number: u8) -> Part {
+        match number {
+            0 => Part::Fields,
+            1 => Part::Groups,
+            2 => Part::Uses,
+            3 => Part::NoBody,
+            _ => Part::Other(number - 4),
+        }
+    }
 }
 
 // That at most 40 blocks are open is asked of a state and is no ghost field: `..state` takes none.
@@ -131,7 +170,7 @@ fn field_step(state: State, number: u64) -> Result<State, Refusal>
 fn group_step(state: State, number: u64, count: u32) -> Result<State, Refusal>
     ensures { result ≡ group_step count state number }
 {
-    if matches!(state.part, Part::Uses | Part::NoBody) {
+    if !matches!(state.part, Part::Fields | Part::Groups) {
         return Err(Refusal::NotAllowed(number));
     }
     let depth = state.depth;
@@ -154,7 +193,7 @@ fn use_step(state: State, number: u64) -> Result<State, Refusal>
     ensures { result ≡ use_step state number }
 {
     let is_allowed = match state.stage {
-        Stage::InComponent | Stage::InMessage => true,
+        Stage::InComponent | Stage::InMessage | Stage::Other(_) => true,
         _ => 0 < state.depth,
     };
     match state.part {

@@ -24,6 +24,7 @@ use Rattle.layout_text.specs.LevelLines.{lines_at, least_bytes}
 use Rattle.layout_text.specs.LevelLinesLaws.{lines_none}
 use Rattle.layout_text.specs.declared.layout_text.Part.{Part}
 use Rattle.layout_text.specs.declared.layout_text.Part.TheVariants.{Members, Required, Blocks}
+use Rattle.layout_text.specs.LayoutText.{takes_required}
 use Rattle.layout_text.specs.InOrder.{InOrder}
 use Rattle.layout_parts.specs.LayoutParts.{tag_of, own_tags, behind_tags, BlockStart, start_of, blocks_in, member_count, required_count, group_count}
 
@@ -137,7 +138,7 @@ module _ (text : List ℕ) (first members required groups : ℕ) (so_far : Count
 
     pub counts-required : (tag : ℕ) → line ≡ RequiredLine tag → CountsSoFar text next members (required + 1) groups
     counts-required tag is =
-        let order : (so_far.part ≡ Blocks → ⊥) × InOrder Required so_far.depth (lines_at text next) = rw (after (RequiredLine tag) is) at so_far.order in
+        let order : (takes_required so_far.part ≡ true) × InOrder Required so_far.depth (lines_at text next) = rw (after (RequiredLine tag) is) at so_far.order in
         let same : members + 0 ≡ members = omega arith in
         let also : groups + 0 ≡ groups = omega arith in
         rw (same, also) at

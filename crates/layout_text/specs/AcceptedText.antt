@@ -15,7 +15,7 @@ use Rattle.layout_text.specs.declared.level_line.LevelLine.{LevelLine}
 use Rattle.layout_text.specs.declared.level_line.LevelLine.TheVariants.{MemberLine, RequiredLine, GroupLine, EndLine, OtherLine}
 use Rattle.layout_text.specs.LayoutText.{takes_member, takes_required, layout_order_of, layout_text_of}
 use Rattle.layout_text.specs.LevelLines.{lines_at}
-use Rattle.layout_text.specs.InOrder.{InOrder, members_alone, no_block, ordered-lines}
+use Rattle.layout_text.specs.InOrder.{InOrder, members_alone, ordered-lines}
 
 pub in_order : Part → ℕ → List LevelLine → Bool
 in_order part depth [] = eqb depth 0
@@ -25,11 +25,6 @@ in_order part depth (GroupLine count delimiter flag ∷ lines) = ltb depth 40 &&
 in_order part depth (EndLine ∷ lines) = ltb 0 depth && in_order Blocks (depth - 1) lines
 in_order part depth (OtherLine ∷ lines) = false
 
-takes-other : (part : Part) → (part ≡ Blocks → ⊥) → takes_required part ≡ true
-takes-other Members other = refl
-takes-other Required other = refl
-takes-other Blocks other = absurd (other refl)
-
 -- the test and the order are the same
 pub passed-order : (lines : List LevelLine) (part : Part) (depth : ℕ) → in_order part depth lines ≡ true → InOrder part depth lines
 unfolding in_order
@@ -37,7 +32,7 @@ passed-order [] part depth passes = eqb-true depth 0 passes
 passed-order (MemberLine tag ∷ lines) part depth passes =
     (members_alone part (and_left (takes_member part) _ passes), passed-order lines part depth (and_right (takes_member part) _ passes))
 passed-order (RequiredLine tag ∷ lines) part depth passes =
-    (no_block part (and_left (takes_required part) _ passes), passed-order lines Required depth (and_right (takes_required part) _ passes))
+    (and_left (takes_required part) _ passes, passed-order lines Required depth (and_right (takes_required part) _ passes))
 passed-order (GroupLine count delimiter flag ∷ lines) part depth passes =
     (ltb-true depth 40 (and_left (ltb depth 40) _ passes), passed-order lines Members (depth + 1) (and_right (ltb depth 40) _ passes))
 passed-order (EndLine ∷ lines) part depth passes =
@@ -48,7 +43,7 @@ pub order-passes : (lines : List LevelLine) (part : Part) (depth : ℕ) → InOr
 unfolding in_order
 order-passes [] part depth order = eq-eqb depth 0 order
 order-passes (MemberLine tag ∷ lines) part depth order = rw order.0 (order-passes lines Members depth (rw order.0 at order.1))
-order-passes (RequiredLine tag ∷ lines) part depth order = and_both (takes_required part) _ (takes-other part order.0) (order-passes lines Required depth order.1)
+order-passes (RequiredLine tag ∷ lines) part depth order = and_both (takes_required part) _ order.0 (order-passes lines Required depth order.1)
 order-passes (GroupLine count delimiter flag ∷ lines) part depth order = and_both (ltb depth 40) _ (lt-ltb depth 40 order.0) (order-passes lines Members (depth + 1) order.1)
 order-passes (EndLine ∷ lines) part depth order = and_both (ltb 0 depth) _ (lt-ltb 0 depth order.0) (order-passes lines Blocks (depth - 1) order.1)
 order-passes (OtherLine ∷ lines) part depth order = absurd order

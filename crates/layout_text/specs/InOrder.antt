@@ -18,7 +18,7 @@ use Rattle.line_forms.specs.declared.line.Line.{Line}
 use Rattle.line_forms.specs.declared.line.Line.TheVariants.{Def, Value, BeginHeader, BeginTrailer, EndHeader, EndTrailer, Component, Message, Field, Group, Use, End, Member, RequiredTag, Unknown}
 use Rattle.layout_text.specs.declared.layout_text.LevelState.{LevelState}
 use Rattle.layout_text.specs.declared.layout_text.Part.{Part}
-use Rattle.layout_text.specs.declared.layout_text.Part.TheVariants.{Members, Required, Blocks}
+use Rattle.layout_text.specs.declared.layout_text.Part.TheVariants.{Members, Required, Blocks, Other}
 use Rattle.lines.specs.Lines.{Pieces, last, piece, lines_of}
 use Rattle.line_forms.specs.LineForms.{line_of}
 use Rattle.layout_text.specs.LayoutText.{takes_member, takes_required, level, top, in_part, level_step_of, on_taken, layout_order_from, layout_order_of, layout_text_of}
@@ -29,7 +29,7 @@ use Rattle.layout_text.specs.LevelLines.{level_line_of, lines_in, lines_at}
 abbrev pub InOrder : Part → ℕ → List LevelLine → Type 0
 InOrder part depth [] = depth ≡ 0
 InOrder part depth (MemberLine tag ∷ lines) = (part ≡ Members) × InOrder part depth lines
-InOrder part depth (RequiredLine tag ∷ lines) = (part ≡ Blocks → ⊥) × InOrder Required depth lines
+InOrder part depth (RequiredLine tag ∷ lines) = (takes_required part ≡ true) × InOrder Required depth lines
 InOrder part depth (GroupLine count delimiter flag ∷ lines) = (depth < 40) × InOrder Members (depth + 1) lines
 InOrder part depth (EndLine ∷ lines) = (0 < depth) × InOrder Blocks (depth - 1) lines
 InOrder part depth (OtherLine ∷ lines) = ⊥
@@ -46,6 +46,7 @@ pub members_alone : (part : Part) → takes_member part ≡ true → part ≡ Me
 members_alone Members takes = refl
 members_alone Required takes = absurd (false≢true takes)
 members_alone Blocks takes = absurd (false≢true takes)
+members_alone (Other above) takes = absurd (false≢true takes)
 
 pub no_block : (part : Part) → takes_required part ≡ true → part ≡ Blocks → ⊥
 no_block part takes same = false≢true (rw same at takes)
@@ -69,7 +70,7 @@ module _ (state : LevelState) (number total : ℕ) (goes_on : LevelState → Res
   required-follows : (tag : ℕ) (test : Bool) → takes_required state.part ≡ test → Accepted (cond test (Ok (in_part Required state)) (Err (NotAllowed number)))
       → InOrder state.part state.depth (RequiredLine tag ∷ later)
   unfolding Accepted
-  required-follows tag true here accepted = (no_block state.part here, rest (in_part Required state) accepted)
+  required-follows tag true here accepted = (here, rest (in_part Required state) accepted)
   required-follows tag false here accepted = refused (NotAllowed number) accepted
 
   group-follows : (next : LevelState) (count delimiter : ℕ) (flag test : Bool) → next.part ≡ Members → next.depth ≡ state.depth + 1 → ltb state.depth 40 ≡ test

@@ -4,8 +4,9 @@
 --   told_with level blocks rest   the lines of the open blocks and of the innermost open level as read so far, with `rest` behind them
 --   MayTake part level           the level as read so far, where `part` of it was read last
 --   lines-told                   "per level `member=TAG` lines, `required=TAG` lines, then group blocks"
-use Rattle.std.specs.Prelude.{◌≡◌, refl, ℕ, ◌+◌, ◌-◌, Bool, List, [], ◌∷◌, ◌++◌, length}
+use Rattle.std.specs.Prelude.{◌≡◌, refl, ℕ, ◌+◌, ◌-◌, Bool, true, List, [], ◌∷◌, ◌++◌, length}
 use Rattle.std.proofs.Common.{sym, ap, ◌∙◌, arith}
+use Rattle.std.proofs.lemmas.Bool.{false≢true}
 use Rattle.layouts.specs.Layout.{Level, Groups, Group, level_of_lem, no_groups, group_and, group_of_lem}
 use Rattle.layout_text.specs.declared.level_line.LevelLine.{LevelLine}
 use Rattle.layout_text.specs.declared.level_line.LevelLine.TheVariants.{MemberLine, RequiredLine, GroupLine, EndLine, OtherLine}
@@ -13,6 +14,7 @@ use Rattle.layout_text.specs.LevelLines.{lines_at}
 use Rattle.layout_text.specs.LayoutOfText.{groups_then, with_member, with_required, with_group, empty_level, Block, block_of, level_from, layout_of, member_lines, required_lines, level_lines, block_lines, group_lines}
 use Rattle.layout_text.specs.declared.layout_text.Part.{Part}
 use Rattle.layout_text.specs.declared.layout_text.Part.TheVariants.{Members, Required, Blocks}
+use Rattle.layout_text.specs.LayoutText.{takes_required}
 use Rattle.layout_text.specs.InOrder.{InOrder}
 
 -- ---- the lines of a level with one more
@@ -34,13 +36,13 @@ block_lines_more (group_and first others) group rest = ap (group_lines first) (b
 
 -- what was read last of a level: members alone, or no group yet
 abbrev pub MayTake : Part → Level → Type 0
-MayTake part (level_of_lem members required groups) = (part ≡ Members → required ≡ []) × ((part ≡ Blocks → ⊥) → groups ≡ no_groups)
+MayTake part (level_of_lem members required groups) = (part ≡ Members → required ≡ []) × (takes_required part ≡ true → groups ≡ no_groups)
 
 level_lines-member : (tag : ℕ) (part : Part) (level : Level) (rest : List LevelLine) → MayTake part level → part ≡ Members → level_lines (with_member tag level) rest ≡ level_lines level (MemberLine tag ∷ rest)
 unfolding level_lines required_lines
-level_lines-member tag part (level_of_lem members required held_groups) rest so_far first = rw (so_far.0 first, so_far.1 (λ same. cc)) (member_lines-more members tag rest)
+level_lines-member tag part (level_of_lem members required held_groups) rest so_far first = rw (so_far.0 first, so_far.1 (rw first refl)) (member_lines-more members tag rest)
 
-level_lines-required : (tag : ℕ) (part : Part) (level : Level) (rest : List LevelLine) → MayTake part level → (part ≡ Blocks → ⊥) → level_lines (with_required tag level) rest ≡ level_lines level (RequiredLine tag ∷ rest)
+level_lines-required : (tag : ℕ) (part : Part) (level : Level) (rest : List LevelLine) → MayTake part level → takes_required part ≡ true → level_lines (with_required tag level) rest ≡ level_lines level (RequiredLine tag ∷ rest)
 unfolding level_lines
 level_lines-required tag part (level_of_lem members required held_groups) rest so_far early =
     rw (so_far.1 early) (ap (member_lines members) (required_lines-more required tag rest))
@@ -65,11 +67,11 @@ told_with-same level other (block_of count delimiter flag around ∷ blocks) res
 taken-member : (tag : ℕ) (part : Part) (level : Level) → MayTake part level → MayTake part (with_member tag level)
 taken-member tag part (level_of_lem members required held_groups) so_far = so_far
 
-taken-required : (tag : ℕ) (part : Part) (level : Level) → MayTake part level → (part ≡ Blocks → ⊥) → MayTake Required (with_required tag level)
+taken-required : (tag : ℕ) (part : Part) (level : Level) → MayTake part level → takes_required part ≡ true → MayTake Required (with_required tag level)
 taken-required tag part (level_of_lem members required held_groups) so_far early = (λ first. cc, λ still. so_far.1 early)
 
 taken-group : (group : Group) (level : Level) → MayTake Blocks (with_group group level)
-taken-group group (level_of_lem members required held_groups) = (λ first. cc, λ early. absurd (early refl))
+taken-group group (level_of_lem members required held_groups) = (λ first. cc, λ early. absurd (false≢true early))
 
 no_blocks : (level : Level) (blocks : List Block) → length blocks ≡ 0 → told_with level blocks [] ≡ level_lines level []
 unfolding told_with

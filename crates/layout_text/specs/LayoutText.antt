@@ -13,22 +13,32 @@ use Rattle.line_forms.specs.declared.line.Line.{Line}
 use Rattle.line_forms.specs.declared.line.Line.TheVariants.{Def, Value, BeginHeader, BeginTrailer, EndHeader, EndTrailer, Component, Message, Field, Group, Use, End, Member, RequiredTag, Unknown}
 use Rattle.layout_text.specs.declared.layout_text.LevelState.{LevelState}
 use Rattle.layout_text.specs.declared.layout_text.Part.{Part}
-use Rattle.layout_text.specs.declared.layout_text.Part.TheVariants.{Members, Required, Blocks}
+use Rattle.layout_text.specs.declared.layout_text.Part.TheVariants.{Members, Required, Blocks, Other}
 use Rattle.lines.specs.Lines.{Pieces, last, piece, lines_of}
 use Rattle.line_forms.specs.LineForms.{line_of}
 
 -- ---- what was read last of the innermost open level; where a group block has closed, that is a group block
+
+-- numbered as they follow one another
+abbrev pub part_number : Part → ℕ
+part_number Members = 0
+part_number Required = 1
+part_number Blocks = 2
+-- none of them
+part_number (Other above) = 3 + above
 
 -- member lines come first, then required lines, then group blocks
 abbrev pub takes_member : Part → Bool
 takes_member Members = true
 takes_member Required = false
 takes_member Blocks = false
+takes_member (Other above) = false
 
 abbrev pub takes_required : Part → Bool
 takes_required Members = true
 takes_required Required = true
 takes_required Blocks = false
+takes_required (Other above) = false
 
 -- ---- states
 

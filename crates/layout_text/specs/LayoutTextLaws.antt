@@ -1,8 +1,9 @@
--- Laws of `LayoutText.antt`: what a step keeps, and the loop over the lines of a text, turn by turn. The lines still to be read are those of the
--- bytes that are left. Assumes nothing.
-use Rattle.std.specs.Prelude.{◌≡◌, ℕ, ◌+◌, ◌-◌, ◌≤◌, Bool, true, false, cond, List, [], ◌∷◌, eqb, ltb, length, get_or, Option, Some, None, Result, Ok, Err, IfOk}
+-- Laws of `LayoutText.antt`: the parts by their numbers, what a step keeps, and the loop over the lines of a text, turn by turn. The lines still
+-- to be read are those of the bytes that are left. Assumes nothing.
+use Rattle.std.specs.Prelude.{◌≡◌, ℕ, ◌+◌, ◌-◌, ◌≤◌, Bool, true, false, cond, List, [], ◌∷◌, eqb, ltb, leb, length, get_or, slice_index_or, Option, Some, None, Result, Ok, Err, IfOk}
 use Rattle.std.proofs.Math.Path.{refl}
-use Rattle.std.proofs.Common.{◌∙◌, ap, arith, ltb-true, length-append}
+use Rattle.std.proofs.Common.{◌∙◌, sym, ap, arith, ltb-true, le-ltb, ne_eqb, length-append}
+use Rattle.std.proofs.lemmas.Bool.{lt-leb}
 use denote.Ref.{Bor}
 use Rattle.ascii.specs.Bytes.{non_empty}
 use Rattle.refusals.specs.declared.refusal.Refusal.{Refusal}
@@ -10,13 +11,40 @@ use Rattle.refusals.specs.declared.refusal.Refusal.TheVariants.{UnknownForm, Not
 use Rattle.line_forms.specs.declared.line.Line.{Line}
 use Rattle.line_forms.specs.declared.line.Line.TheVariants.{Def, Value, BeginHeader, BeginTrailer, EndHeader, EndTrailer, Component, Message, Field, Group, Use, End, Member, RequiredTag, Unknown}
 use Rattle.layout_text.specs.declared.layout_text.LevelState.{LevelState}
-use Rattle.layout_text.specs.declared.layout_text.Part.TheVariants.{Required, Blocks}
+use Rattle.layout_text.specs.declared.layout_text.Part.{Part}
+use Rattle.layout_text.specs.declared.layout_text.Part.TheVariants.{Members, Required, Blocks, Other}
 use Rattle.lines.specs.Lines.{cut, lines_of, line_feed}
 use Rattle.lines.specs.TextLinesLaws.{given_unended, given_line}
 use Rattle.std.specs.Option.{ok_or}
 use Rattle.lines.specs.TextLines.{GivesLine, IsFirstLine, IsUnended}
 use Rattle.line_forms.specs.LineForms.{line_of}
-use Rattle.layout_text.specs.LayoutText.{takes_member, takes_required, level, top, in_part, open_level, close_open, close_level, numbered_end, level_step_of, layout_end, layout_order_from, layout_order_of}
+use Rattle.layout_text.specs.LayoutText.{part_number, takes_member, takes_required, level, top, in_part, open_level, close_open, close_level, numbered_end, level_step_of, layout_end, layout_order_from, layout_order_of}
+
+-- ---- the parts: what may follow, by their numbers, and each number once
+
+pub takes_member-number : (part : Part) → takes_member part ≡ eqb (part_number part) 0
+takes_member-number Members = refl
+takes_member-number Required = refl
+takes_member-number Blocks = refl
+takes_member-number (Other above) = sym (ne_eqb (3 + above) 0 (λ same. omega arith))
+
+pub takes_required-number : (part : Part) → takes_required part ≡ leb (part_number part) 1
+takes_required-number Members = refl
+takes_required-number Required = refl
+takes_required-number Blocks = refl
+takes_required-number (Other above) = sym (lt-leb (3 + above) 1 (omega arith))
+
+abbrev part_numbered : ℕ → Part
+part_numbered number = cond (ltb number 3) (slice_index_or (Members ∷ Required ∷ Blocks ∷ []) number Members) (Other (number - 3))
+
+part_numbered-number : (part : Part) → part_numbered (part_number part) ≡ part
+part_numbered-number Members = refl
+part_numbered-number Required = refl
+part_numbered-number Blocks = refl
+part_numbered-number (Other above) = let back : 3 + above - 3 ≡ above = omega arith in rw (le-ltb (3 + above) 3 (omega arith), back) refl
+
+pub part_number-once : (one other : Part) → part_number one ≡ part_number other → one ≡ other
+part_number-once one other same = sym (part_numbered-number one) ∙ ap part_numbered same ∙ part_numbered-number other
 
 -- ---- level_step_of: at most 40 group blocks are open
 

@@ -3,7 +3,7 @@ ghost use Rattle.std.specs.Prelude.{◌≡◌, ◌≤◌, ◌<◌, true, length,
 ghost use Rattle.layout_text.specs.declared.layout_text.Part.TheVariants.{Members};
 ghost use Rattle.layout_text.specs.LevelLines.{lines_at};
 ghost use Rattle.layout_text.specs.AcceptedText.{in_order};
-ghost use Rattle.layout_text.specs.LayoutText.{member_step, required_step, open_level, close_level, level_step_of, layout_end, layout_order_of, layout_text_of};
+ghost use Rattle.layout_text.specs.LayoutText.{part_number, member_step, required_step, open_level, close_level, level_step_of, layout_end, layout_order_of, layout_text_of};
 
 use line_forms::line::{Line, line_of};
 use lines::text::Text;
@@ -17,6 +17,23 @@ pub enum Part {
     Required,
     // a group block has closed
     Blocks,
+    // what names no part: by how much its number is above 3. No member and no required tag is taken
+    // there
+    Other(u8),
+}
+
+// The part with this number.
+impl From<u8> for Part {
+    ghost from_gives = { λ number part. part_number part ≡ number };
+
+    fn from(number: u8) -> Part {
+        match number {
+            0 => Part::Members,
+            1 => Part::Required,
+            2 => Part::Blocks,
+            _ => Part::Other(number - 3),
+        }
+    }
 }
 
 // That at most 40 blocks are open is asked of a state and is no ghost field: `..state` takes none.
@@ -42,11 +59,11 @@ fn required_step(state: LevelState, number: u64) -> Result<LevelState, Refusal>
     ensures { result ≡ required_step state number }
 {
     match state.part {
-        Part::Blocks => Err(Refusal::NotAllowed(number)),
-        _ => Ok(LevelState {
+        Part::Members | Part::Required => Ok(LevelState {
             part: Part::Required,
             ..state
         }),
+        _ => Err(Refusal::NotAllowed(number)),
     }
 }
 

@@ -24,7 +24,7 @@ use Rattle.refusals.specs.Refusal.{refusal_place}
 use Rattle.lines.specs.Lines.{Pieces, last, piece, lines_of}
 use Rattle.lines.specs.TextLines.{IsFirstLine, IsUnended}
 use Rattle.line_forms.specs.LineForms.{line_of}
-use Rattle.dictionary_order.specs.DictionaryOrder.{start, standing, step_of, is_at, is_from, goes_on_with, allowed_if, closed_block, opened_block, used_in, is_name, close_group, close_component, close_message, open_group, end_step}
+use Rattle.dictionary_order.specs.DictionaryOrder.{start, standing, step_of, is_at, is_from, goes_on_with, has_uses, allowed_if, closed_block, opened_block, used_in, is_name, close_group, close_component, close_message, open_group, end_step}
 use Rattle.texts.specs.DictionaryText.{counts, counted, defined_by, key_of, is_in, on_key, again_from, again_of, order_of, first_of}
 use Rattle.texts.specs.DictionaryTextLaws.{line-length, OrderSoFar, order-begins, order-faulty, order-turns, again-ends, again-unended, again-no_key, again-new, defines-length}
 use Rattle.records.specs.RecordsLaws.{Held}
@@ -89,7 +89,7 @@ module _ (state : State) (number : ℕ) where
       either-placed number (goes_on_with Groups state.part) (open_group count state number) (Err (NotAllowed number)) (group-placed count)
       (refused-placed number (NotAllowed number) refl)
   step-placed (Use name required) =
-      allowed-placed (goes_on_with Uses state.part && (ltb 0 state.depth || is_from InComponent InMessage state.stage)) (used_in state)
+      allowed-placed (goes_on_with Uses state.part && (ltb 0 state.depth || has_uses state.stage)) (used_in state)
   step-placed (End name letters) = end-placed name letters
   step-placed (Member tag) = refused-placed number (UnknownForm number) refl
   step-placed (RequiredTag tag) = refused-placed number (UnknownForm number) refl

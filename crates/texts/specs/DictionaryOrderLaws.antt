@@ -9,7 +9,7 @@ use Rattle.dictionary_order.specs.declared.dictionary_order.State.{State}
 use Rattle.dictionary_order.specs.declared.dictionary_order.Stage.{Stage}
 use Rattle.dictionary_order.specs.declared.dictionary_order.Stage.TheVariants.{Beginning, Definitions, AfterHeader, AfterTrailer, AfterMessage, InHeader, InTrailer, InComponent, InMessage}
 use Rattle.dictionary_order.specs.declared.dictionary_order.Part.TheVariants.{Fields, Groups, Uses}
-use Rattle.dictionary_order.specs.DictionaryOrder.{is_at, is_from, goes_on_with, standing, opened_block, closed_block, used_in, is_name, allowed_if, after, close_group, close_component, close_message, open_group, end_step, step_of}
+use Rattle.dictionary_order.specs.DictionaryOrder.{is_at, is_from, goes_on_with, has_uses, standing, opened_block, closed_block, used_in, is_name, allowed_if, after, close_group, close_component, close_message, open_group, end_step, step_of}
 
 -- ---- step_of: at most 40 group blocks are open
 
@@ -61,7 +61,7 @@ module _ (state : State) (number : ℕ) (within : state.depth ≤ 40) where
   step-depth (Group count delimiter required) =
       step-either (goes_on_with Groups state.part) (open_group count state number) _ (open_group_by count (ltb state.depth 40) refl) within
   step-depth (Use name required) =
-      allowed-depth (goes_on_with Uses state.part && (ltb 0 state.depth || is_from InComponent InMessage state.stage)) (used_in state) within
+      allowed-depth (goes_on_with Uses state.part && (ltb 0 state.depth || has_uses state.stage)) (used_in state) within
   step-depth (End name letters) = end-depth name letters
   step-depth (Member tag) = within
   step-depth (RequiredTag tag) = within
