@@ -2,9 +2,13 @@
 // many differ.
 #![tactic(auto)]
 
+use replay_lines::block::{BLOCK_WORDS, Parts};
 use replay_lines::cases::Cases;
 use replay_lines::recorded_files::replay_file;
+use replay_lines::recorded_values::MOST_NUMBERS;
+use replay_space::space::Word;
 use replay_texts::count_cases::CountCases;
+use replay_texts::recorded_text::TEXT_BYTES;
 use replay_texts::text_cases::{DictionaryTextCases, LayoutTextCases};
 use replay_texts::value_cases::ValueCases;
 use replay_walks::message_cases::{DictionaryForm, MessageCases};
@@ -12,76 +16,114 @@ use replay_walks::walk_cases::WalkCases;
 use replay_words::dictionary_cases::DictionaryCases;
 use replay_words::expand_cases::ExpandCases;
 use replay_words::layout_cases::LayoutCases;
-use std::alloc::AllocError;
 use std::io;
 
 fn main(rt: HostRuntime) -> io::Result<()> {
-    let alloc = rt.alloc();
     replay(
         &rt,
         "is_valid_value, plain and strict",
         b"is_valid_value.cases",
-        Ok(ValueCases { alloc }),
+        ValueCases,
     )?;
-    replay(
-        &rt,
-        "parse_count",
-        b"parse_count.cases",
-        Ok(CountCases { alloc }),
-    )?;
-    replay(
-        &rt,
-        "check_dictionary_text",
-        b"read_dictionary.cases",
-        Ok(DictionaryTextCases::new(alloc)),
-    )?;
-    replay(
-        &rt,
-        "read_dictionary",
-        b"read_dictionary.cases",
-        DictionaryCases::new(alloc),
-    )?;
-    replay(
-        &rt,
-        "check_layout_text",
-        b"read_layout.cases",
-        Ok(LayoutTextCases::new(alloc)),
-    )?;
-    replay(
-        &rt,
-        "read_layout",
-        b"read_layout.cases",
-        LayoutCases::new(alloc),
-    )?;
-    replay(
-        &rt,
-        "walk_group",
-        b"walk_group.cases",
-        WalkCases::new(alloc),
-    )?;
-    replay(
+    replay(&rt, "parse_count", b"parse_count.cases", CountCases)?;
+    replay_dictionary_texts(&rt)?;
+    replay_dictionaries(&rt)?;
+    replay_layout_texts(&rt)?;
+    replay_layouts(&rt)?;
+    replay_walks(&rt)?;
+    replay_messages(
         &rt,
         "check_values, plain and strict",
         b"check_values.cases",
-        MessageCases::new(alloc, DictionaryForm::Words),
+        DictionaryForm::Words,
     )?;
-    replay(
+    replay_messages(
         &rt,
         "walk_message, with its verdicts",
         b"walk_message.cases",
-        MessageCases::new(alloc, DictionaryForm::Text),
+        DictionaryForm::Text,
     )?;
-    replay(&rt, "expand", b"expand.cases", ExpandCases::new(alloc))
+    replay_expansions(&rt)
+}
+
+// There is no heap: the arrays that the cases of a list are lent stand in the function that replays
+// the list. Each is compiled by itself, so that no list takes the memory of another.
+#[inline(never)]
+fn replay_dictionary_texts(rt: &HostRuntime) -> io::Result<()> {
+    let mut bytes = [0u8; TEXT_BYTES];
+    let cases = DictionaryTextCases::new(&mut bytes);
+    replay(rt, "check_dictionary_text", b"read_dictionary.cases", cases)
+}
+
+#[inline(never)]
+fn replay_dictionaries(rt: &HostRuntime) -> io::Result<()> {
+    let mut bytes = [0u8; TEXT_BYTES];
+    let mut numbers = [0u64; MOST_NUMBERS];
+    let mut words = [0u32; MOST_NUMBERS];
+    let mut space = [0u32; u32::MOST];
+    let cases = DictionaryCases::new(&mut bytes, &mut numbers, &mut words, &mut space);
+    replay(rt, "read_dictionary", b"read_dictionary.cases", cases)
+}
+
+#[inline(never)]
+fn replay_layout_texts(rt: &HostRuntime) -> io::Result<()> {
+    let mut bytes = [0u8; TEXT_BYTES];
+    let cases = LayoutTextCases::new(&mut bytes);
+    replay(rt, "check_layout_text", b"read_layout.cases", cases)
+}
+
+#[inline(never)]
+fn replay_layouts(rt: &HostRuntime) -> io::Result<()> {
+    let mut bytes = [0u8; TEXT_BYTES];
+    let mut numbers = [0u64; MOST_NUMBERS];
+    let mut words = [0u32; MOST_NUMBERS];
+    let mut space = [0u32; u32::MOST];
+    let cases = LayoutCases::new(&mut bytes, &mut numbers, &mut words, &mut space);
+    replay(rt, "read_layout", b"read_layout.cases", cases)
+}
+
+#[inline(never)]
+fn replay_walks(rt: &HostRuntime) -> io::Result<()> {
+    let mut words = [0u32; BLOCK_WORDS];
+    let mut bytes = [0u8; TEXT_BYTES];
+    let mut numbers = [0u64; MOST_NUMBERS];
+    let mut space = [0u64; u64::MOST];
+    let parts = Parts::new(&mut words, &mut bytes);
+    let cases = WalkCases::new(parts, &mut numbers, &mut space);
+    replay(rt, "walk_group", b"walk_group.cases", cases)
+}
+
+#[inline(never)]
+fn replay_messages(
+    rt: &HostRuntime,
+    call: &str,
+    file: &[u8],
+    form: DictionaryForm,
+) -> io::Result<()> {
+    let mut words = [0u32; BLOCK_WORDS];
+    let mut bytes = [0u8; TEXT_BYTES];
+    let mut numbers = [0u64; MOST_NUMBERS];
+    let mut space = [0u64; u64::MOST];
+    let parts = Parts::new(&mut words, &mut bytes);
+    let cases = MessageCases::new(form, parts, &mut numbers, &mut space);
+    replay(rt, call, file, cases)
+}
+
+#[inline(never)]
+fn replay_expansions(rt: &HostRuntime) -> io::Result<()> {
+    let mut dictionary = [0u32; BLOCK_WORDS];
+    let mut bytes = [0u8; TEXT_BYTES];
+    let mut numbers = [0u64; MOST_NUMBERS];
+    let mut words = [0u32; MOST_NUMBERS];
+    let mut space = [0u32; u32::MOST];
+    let parts = Parts::new(&mut dictionary, &mut bytes);
+    let cases = ExpandCases::new(parts, &mut numbers, &mut words, &mut space);
+    replay(rt, "expand", b"expand.cases", cases)
 }
 
 // One line: the name of the call, the cases, those that differ and those whose line is of no known
 // form.
-fn replay<C: Cases>(
-    rt: &HostRuntime,
-    call: &str,
-    file: &[u8],
-    cases: Result<C, AllocError>,
-) -> io::Result<()> {
+fn replay<C: Cases>(rt: &HostRuntime, call: &str, file: &[u8], cases: C) -> io::Result<()> {
     let tally = replay_file(rt, file, cases)?;
     let cases = tally.cases;
     let differ = tally.differ;

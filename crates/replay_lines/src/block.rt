@@ -1,17 +1,20 @@
 // What cases run on: lines before them give the words of a dictionary, of a layout and of a field
-// table, and the bytes of a message.
+// table, and the bytes of a message. The words stand in one array that is lent, each kind at a place
+// of its own.
 use crate::cases::NotReplayed;
 use crate::recorded_values::{read_numbers, read_pairs};
-use std::alloc::Global;
 
-// The parts of a block that the lines so far give; None where their line is of no known form.
+// The room that the parts of a block are lent, and how many words or bytes the lines so far give;
+// None where their line is of no known form.
 #[derive(Drop)]
-pub struct Parts {
-    alloc: Global,
-    pub dictionary: Option<Vec<u32>>,
-    pub layout: Option<Vec<u32>>,
-    pub fields: Option<Vec<u32>>,
-    pub message: Option<Vec<u8>>,
+pub struct Parts<'a> {
+    // the words of a dictionary, then those of a layout, then those of a field table
+    pub words: &'a mut [u32],
+    pub bytes: &'a mut [u8],
+    pub dictionary: Option<usize>,
+    pub layout: Option<usize>,
+    pub fields: Option<usize>,
+    pub message: Option<usize>,
 }
 
 // What a case runs on.
@@ -29,70 +32,60 @@ pub const DICTIONARY_WORDS: usize = 65536;
 // The most words of a layout or of a field table.
 pub const OTHER_WORDS: usize = 16384;
 
-impl Parts {
-    pub fn new(alloc: Global) -> Self {
+// Where the words of a layout end, and those of a field table begin.
+const LAYOUT_PAST: usize = DICTIONARY_WORDS + OTHER_WORDS;
+
+// The most words of all three.
+pub const BLOCK_WORDS: usize = LAYOUT_PAST + OTHER_WORDS;
+
+impl<'a> Parts<'a> {
+    // No words and no bytes.
+    pub fn new(words: &'a mut [u32], bytes: &'a mut [u8]) -> Self {
         Self {
-            alloc,
-            dictionary: Some(Vec::new(alloc)),
-            layout: Some(Vec::new(alloc)),
-            fields: Some(Vec::new(alloc)),
-            message: Some(Vec::new(alloc)),
+            words,
+            bytes,
+            dictionary: Some(0),
+            layout: Some(0),
+            fields: Some(0),
+            message: Some(0),
         }
     }
 
     // Takes what a line gives whose first word begins as `dictionary`, `layout`, `fields` or
     // `message`.
     pub fn read_part(&mut self, kind: &[u8], text: &[u8]) -> Result<(), NotReplayed> {
-        let alloc = self.alloc;
+        let words = &mut *self.words;
         // None first: a line of no known form leaves none of the part before it
         match kind.first() {
             Some(b'd') => {
                 self.dictionary = None;
-                self.dictionary = Some(read_words(alloc, text, DICTIONARY_WORDS)?);
+                self.dictionary = Some(put_words(text, words, 0, DICTIONARY_WORDS)?);
             }
             Some(b'l') => {
                 self.layout = None;
-                self.layout = Some(read_words(alloc, text, OTHER_WORDS)?);
+                self.layout = Some(put_words(text, words, DICTIONARY_WORDS, LAYOUT_PAST)?);
             }
             Some(b'f') => {
                 self.fields = None;
-                self.fields = Some(read_words(alloc, text, OTHER_WORDS)?);
+                self.fields = Some(put_words(text, words, LAYOUT_PAST, BLOCK_WORDS)?);
             }
             Some(b'm') => {
                 self.message = None;
-                self.message = Some(read_pairs(alloc, text)?);
+                self.message = Some(read_pairs(text, self.bytes)?.len());
             }
             _ => return Err(NotReplayed::NoForm),
         }
         Ok(())
     }
 
-    // The words of a dictionary that there is no room for are written over those of the layout and
-    // of the field table, which stand after it.
-    pub fn write_over(&mut self, words: &[u32]) {
-        put_over(&mut self.layout, words);
-        if let Some(rest) = words.get(OTHER_WORDS..) {
-            put_over(&mut self.fields, rest);
-        }
-    }
-
     // The block, where the lines of all its parts are of a known form.
     pub fn block(&self) -> Result<Block<'_>, NotReplayed> {
         Ok(Block {
-            dictionary: slice_of(&self.dictionary)?,
-            layout: slice_of(&self.layout)?,
-            fields: slice_of(&self.fields)?,
-            message: slice_of(&self.message)?,
+            dictionary: slice_of(self.words, 0, self.dictionary)?,
+            layout: slice_of(self.words, DICTIONARY_WORDS, self.layout)?,
+            fields: slice_of(self.words, LAYOUT_PAST, self.fields)?,
+            message: slice_of(self.bytes, 0, self.message)?,
         })
-    }
-}
-
-// Puts the words over the first that the part has.
-fn put_over(part: &mut Option<Vec<u32>>, words: &[u32]) {
-    if let Some(part) = part {
-        for (old, word) in part.as_mut_slice().iter_mut().zip(words) {
-            *old = *word;
-        }
     }
 }
 
@@ -101,17 +94,20 @@ pub fn is_part(line: &[u8]) -> bool {
     matches!(line.first(), Some(b'd' | b'l' | b'f' | b'm'))
 }
 
-fn read_words(alloc: Global, text: &[u8], most: usize) -> Result<Vec<u32>, NotReplayed> {
-    let words = read_numbers::<u32>(alloc, text)?;
-    if most < words.len() {
-        return Err(NotReplayed::NoForm);
-    }
-    Ok(words)
+// Puts the words that the text gives from `first` on up to before `past`: how many there are.
+fn put_words(
+    text: &[u8],
+    words: &mut [u32],
+    first: usize,
+    past: usize,
+) -> Result<usize, NotReplayed> {
+    let room = words.get_mut(first..past).ok_or(NotReplayed::NoForm)?;
+    Ok(read_numbers::<u32>(text, room)?.len())
 }
 
-fn slice_of<T>(part: &Option<Vec<T>>) -> Result<&[T], NotReplayed> {
-    match part {
-        Some(words) => Ok(words.as_slice()),
-        None => Err(NotReplayed::NoForm),
-    }
+// So many of the room from `first` on.
+fn slice_of<T>(room: &[T], first: usize, size: Option<usize>) -> Result<&[T], NotReplayed> {
+    let size = size.ok_or(NotReplayed::NoForm)?;
+    let part = room.get(first..).and_then(|part| part.get(..size));
+    part.ok_or(NotReplayed::NoForm)
 }

@@ -3,7 +3,6 @@ ghost use Rattle.std.specs.Prelude.{◌≡◌, ◌↔◌, IsTrue};
 ghost use Rattle.replay_lines.specs.declared.cases.Replayed.TheVariants.{Same};
 
 use hex::FromHexError;
-use std::alloc::{AllocError, AllocFailed};
 use std::num::ParseIntError;
 
 // How a case went: its answers are those recorded, or not.
@@ -30,28 +29,12 @@ impl From<bool> for Replayed {
 #[derive(Clone, Copy, Debug, PartialEq, Eq)]
 pub enum NotReplayed {
     NoForm,
-    OutOfMemory,
 }
 
 // What `?` converts: each error that reading a line can end with, in a block of its own, as `From` has it.
-impl From<AllocError> for NotReplayed {
-    fn from(_error: AllocError) -> Self {
-        NotReplayed::OutOfMemory
-    }
-}
-
-impl<T: Drop> From<AllocFailed<T>> for NotReplayed {
-    fn from(_error: AllocFailed<T>) -> Self {
-        NotReplayed::OutOfMemory
-    }
-}
-
 impl From<FromHexError> for NotReplayed {
-    fn from(error: FromHexError) -> Self {
-        match error {
-            FromHexError::OutOfMemory => NotReplayed::OutOfMemory,
-            _ => NotReplayed::NoForm,
-        }
+    fn from(_error: FromHexError) -> Self {
+        NotReplayed::NoForm
     }
 }
 

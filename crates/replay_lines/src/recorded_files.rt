@@ -2,7 +2,6 @@
 use crate::cases::{Cases, NotReplayed, Replayed};
 use crate::lines::{first_line, next_line};
 use files::file::{open_named, say_unread};
-use std::alloc::AllocError;
 use std::io;
 use std::io::Read;
 use std::rt::Files;
@@ -24,17 +23,15 @@ impl Tally {
     }
 }
 
-// Replays the list that the file holds. Where it cannot be opened, or there is no memory for what its
-// cases need, the reason is said on standard error.
-pub fn replay_file<R: Files + Print + Eprint + AllocGlobal, C: Cases>(
+// Replays the list that the file holds. Where it cannot be opened, the reason is said on standard
+// error.
+pub fn replay_file<R: Files + Print + Eprint, C: Cases>(
     rt: &R,
     name: &[u8],
-    cases: Result<C, AllocError>,
+    cases: C,
 ) -> io::Result<Tally> {
-    match open_with(rt, name, cases) {
-        Ok((mut file, mut buffer, cases)) => {
-            replay_lines(rt, name, &mut file, buffer.as_mut_slice(), cases)
-        }
+    match open_named(rt, name) {
+        Ok(mut file) => replay_open(rt, &mut file, cases),
         Err(error) => {
             say_unread(rt, name, error);
             Ok(Tally::default())
@@ -42,23 +39,18 @@ pub fn replay_file<R: Files + Print + Eprint + AllocGlobal, C: Cases>(
     }
 }
 
-// The file, open, with room for its longest line, and the cases.
-fn open_with<R: Files + AllocGlobal, C: Cases>(
-    rt: &R,
-    name: &[u8],
-    cases: Result<C, AllocError>,
-) -> io::Result<(R::File, Vec<u8>, C)> {
-    let cases = cases?;
-    let buffer = vec![in rt.alloc(); 0u8; 131072]?;
-    let file = open_named(rt, name)?;
-    Ok((file, buffer, cases))
+// Replays the list that the file holds, which is open, with room for its longest line. It is compiled
+// by itself, so that the room is taken while the list is replayed alone.
+#[inline(never)]
+fn replay_open<R: Print, F: Read, C: Cases>(rt: &R, file: &mut F, cases: C) -> io::Result<Tally> {
+    let mut buffer = [0u8; 131072];
+    replay_lines(rt, file, &mut buffer, cases)
 }
 
 // A proved loop has to end, and nothing says that a file does: it takes as many turns as no run
 // uses up.
-fn replay_lines<R: Print + Eprint, F: Read, C: Cases>(
+fn replay_lines<R: Print, F: Read, C: Cases>(
     rt: &R,
-    name: &[u8],
     file: &mut F,
     buffer: &mut [u8],
     mut cases: C,
@@ -69,23 +61,16 @@ fn replay_lines<R: Print + Eprint, F: Read, C: Cases>(
         let Some(read) = line else {
             return Ok(tally);
         };
-        replay_line(
-            rt,
-            name,
-            &buffer[read.first..read.past],
-            &mut cases,
-            &mut tally,
-        )?;
+        replay_line(rt, &buffer[read.first..read.past], &mut cases, &mut tally)?;
         line = next_line(file, buffer, read);
     }
     Ok(tally)
 }
 
-// Replays the line, and prints it where it differs or is of no known form. One that there is no
-// memory for is told of on standard error too. One that is empty or begins with # is a comment.
-fn replay_line<R: Print + Eprint, C: Cases>(
+// Replays the line, and prints it where it differs or is of no known form. One that is empty or
+// begins with # is a comment.
+fn replay_line<R: Print, C: Cases>(
     rt: &R,
-    name: &[u8],
     line: &[u8],
     cases: &mut C,
     tally: &mut Tally,
@@ -103,10 +88,7 @@ fn replay_line<R: Print + Eprint, C: Cases>(
             tally.add(1, 0);
             print_line(rt, b"differs: ", line)
         }
-        Err(error) => {
-            if error == NotReplayed::OutOfMemory {
-                say_unread(rt, name, io::Error::from(AllocError));
-            }
+        Err(NotReplayed::NoForm) => {
             tally.add(0, 1);
             print_line(rt, b"of no known form: ", line)
         }

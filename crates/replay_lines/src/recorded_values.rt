@@ -1,65 +1,85 @@
 // Values in the recorded lists: bytes in lower-case hexadecimal, `-` for no bytes, and decimal
 // numbers with single spaces between them.
-ghost use Rattle.std.specs.Prelude.{◌≡◌, ◌≢◌, ◌==◌, ◌*◌, ◌/◌, [], ◌++◌, ◌∷◌, ◌↔◌, IfOk, IsTrue, codes, length, position, take};
+ghost use Rattle.std.specs.Prelude.{◌≡◌, ◌≢◌, ◌==◌, ◌*◌, ◌/◌, [], ◌++◌, ◌∷◌, ◌↔◌, ◌≤◌, IfOk, IsTrue, codes, length, position, take};
 ghost use Rattle.std.specs.List.{before_first, after_first};
 ghost use Rattle.hex.specs.Hex.{decode_of};
 ghost use Rattle.counts.specs.Count.{count_of};
 
 use crate::cases::NotReplayed;
 use counts::count::parse_count;
-use std::alloc::Global;
 use std::num::ParseIntError;
 use std::str::FromStr;
 
-pub fn read_bytes(alloc: Global, text: &[u8]) -> Result<Vec<u8>, NotReplayed>
-    ensures none { text.now ≡ codes "-" → IfOk result (λ bytes. bytes.items ≡ []) }
+pub fn read_bytes<'a>(text: &[u8], bytes: &'a mut [u8]) -> Result<&'a [u8], NotReplayed>
+    ensures none { text.now ≡ codes "-" → IfOk result (λ bytes. bytes.now ≡ []) }
     ensures some { text.now ≢ codes "-" →
-        IfOk result (λ bytes. decode_of text.now ≡ Ok bytes.items) }
+        IfOk result (λ bytes. decode_of text.now ≡ Ok bytes.now) }
+    ensures room { IfOk result (λ read. length read.now ≤ length bytes.old) }
 {
     if text == b"-".as_slice() {
-        return Ok(Vec::new(alloc));
+        return Ok(&bytes[..0]);
     }
-    Ok(hex::decode(alloc, text)?)
+    let bytes = bytes.get_mut(..text.len() / 2).ok_or(NotReplayed::NoForm)?;
+    hex::decode_to_slice(text, bytes)?;
+    Ok(bytes)
 }
 
 // The bytes as a list has them: none where the text is one byte, as - is; a digit at the end that
 // has no other after it is passed over. A digit in upper case is of no known form.
-pub fn read_pairs(alloc: Global, text: &[u8]) -> Result<Vec<u8>, NotReplayed>
-    ensures one { length text.now ≡ 1 → IfOk result (λ bytes. bytes.items ≡ []) }
+pub fn read_pairs<'a>(text: &[u8], bytes: &'a mut [u8]) -> Result<&'a [u8], NotReplayed>
+    ensures one { length text.now ≡ 1 → IfOk result (λ bytes. bytes.now ≡ []) }
     ensures pairs { length text.now ≢ 1 → IfOk result (λ bytes.
-        decode_of (take (length text.now / 2 * 2) text.now) ≡ Ok bytes.items) }
+        decode_of (take (length text.now / 2 * 2) text.now) ≡ Ok bytes.now) }
+    ensures room { IfOk result (λ read. length read.now ≤ length bytes.old) }
 {
     if text.len() == 1 {
-        return Ok(Vec::new(alloc));
+        return Ok(&bytes[..0]);
     }
     let pairs = &text[..text.len() / 2 * 2]; // no byte alone, so not "-"
     if pairs.iter().any(|byte| byte.is_ascii_uppercase()) {
         return Err(NotReplayed::NoForm);
     }
-    read_bytes(alloc, pairs)
+    read_bytes(pairs, bytes)
 }
 
 // More numbers than this are on no line of a list.
-const MOST_NUMBERS: usize = 24576;
+pub const MOST_NUMBERS: usize = 24576;
 
-pub fn read_numbers<W: FromStr<Err = ParseIntError> + Drop>(
-    alloc: Global,
+// Puts the numbers at the start of the room, and gives them.
+pub fn read_numbers<'a, W: FromStr<Err = ParseIntError> + Drop>(
     text: &[u8],
-) -> Result<Vec<W>, NotReplayed> {
-    if text.is_empty() {
-        return Ok(Vec::new(alloc));
+    room: &'a mut [W],
+) -> Result<&'a [W], NotReplayed>
+    ensures room { IfOk result (λ numbers. length numbers.now ≤ length room.old) }
+    ensures most { IfOk result (λ numbers. length numbers.now ≤ 24576) }
+{
+    let count = put_numbers(text, room)?;
+    Ok(room.split_at(count).0)
+}
+
+// Puts the numbers at the start of the room, and answers how many there are.
+fn put_numbers<W: FromStr<Err = ParseIntError> + Drop>(
+    text: &[u8],
+    room: &mut [W],
+) -> Result<usize, NotReplayed>
+    ensures room { IfOk result (λ count. count ≤ length room.old) }
+    ensures most { IfOk result (λ count. count ≤ 24576) }
+{
+    let most = room.len().min(MOST_NUMBERS);
+    let mut rest = text;
+    for (count, number) in room[..most].iter_mut().enumerate() {
+        if rest.is_empty() {
+            return Ok(count);
+        }
+        let (word, after) = split_kind(rest);
+        *number = read_number::<W>(word)?;
+        rest = after;
     }
-    let numbers: Vec<W> = text
-        .strip_suffix(b" ")
-        .unwrap_or(text)
-        .split(|byte| *byte == b' ')
-        .map(|word| -> Result<W, NotReplayed> { read_number::<W>(word) })
-        .take(MOST_NUMBERS + 1)
-        .try_collect(alloc)?;
-    if MOST_NUMBERS < numbers.len() {
-        return Err(NotReplayed::NoForm);
+    if rest.is_empty() {
+        Ok(most)
+    } else {
+        Err(NotReplayed::NoForm)
     }
-    Ok(numbers)
 }
 
 // A number in digits alone.

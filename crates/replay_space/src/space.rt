@@ -1,9 +1,7 @@
 // Space for words that a call is lent, and what it holds where none was written.
 ghost use Rattle.std.proofs.Common.{rules};
-ghost use Rattle.std.specs.Prelude.{◌≡◌, ℕ, ◌↔◌, ◌≤◌, ◌<◌, ◌++◌, IsTrue, All, IfOk, length, take, drop, replicate};
+ghost use Rattle.std.specs.Prelude.{◌≡◌, ℕ, ◌↔◌, ◌≤◌, ◌<◌, ◌++◌, IsTrue, All, length, take, drop, replicate};
 ghost use Rattle.std.specs.Bool.{Decides};
-
-use std::alloc::{AllocError, Global};
 
 // The words that calls write, of 32 or of 64 bits.
 pub trait Word: Copy + Eq {
@@ -57,10 +55,17 @@ impl Word for u64 {
     const MOST: usize = 153600;
 }
 
-pub fn make_space<W: Word>(alloc: Global) -> Result<Vec<W>, AllocError>
-    ensures { IfOk result (λ space. space.items ≡ replicate W.MOST W.UNWRITTEN) }
+// The space that calls are lent, out of lent room: as many words as a call is lent at most, where the
+// room has so many, and all of it otherwise.
+pub fn make_space<W: Word>(room: &mut [W]) -> &mut [W]
+    ensures enough { W.MOST ≤ length room.old → result.now ≡ replicate W.MOST W.UNWRITTEN }
+    ensures short { length room.old ≤ W.MOST →
+        result.now ≡ replicate (length room.old) W.UNWRITTEN }
 {
-    vec![in alloc; W::UNWRITTEN; W::MOST]
+    let most = room.len().min(W::MOST);
+    let space = &mut room[..most];
+    clear(space);
+    space
 }
 
 // The space holds these words at its start and none after them. So many words at its start are made

@@ -4,7 +4,6 @@ use crate::space::{Word, is_unwritten, make_space};
 use refusals::refusal::Refusal;
 use replay_lines::cases::Replayed;
 use replay_lines::given::{Given, Refused, Written};
-use std::test::Fail;
 
 // A call that writes one word.
 fn write_one<W: Word>(space: &mut [W], word: W) -> Given {
@@ -21,36 +20,37 @@ fn write_one<W: Word>(space: &mut [W], word: W) -> Given {
 }
 
 #[test]
-fn replays_words_of_either_size(rt: HostRuntime) -> Result<(), Fail> {
-    let mut space = make_space::<u32>(rt.alloc())?;
-    let replayed = replay_written(|lent| write_one(lent, 5), 3, &[5], space.as_mut_slice());
+fn replays_words_of_either_size(rt: HostRuntime) {
+    let mut room = [0u32; u32::MOST];
+    let space = make_space(&mut room);
+    let replayed = replay_written(|lent| write_one(lent, 5), 3, &[5], space);
     assert_eq!(rt; replayed, Replayed::Same);
-    assert!(rt; is_unwritten(space.as_slice()));
-    let mut space = make_space::<u64>(rt.alloc())?;
-    let replayed = replay_written(|lent| write_one(lent, 5), 3, &[5], space.as_mut_slice());
+    assert!(rt; is_unwritten(space));
+    let mut room = [0u64; u64::MOST];
+    let space = make_space(&mut room);
+    let replayed = replay_written(|lent| write_one(lent, 5), 3, &[5], space);
     assert_eq!(rt; replayed, Replayed::Same);
-    let replayed = replay_written(|lent| write_one(lent, 5), 3, &[6], space.as_mut_slice());
+    let replayed = replay_written(|lent| write_one(lent, 5), 3, &[6], space);
     assert_eq!(rt; replayed, Replayed::Differs);
-    let replayed = replay_written(|lent| write_one(lent, 5), 4, &[5], space.as_mut_slice());
+    let replayed = replay_written(|lent| write_one(lent, 5), 4, &[5], space);
     assert_eq!(rt; replayed, Replayed::Differs);
-    Ok(())
 }
 
 #[test]
-fn replays_a_refusal(rt: HostRuntime) -> Result<(), Fail> {
-    let mut space = make_space::<u32>(rt.alloc())?;
+fn replays_a_refusal(rt: HostRuntime) {
+    let mut room = [0u32; u32::MOST];
+    let space = make_space(&mut room);
     let refused = Refused::from(Refusal::MembersOver);
     let replayed = replay_refused(
         |_lent: &mut [u32]| Err(Refusal::MembersOver),
         Some(refused),
-        space.as_mut_slice(),
+        space,
     );
     assert_eq!(rt; replayed, Replayed::Same);
     let replayed = replay_refused(
         |_lent: &mut [u32]| Err(Refusal::TypeNotDefined),
         Some(refused),
-        space.as_mut_slice(),
+        space,
     );
     assert_eq!(rt; replayed, Replayed::Differs);
-    Ok(())
 }

@@ -3,115 +3,99 @@
 use counts::count::parse_count;
 use replay_lines::cases::NotReplayed;
 use replay_lines::recorded_values::{first_word, read_pairs, split_kind};
-use std::alloc::Global;
 
 // A text has at most so many bytes.
-const TEXT_BYTES: usize = 140000;
+pub const TEXT_BYTES: usize = 140000;
 
-// The text that the last line began with; None where its bytes are of no known form. A line `words`
-// belongs to the text above it.
+// The text that the last line began with, at the start of lent room; None where its bytes are of no
+// known form or there is no room for them. A line `words` belongs to the text above it.
 #[derive(Drop)]
-pub struct TextAbove {
-    alloc: Global,
-    bytes: Option<Vec<u8>>,
+pub struct TextAbove<'a> {
+    room: &'a mut [u8],
+    size: Option<usize>,
 }
 
-impl TextAbove {
-    pub fn new(alloc: Global) -> Self {
+impl<'a> TextAbove<'a> {
+    pub fn new(room: &'a mut [u8]) -> Self {
         Self {
-            alloc,
-            bytes: Some(Vec::new(alloc)),
+            room,
+            size: Some(0),
         }
     }
 
     // The text that the line belongs to, and what follows it and a space.
-    pub fn read<'a>(&mut self, line: &'a [u8]) -> Result<(&[u8], &'a [u8]), NotReplayed> {
+    pub fn read<'l>(&mut self, line: &'l [u8]) -> Result<(&[u8], &'l [u8]), NotReplayed> {
         let rest = if line.starts_with(b"w") {
             split_kind(line).1
         } else {
-            self.bytes = None;
-            match read_text(self.alloc, line) {
-                Ok((bytes, rest)) => {
-                    self.bytes = bytes;
-                    rest
-                }
-                Err(error) => {
-                    // a line that begins with no text at all leaves one of no bytes
-                    if error == NotReplayed::NoForm {
-                        self.bytes = Some(Vec::new(self.alloc));
-                    }
-                    return Err(error);
-                }
-            }
+            // a line that begins with no text at all leaves one of no bytes
+            self.size = Some(0);
+            let (text, rest) = read_text(line, self.room)?;
+            self.size = text.map(|text| text.len());
+            rest
         };
-        match &self.bytes {
-            Some(bytes) => Ok((bytes.as_slice(), rest)),
-            None => Err(NotReplayed::NoForm),
-        }
+        let size = self.size.ok_or(NotReplayed::NoForm)?;
+        let text = self.room.get(..size).ok_or(NotReplayed::NoForm)?;
+        Ok((text, rest))
     }
 }
 
-// The text that the line begins with, None where its bytes are of no known form, and what follows
-// it and a space.
-pub fn read_text(alloc: Global, line: &[u8]) -> Result<(Option<Vec<u8>>, &[u8]), NotReplayed> {
+// The text that the line begins with, put at the start of the room, None where its bytes are of no
+// known form or there is no room for them; and what follows it and a space.
+pub fn read_text<'a, 'l>(
+    line: &'l [u8],
+    room: &'a mut [u8],
+) -> Result<(Option<&'a [u8]>, &'l [u8]), NotReplayed> {
     if line.starts_with(b"@") {
-        return read_pieces(alloc, line);
+        let (size, rest) = read_pieces(line, room)?;
+        let text = size.and_then(|size| room.get(..size));
+        return Ok((text, rest));
     }
     let (bytes, rest) = first_word(line)?;
-    Ok((if_of_known_form(read_pairs(alloc, bytes))?, rest))
+    Ok((read_pairs(bytes, room).ok(), rest))
 }
 
-// None for a value of no known form.
-fn if_of_known_form(read: Result<Vec<u8>, NotReplayed>) -> Result<Option<Vec<u8>>, NotReplayed> {
-    match read {
-        Ok(bytes) => Ok(Some(bytes)),
-        Err(NotReplayed::NoForm) => Ok(None),
-        Err(NotReplayed::OutOfMemory) => Err(NotReplayed::OutOfMemory),
-    }
-}
-
-// The pieces that the line begins with, one after the other. After one of no known form there is to
-// be no other.
-fn read_pieces(alloc: Global, line: &[u8]) -> Result<(Option<Vec<u8>>, &[u8]), NotReplayed> {
-    let mut text = Some(Vec::new(alloc));
+// Puts the pieces that the line begins with at the start of the room, one after the other: how many
+// bytes they are. After one of no known form there is to be no other.
+fn read_pieces<'l>(
+    line: &'l [u8],
+    room: &mut [u8],
+) -> Result<(Option<usize>, &'l [u8]), NotReplayed> {
+    let mut size = Some(0);
     let mut rest = line;
     // a proved loop has to end: a line has fewer pieces than bytes
     for _ in 0..line.len() {
         let Some(piece) = rest.strip_prefix(b"@") else {
-            return Ok((text, rest));
+            return Ok((size, rest));
         };
         let (times, piece) = first_word(piece)?;
         let (bytes, next) = first_word(piece)?;
         let times = parse_count(times).ok_or(NotReplayed::NoForm)?;
-        let before = text.ok_or(NotReplayed::NoForm)?;
-        text = repeated(alloc, before, bytes, times)?;
+        let before = size.ok_or(NotReplayed::NoForm)?;
+        size = repeated(bytes, times, room, before);
         rest = next;
     }
-    Ok((text, rest))
+    Ok((size, rest))
 }
 
-// The text and after it the bytes so many times; None where they are of no known form or there is
-// no room for them.
-fn repeated(
-    alloc: Global,
-    mut text: Vec<u8>,
-    bytes: &[u8],
-    times: u64,
-) -> Result<Option<Vec<u8>>, NotReplayed> {
+// Puts the bytes so many times after the first `before` bytes of the room, and answers where they
+// end; None where they are of no known form or there is no room for them.
+fn repeated(bytes: &[u8], times: u64, room: &mut [u8], before: usize) -> Option<usize> {
     if times == 0 {
-        return Ok(Some(text));
+        return Some(before);
     }
-    let Some(bytes) = if_of_known_form(read_pairs(alloc, bytes))? else {
-        return Ok(None);
-    };
-    if bytes.is_empty() {
-        return Ok(Some(text));
+    let len = read_pairs(bytes, room.get_mut(before..)?).ok()?.len();
+    if len == 0 {
+        return Some(before);
     }
-    for _ in 0..times {
-        if TEXT_BYTES.saturating_sub(text.len()) < bytes.len() {
-            return Ok(None);
+    let piece = before..before + len;
+    let mut past = before + len;
+    for _ in 1..times {
+        if room.len() - past < len {
+            return None;
         }
-        text.extend_from_slice(bytes.as_slice())?;
+        room.copy_within(piece.clone(), past);
+        past += len;
     }
-    Ok(Some(text))
+    Some(past)
 }

@@ -8,23 +8,22 @@ use refusals::refusal::Refusal;
 use replay_lines::cases::{Cases, NotReplayed, Replayed};
 use replay_lines::given::{Refused, is_refusal};
 use replay_lines::recorded_values::{same_number, split_kind};
-use std::alloc::Global;
 use texts::dictionary_text::check_dictionary_text;
 
 #[derive(Drop)]
-pub struct DictionaryTextCases {
-    text: TextAbove,
+pub struct DictionaryTextCases<'a> {
+    text: TextAbove<'a>,
 }
 
-impl DictionaryTextCases {
-    pub fn new(alloc: Global) -> Self {
+impl<'a> DictionaryTextCases<'a> {
+    pub fn new(bytes: &'a mut [u8]) -> Self {
         Self {
-            text: TextAbove::new(alloc),
+            text: TextAbove::new(bytes),
         }
     }
 }
 
-impl Cases for DictionaryTextCases {
+impl Cases for DictionaryTextCases<'_> {
     fn replay(&mut self, line: &[u8]) -> Result<Option<Replayed>, NotReplayed> {
         let (text, answer) = self.text.read(line)?;
         let recorded = split_kind(answer).1;
@@ -46,20 +45,20 @@ fn is_recorded(refusal: Refusal, answer: &[u8]) -> bool {
 }
 
 #[derive(Drop)]
-pub struct LayoutTextCases {
-    text: TextAbove,
+pub struct LayoutTextCases<'a> {
+    text: TextAbove<'a>,
 }
 
-impl LayoutTextCases {
-    pub fn new(alloc: Global) -> Self {
+impl<'a> LayoutTextCases<'a> {
+    pub fn new(bytes: &'a mut [u8]) -> Self {
         Self {
-            text: TextAbove::new(alloc),
+            text: TextAbove::new(bytes),
         }
     }
 }
 
 // The order of a layout text's lines; a text that is refused with 10 or 11 has its lines in order.
-impl Cases for LayoutTextCases {
+impl Cases for LayoutTextCases<'_> {
     fn replay(&mut self, line: &[u8]) -> Result<Option<Replayed>, NotReplayed> {
         let (text, answer) = self.text.read(line)?;
         if line.starts_with(b"w") {

@@ -4,12 +4,9 @@ use field_types::field_type::FieldType;
 use formats::field_value::{is_strict_value, is_valid_value};
 use replay_lines::cases::{Cases, NotReplayed, Replayed};
 use replay_lines::recorded_values::read_pairs;
-use std::alloc::Global;
 
 #[derive(Drop)]
-pub struct ValueCases {
-    pub alloc: Global,
-}
+pub struct ValueCases;
 
 // A value has at most so many bytes.
 const VALUE_BYTES: usize = 512;
@@ -24,11 +21,8 @@ impl Cases for ValueCases {
             return Err(NotReplayed::NoForm);
         }
         let field_type = type_of(*tens, *ones).ok_or(NotReplayed::NoForm)?;
-        let value = read_pairs(self.alloc, value)?;
-        if VALUE_BYTES < value.len() {
-            return Err(NotReplayed::NoForm);
-        }
-        let value = value.as_slice();
+        let mut bytes = [0u8; VALUE_BYTES];
+        let value = read_pairs(value, &mut bytes)?;
         let same = recorded_as(is_valid_value(field_type, value), *plain)
             && recorded_as(is_strict_value(field_type, value), *strict);
         Ok(Some(Replayed::from(same)))

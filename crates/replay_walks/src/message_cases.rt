@@ -9,8 +9,7 @@ use replay_lines::given::{Given, Refused, is_refusal};
 use replay_lines::recorded_values::{read_numbers, split_kind};
 use replay_space::in_space::{replay_refused, replay_written};
 use replay_space::space::make_space;
-use replay_words::dictionary_line::{make_room, read_dictionary_line};
-use std::alloc::{AllocError, Global};
+use replay_words::dictionary_line::read_dictionary_line;
 
 // What a line `dictionary` gives: its words, or a text.
 #[derive(Clone, Copy, PartialEq, Eq)]
@@ -20,33 +19,34 @@ pub enum DictionaryForm {
 }
 
 #[derive(Drop)]
-pub struct MessageCases {
-    alloc: Global,
+pub struct MessageCases<'a> {
     form: DictionaryForm,
-    parts: Parts,
-    room: Vec<u32>,
-    space: Vec<u64>,
+    parts: Parts<'a>,
+    numbers: &'a mut [u64],
+    space: &'a mut [u64],
 }
 
-impl MessageCases {
-    pub fn new(alloc: Global, form: DictionaryForm) -> Result<Self, AllocError> {
-        Ok(Self {
-            alloc,
+impl<'a> MessageCases<'a> {
+    pub fn new(
+        form: DictionaryForm,
+        parts: Parts<'a>,
+        numbers: &'a mut [u64],
+        space: &'a mut [u64],
+    ) -> Self {
+        Self {
             form,
-            parts: Parts::new(alloc),
-            room: make_room(alloc)?,
-            space: make_space(alloc)?,
-        })
+            parts,
+            numbers,
+            space: make_space(space),
+        }
     }
 }
 
-impl Cases for MessageCases {
+impl Cases for MessageCases<'_> {
     fn replay(&mut self, line: &[u8]) -> Result<Option<Replayed>, NotReplayed> {
         let (kind, rest) = split_kind(line);
-        let alloc = self.alloc;
         if self.form == DictionaryForm::Text && line.starts_with(b"d") {
-            let room = self.room.as_mut_slice();
-            read_dictionary_line(alloc, rest, &mut self.parts, room)?;
+            read_dictionary_line(rest, &mut self.parts)?;
         } else if is_part(line) {
             self.parts.read_part(kind, rest)?;
         }
@@ -54,17 +54,18 @@ impl Cases for MessageCases {
         if is_part(line) {
             return Ok(None);
         }
-        let space = self.space.as_mut_slice();
+        let numbers = &mut *self.numbers;
+        let space = &mut *self.space;
         if line.starts_with(b"w") {
-            let replayed = replay_call(alloc, |lent| message_given(block, lent), rest, space)?;
+            let replayed = replay_call(|lent| message_given(block, lent), rest, numbers, space)?;
             return Ok(Some(replayed));
         }
         // any other line is taken as plain
         let strict = line.starts_with(b"s");
         let replayed = replay_call(
-            alloc,
             |lent| verdicts_given(block, strict, lent),
             rest,
+            numbers,
             space,
         )?;
         Ok(Some(replayed))
@@ -73,9 +74,9 @@ impl Cases for MessageCases {
 
 // The call beside the answer that was recorded.
 fn replay_call<F: Fn(&mut [u64]) -> Given>(
-    alloc: Global,
     call: F,
     answer: &[u8],
+    numbers: &mut [u64],
     space: &mut [u64],
 ) -> Result<Replayed, NotReplayed>
     requires { F.IsAlwaysCallable call }
@@ -84,6 +85,6 @@ fn replay_call<F: Fn(&mut [u64]) -> Given>(
         let refused = Refused::recorded(split_kind(answer).1);
         return Ok(replay_refused(call, refused, space));
     }
-    let words = read_numbers::<u64>(alloc, answer)?;
-    Ok(replay_written(call, 0, words.as_slice(), space))
+    let words = read_numbers(answer, numbers)?;
+    Ok(replay_written(call, 0, words, space))
 }

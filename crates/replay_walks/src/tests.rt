@@ -1,12 +1,18 @@
-// Lines of the recorded lists, replayed with memory.
+// Lines of the recorded lists, replayed in lent arrays.
 use crate::message_cases::{DictionaryForm, MessageCases};
 use crate::walk_cases::WalkCases;
+use replay_lines::block::{BLOCK_WORDS, Parts};
 use replay_lines::cases::{Cases, NotReplayed, Replayed};
-use std::test::Fail;
+use replay_space::space::Word;
 
 #[test]
-fn replays_walks(rt: HostRuntime) -> Result<(), Fail> {
-    let mut cases = WalkCases::new(rt.alloc())?;
+fn replays_walks(rt: HostRuntime) {
+    let mut words = [0u32; BLOCK_WORDS];
+    let mut bytes = [0u8; 64];
+    let mut numbers = [0u64; 64];
+    let mut space = [0u64; u64::MOST];
+    let parts = Parts::new(&mut words, &mut bytes);
+    let mut cases = WalkCases::new(parts, &mut numbers, &mut space);
     for line in [
         "layout 1 13 14 15 15 15 15 10 11 11 9 1 0 9 1",
         "message 393d3001313d7601",
@@ -25,12 +31,17 @@ fn replays_walks(rt: HostRuntime) -> Result<(), Fail> {
     );
     assert_eq!(rt; cases.replay(b"walk 2 9 3"), Ok(Some(Replayed::Differs)));
     assert_eq!(rt; cases.replay(b"walk 2 9"), Err(NotReplayed::NoForm));
-    Ok(())
 }
 
 #[test]
-fn replays_verdicts(rt: HostRuntime) -> Result<(), Fail> {
-    let mut cases = MessageCases::new(rt.alloc(), DictionaryForm::Words)?;
+fn replays_verdicts(rt: HostRuntime) {
+    let mut words = [0u32; BLOCK_WORDS];
+    let mut bytes = [0u8; 64];
+    let mut numbers = [0u64; 64];
+    let mut space = [0u64; u64::MOST];
+    let parts = Parts::new(&mut words, &mut bytes);
+    let form = DictionaryForm::Words;
+    let mut cases = MessageCases::new(form, parts, &mut numbers, &mut space);
     for line in [
         "dictionary 5 1 0 0 1 35 14 0 0 0 0 0 0 0 3 0 0 0 0 0 0 0 0 0 10 0 0 0 0 0 0 0 0 0 \
          4 0 0 0 0 0 0 0 0 0 11 0 0 0 0 0 0 0 0 0 35 0",
@@ -42,5 +53,4 @@ fn replays_verdicts(rt: HostRuntime) -> Result<(), Fail> {
     assert_eq!(rt; cases.replay(b"plain"), Ok(Some(Replayed::Same)));
     assert_eq!(rt; cases.replay(b"strict"), Ok(Some(Replayed::Same)));
     assert_eq!(rt; cases.replay(b"plain 0"), Ok(Some(Replayed::Differs)));
-    Ok(())
 }

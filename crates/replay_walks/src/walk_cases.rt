@@ -7,17 +7,16 @@ use replay_lines::cases::{Cases, NotReplayed, Replayed};
 use replay_lines::recorded_values::{read_numbers, split_kind};
 use replay_space::in_space::replay_written;
 use replay_space::space::make_space;
-use std::alloc::{AllocError, Global};
 
 #[derive(Drop)]
-pub struct WalkCases {
-    alloc: Global,
-    parts: Parts,
-    space: Vec<u64>,
+pub struct WalkCases<'a> {
+    parts: Parts<'a>,
+    numbers: &'a mut [u64],
+    space: &'a mut [u64],
 }
 
 // A line that gives no part of the block and is no walk is passed over.
-impl Cases for WalkCases {
+impl Cases for WalkCases<'_> {
     fn replay(&mut self, line: &[u8]) -> Result<Option<Replayed>, NotReplayed> {
         let (kind, rest) = split_kind(line);
         if is_part(line) {
@@ -27,30 +26,28 @@ impl Cases for WalkCases {
         if !line.starts_with(b"w") {
             return Ok(None);
         }
-        let space = self.space.as_mut_slice();
-        Ok(Some(replay_walk(self.alloc, block, rest, space)?))
+        Ok(Some(replay_walk(block, rest, self.numbers, self.space)?))
     }
 }
 
-impl WalkCases {
-    pub fn new(alloc: Global) -> Result<Self, AllocError> {
-        Ok(Self {
-            alloc,
-            parts: Parts::new(alloc),
-            space: make_space(alloc)?,
-        })
+impl<'a> WalkCases<'a> {
+    pub fn new(parts: Parts<'a>, numbers: &'a mut [u64], space: &'a mut [u64]) -> Self {
+        Self {
+            parts,
+            numbers,
+            space: make_space(space),
+        }
     }
 }
 
 // Position and count tag of the walk, then the Rust's position and words.
 fn replay_walk(
-    alloc: Global,
     block: Block<'_>,
     walk: &[u8],
+    numbers: &mut [u64],
     space: &mut [u64],
 ) -> Result<Replayed, NotReplayed> {
-    let numbers = read_numbers::<u64>(alloc, walk)?;
-    let [position, tag, next, words @ ..] = numbers.as_slice() else {
+    let [position, tag, next, words @ ..] = read_numbers(walk, numbers)? else {
         return Err(NotReplayed::NoForm);
     };
     let position = *position as usize;

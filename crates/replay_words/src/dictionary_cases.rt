@@ -9,44 +9,50 @@ use replay_lines::recorded_values::{read_numbers, same_number, split_kind};
 use replay_space::in_space::{is_short_of_one, replay_refused};
 use replay_space::space::{clear, make_space};
 use replay_texts::recorded_text::TextAbove;
-use std::alloc::{AllocError, Global};
 
 #[derive(Drop)]
-pub struct DictionaryCases {
-    alloc: Global,
-    text: TextAbove,
-    space: Vec<u32>,
+pub struct DictionaryCases<'a> {
+    text: TextAbove<'a>,
+    numbers: &'a mut [u64],
+    words: &'a mut [u32],
+    space: &'a mut [u32],
 }
 
-impl DictionaryCases {
-    pub fn new(alloc: Global) -> Result<Self, AllocError> {
-        Ok(Self {
-            alloc,
-            text: TextAbove::new(alloc),
-            space: make_space(alloc)?,
-        })
+impl<'a> DictionaryCases<'a> {
+    pub fn new(
+        bytes: &'a mut [u8],
+        numbers: &'a mut [u64],
+        words: &'a mut [u32],
+        space: &'a mut [u32],
+    ) -> Self {
+        Self {
+            text: TextAbove::new(bytes),
+            numbers,
+            words,
+            space: make_space(space),
+        }
     }
 }
 
-impl Cases for DictionaryCases {
+impl Cases for DictionaryCases<'_> {
     fn replay(&mut self, line: &[u8]) -> Result<Option<Replayed>, NotReplayed> {
         let (text, answer) = self.text.read(line)?;
-        let space = self.space.as_mut_slice();
+        let space = &mut *self.space;
         let numbered = split_kind(answer).1;
         if is_refusal(answer) {
             let refused = Refused::recorded(numbered);
             let replayed = replay_refused(|lent| dictionary_given(text, lent), refused, space);
             return Ok(Some(replayed));
         }
-        let words = read_numbers::<u64>(self.alloc, split_kind(numbered).1)?;
-        if words.is_empty() {
+        let recorded = read_numbers(split_kind(numbered).1, self.numbers)?;
+        if recorded.is_empty() {
             return Ok(Some(replay_long(text, numbered, space)));
         }
         let replayed = replay_numbers(
-            self.alloc,
             |lent| dictionary_given(text, lent),
             0,
-            words.as_slice(),
+            recorded,
+            self.words,
             space,
         )?;
         Ok(Some(replayed))

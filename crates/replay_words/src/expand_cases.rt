@@ -1,7 +1,7 @@
 // Cases of `expand`. A line `dictionary HEX` gives a dictionary text; each line
 // `expand HEX NODES WORD WORD ..` after it gives a message type, the nodes that the Rust's expansion
 // spends and the words of its layout, or `expand HEX refused N P`.
-use crate::dictionary_line::{make_room, read_dictionary_line};
+use crate::dictionary_line::read_dictionary_line;
 use crate::recorded_words::replay_numbers;
 use expand::expand_call::expand;
 use replay_lines::block::{Parts, is_part};
@@ -10,26 +10,24 @@ use replay_lines::given::{Given, Refused, Written, is_refusal};
 use replay_lines::recorded_values::{first_word, read_numbers, read_pairs, split_kind};
 use replay_space::in_space::replay_refused;
 use replay_space::space::make_space;
-use std::alloc::{AllocError, Global};
 
 #[derive(Drop)]
-pub struct ExpandCases {
-    alloc: Global,
-    parts: Parts,
-    room: Vec<u32>,
-    space: Vec<u32>,
+pub struct ExpandCases<'a> {
+    parts: Parts<'a>,
+    numbers: &'a mut [u64],
+    words: &'a mut [u32],
+    space: &'a mut [u32],
 }
 
 // A message type has at most so many bytes.
 const TYPE_BYTES: usize = 64;
 
 // Every line but `dictionary` is replayed as a case, one that gives a part too.
-impl Cases for ExpandCases {
+impl Cases for ExpandCases<'_> {
     fn replay(&mut self, line: &[u8]) -> Result<Option<Replayed>, NotReplayed> {
         let (kind, rest) = split_kind(line);
         if line.starts_with(b"d") {
-            let room = self.room.as_mut_slice();
-            read_dictionary_line(self.alloc, rest, &mut self.parts, room)?;
+            read_dictionary_line(rest, &mut self.parts)?;
         } else if is_part(line) {
             self.parts.read_part(kind, rest)?;
         }
@@ -37,45 +35,47 @@ impl Cases for ExpandCases {
         if line.starts_with(b"d") {
             return Ok(None);
         }
-        let space = self.space.as_mut_slice();
-        Ok(Some(replay_type(self.alloc, rest, dictionary, space)?))
+        let replayed = replay_type(rest, dictionary, self.numbers, self.words, self.space)?;
+        Ok(Some(replayed))
     }
 }
 
-impl ExpandCases {
-    pub fn new(alloc: Global) -> Result<Self, AllocError> {
-        Ok(Self {
-            alloc,
-            parts: Parts::new(alloc),
-            room: make_room(alloc)?,
-            space: make_space(alloc)?,
-        })
+impl<'a> ExpandCases<'a> {
+    pub fn new(
+        parts: Parts<'a>,
+        numbers: &'a mut [u64],
+        words: &'a mut [u32],
+        space: &'a mut [u32],
+    ) -> Self {
+        Self {
+            parts,
+            numbers,
+            words,
+            space: make_space(space),
+        }
     }
 }
 
 // The message type, then the answer that was recorded.
 fn replay_type(
-    alloc: Global,
     case: &[u8],
     dictionary: &[u32],
+    numbers: &mut [u64],
+    words: &mut [u32],
     space: &mut [u32],
 ) -> Result<Replayed, NotReplayed> {
     let (letters, answer) = first_word(case)?;
-    let message_type = read_pairs(alloc, letters)?;
-    if TYPE_BYTES < message_type.len() {
-        return Err(NotReplayed::NoForm);
-    }
-    let message_type = message_type.as_slice();
+    let mut bytes = [0u8; TYPE_BYTES];
+    let message_type = read_pairs(letters, &mut bytes)?;
     let expansion = |lent: &mut [u32]| expansion_given(dictionary, message_type, lent);
     if is_refusal(answer) {
         let refused = Refused::recorded(split_kind(answer).1);
         return Ok(replay_refused(expansion, refused, space));
     }
-    let numbers = read_numbers::<u64>(alloc, answer)?;
-    let [nodes, words @ ..] = numbers.as_slice() else {
+    let [nodes, recorded @ ..] = read_numbers(answer, numbers)? else {
         return Err(NotReplayed::NoForm);
     };
-    replay_numbers(alloc, expansion, *nodes as usize, words, space)
+    replay_numbers(expansion, *nodes as usize, recorded, words, space)
 }
 
 fn expansion_given(dictionary: &[u32], message_type: &[u8], space: &mut [u32]) -> Given {

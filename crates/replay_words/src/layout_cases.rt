@@ -8,36 +8,42 @@ use replay_lines::recorded_values::{read_numbers, split_kind};
 use replay_space::in_space::replay_refused;
 use replay_space::space::make_space;
 use replay_texts::recorded_text::TextAbove;
-use std::alloc::{AllocError, Global};
 
 #[derive(Drop)]
-pub struct LayoutCases {
-    alloc: Global,
-    text: TextAbove,
-    space: Vec<u32>,
+pub struct LayoutCases<'a> {
+    text: TextAbove<'a>,
+    numbers: &'a mut [u64],
+    words: &'a mut [u32],
+    space: &'a mut [u32],
 }
 
-impl LayoutCases {
-    pub fn new(alloc: Global) -> Result<Self, AllocError> {
-        Ok(Self {
-            alloc,
-            text: TextAbove::new(alloc),
-            space: make_space(alloc)?,
-        })
+impl<'a> LayoutCases<'a> {
+    pub fn new(
+        bytes: &'a mut [u8],
+        numbers: &'a mut [u64],
+        words: &'a mut [u32],
+        space: &'a mut [u32],
+    ) -> Self {
+        Self {
+            text: TextAbove::new(bytes),
+            numbers,
+            words,
+            space: make_space(space),
+        }
     }
 }
 
-impl Cases for LayoutCases {
+impl Cases for LayoutCases<'_> {
     fn replay(&mut self, line: &[u8]) -> Result<Option<Replayed>, NotReplayed> {
         let (text, answer) = self.text.read(line)?;
-        let space = self.space.as_mut_slice();
+        let space = &mut *self.space;
         if line.starts_with(b"w") {
-            let words = read_numbers::<u64>(self.alloc, answer)?;
+            let recorded = read_numbers(answer, self.numbers)?;
             let replayed = replay_numbers(
-                self.alloc,
                 |lent| layout_given(text, lent),
                 0,
-                words.as_slice(),
+                recorded,
+                self.words,
                 space,
             )?;
             return Ok(Some(replayed));
