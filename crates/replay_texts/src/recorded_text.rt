@@ -88,13 +88,12 @@ fn repeated(bytes: &[u8], times: u64, room: &mut [u8], before: usize) -> Option<
     if len == 0 {
         return Some(before);
     }
-    let piece = before..before + len;
     let mut past = before + len;
     for _ in 1..times {
         if room.len() - past < len {
             return None;
         }
-        room.copy_within(piece.clone(), past);
+        room.copy_within(before..before + len, past);
         past += len;
     }
     Some(past)

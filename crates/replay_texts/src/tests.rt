@@ -28,14 +28,8 @@ fn replays_lines(rt: HostRuntime) {
     let same = Ok(Some(Replayed::Same));
     assert_eq!(rt; CountCases.replay(b"2b none"), same);
     assert_eq!(rt; CountCases.replay(b"31 1"), same);
-    assert_eq!(rt;
-        CountCases.replay(b"31 2"),
-        Ok(Some(Replayed::Differs))
-    );
-    assert_eq!(rt;
-        CountCases.replay(b"31"),
-        Err(NotReplayed::NoForm)
-    );
+    assert_eq!(rt; CountCases.replay(b"31 2"), Ok(Some(Replayed::Differs)));
+    assert_eq!(rt; CountCases.replay(b"31"), Err(NotReplayed::NoForm));
     assert_eq!(rt; ValueCases.replay(b"00 - 0 0"), same);
     assert_eq!(rt; ValueCases.replay(b"00 30 1 1"), same);
     assert_eq!(rt;
@@ -46,7 +40,10 @@ fn replays_lines(rt: HostRuntime) {
         DictionaryTextCases::new(&mut bytes).replay(b"@65535 0a refused 2 1"),
         same
     );
-    assert_eq!(rt; LayoutTextCases::new(&mut bytes).replay(b"- accepted 0"), same);
+    assert_eq!(rt;
+        LayoutTextCases::new(&mut bytes).replay(b"- accepted 0"),
+        same
+    );
     assert_eq!(rt;
         LayoutTextCases::new(&mut bytes).replay(b"words 0 7 7 7 7 7 7"),
         Ok(None)
