@@ -40,23 +40,33 @@ impl Cases for DictionaryCases<'_> {
         let space = &mut *self.space;
         let numbered = split_kind(answer).1;
         if is_refusal(answer) {
-            let refused = Refused::recorded(numbered);
-            let replayed = replay_refused(|lent| dictionary_given(text, lent), refused, space);
-            return Ok(Some(replayed));
+            return Ok(Some(replay_refusal(text, numbered, space)));
         }
-        let recorded = read_numbers(split_kind(numbered).1, self.numbers)?;
-        if recorded.is_empty() {
-            return Ok(Some(replay_long(text, numbered, space)));
-        }
-        let replayed = replay_numbers(
-            |lent| dictionary_given(text, lent),
-            0,
-            recorded,
-            self.words,
-            space,
-        )?;
-        Ok(Some(replayed))
+        let numbers = &mut *self.numbers;
+        let words = &mut *self.words;
+        Ok(Some(replay_words(text, numbered, numbers, words, space)?))
     }
+}
+
+// The text beside the refusal that was recorded.
+fn replay_refusal(text: &[u8], numbered: &[u8], space: &mut [u32]) -> Replayed {
+    let refused = Refused::recorded(numbered);
+    replay_refused(|lent| dictionary_given(text, lent), refused, space)
+}
+
+// The text beside the number of its lines and the words that were recorded of its dictionary.
+fn replay_words(
+    text: &[u8],
+    numbered: &[u8],
+    numbers: &mut [u64],
+    words: &mut [u32],
+    space: &mut [u32],
+) -> Result<Replayed, NotReplayed> {
+    let recorded = read_numbers(split_kind(numbered).1, numbers)?;
+    if recorded.is_empty() {
+        return Ok(replay_long(text, numbered, space));
+    }
+    replay_numbers(|lent| dictionary_given(text, lent), 0, recorded, words, space)
 }
 
 // A text whose words were not recorded: the first word is its number of lines.

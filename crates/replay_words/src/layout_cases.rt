@@ -38,23 +38,33 @@ impl Cases for LayoutCases<'_> {
         let (text, answer) = self.text.read(line)?;
         let space = &mut *self.space;
         if line.starts_with(b"w") {
-            let recorded = read_numbers(answer, self.numbers)?;
-            let replayed = replay_numbers(
-                |lent| layout_given(text, lent),
-                0,
-                recorded,
-                self.words,
-                space,
-            )?;
-            return Ok(Some(replayed));
+            let numbers = &mut *self.numbers;
+            let words = &mut *self.words;
+            return Ok(Some(replay_words(text, answer, numbers, words, space)?));
         }
         if answer.starts_with(b"a") {
             return Ok(None);
         }
-        let refused = Refused::recorded(split_kind(answer).1);
-        let replayed = replay_refused(|lent| layout_given(text, lent), refused, space);
-        Ok(Some(replayed))
+        Ok(Some(replay_refusal(text, answer, space)))
     }
+}
+
+// The text beside the words that were recorded of its layout.
+fn replay_words(
+    text: &[u8],
+    answer: &[u8],
+    numbers: &mut [u64],
+    words: &mut [u32],
+    space: &mut [u32],
+) -> Result<Replayed, NotReplayed> {
+    let recorded = read_numbers(answer, numbers)?;
+    replay_numbers(|lent| layout_given(text, lent), 0, recorded, words, space)
+}
+
+// The text beside the refusal that was recorded.
+fn replay_refusal(text: &[u8], answer: &[u8], space: &mut [u32]) -> Replayed {
+    let refused = Refused::recorded(split_kind(answer).1);
+    replay_refused(|lent| layout_given(text, lent), refused, space)
 }
 
 fn layout_given(text: &[u8], space: &mut [u32]) -> Given {
