@@ -66,7 +66,13 @@ fn replay_words(
     if recorded.is_empty() {
         return Ok(replay_long(text, numbered, space));
     }
-    replay_numbers(|lent| dictionary_given(text, lent), 0, recorded, words, space)
+    replay_numbers(
+        |lent| dictionary_given(text, lent),
+        0,
+        recorded,
+        words,
+        space,
+    )
 }
 
 // A text whose words were not recorded: the first word is its number of lines.
