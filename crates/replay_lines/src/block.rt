@@ -1,6 +1,6 @@
 // What cases run on: lines before them give the words of a dictionary, of a layout and of a field
-// table, and the bytes of a message. The words stand in one array that is lent, each kind at a place
-// of its own.
+// table, and the bytes of a message. The words stand in one lent array, those of each kind at a
+// place of their own.
 use crate::cases::NotReplayed;
 use crate::recorded_values::{read_numbers, read_pairs};
 

@@ -39,8 +39,8 @@ pub fn replay_file<R: Files + Print + Eprint, C: Cases>(
     }
 }
 
-// Replays the list that the file holds, which is open, with room for its longest line. It is compiled
-// by itself, so that the room is taken while the list is replayed alone.
+// Replays the list that the file holds, which is open, with room for its longest line. It is
+// compiled by itself, so that the room is taken only while the list is replayed.
 #[inline(never)]
 fn replay_open<R: Print, F: Read, C: Cases>(rt: &R, file: &mut F, cases: C) -> io::Result<Tally> {
     let mut buffer = [0u8; 131072];

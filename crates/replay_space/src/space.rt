@@ -55,8 +55,8 @@ impl Word for u64 {
     const MOST: usize = 153600;
 }
 
-// The space that calls are lent, out of lent room: as many words as a call is lent at most, where the
-// room has so many, and all of it otherwise.
+// The space that calls are lent, at the start of lent room: as many words as a call is lent at most,
+// or all of the room where it has fewer.
 pub fn make_space<W: Word>(room: &mut [W]) -> &mut [W]
     ensures enough { W.MOST ≤ length room.old → result.now ≡ replicate W.MOST W.UNWRITTEN }
     ensures short { length room.old ≤ W.MOST →

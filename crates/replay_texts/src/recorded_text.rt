@@ -4,7 +4,7 @@ use counts::count::parse_count;
 use replay_lines::cases::NotReplayed;
 use replay_lines::recorded_values::{first_word, read_pairs, split_kind};
 
-// A text has at most so many bytes.
+// A text has at most so many bytes: those that the program lends room for.
 pub const TEXT_BYTES: usize = 140000;
 
 // The text that the last line began with, at the start of lent room; None where its bytes are of no

@@ -9,9 +9,9 @@ pub fn dictionary_given(text: &[u8], space: &mut [u32]) -> Given {
     read_dictionary(text, space).map(Written::from)
 }
 
-// Reads the dictionary text that the line gives into the parts: no words where it is refused. Those
-// that a dictionary has no room for are written over the words of the layout and of the field table,
-// which stand after it. No message is left: its bytes were the text's.
+// Reads the dictionary text that the line gives into the parts: no words where it is refused. The
+// words that a dictionary has no room for are written over those of the layout and of the field
+// table, which stand after it. No message is left: its bytes were the text's.
 pub fn read_dictionary_line(line: &[u8], parts: &mut Parts<'_>) -> Result<(), NotReplayed> {
     parts.message = Some(0);
     parts.dictionary = None;

@@ -3,8 +3,9 @@ use replay_lines::cases::{NotReplayed, Replayed};
 use replay_lines::given::Given;
 use replay_space::in_space::replay_written;
 
-// The words are those recorded, put at the start of the room. A number of more than 32 bits is no word;
-// the call is made with its low bits all the same, as what it writes stays in the space.
+// The words are those recorded, which are put at the start of the room. A number of more than 32
+// bits is no word; the call is made with its low bits all the same, as what it writes stays in the
+// space.
 pub fn replay_numbers<F: Fn(&mut [u32]) -> Given>(
     call: F,
     number: usize,
