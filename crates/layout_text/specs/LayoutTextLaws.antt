@@ -1,13 +1,13 @@
 -- Laws of `LayoutText.antt`: the parts by their numbers, what a step keeps, and the loop over the lines of a text, turn by turn. The lines still
 -- to be read are those of the bytes that are left. Assumes nothing.
-use Rattle.std.specs.Prelude.{◌≡◌, ℕ, ◌+◌, ◌-◌, ◌≤◌, Bool, true, false, cond, List, [], ◌∷◌, eqb, ltb, leb, length, get_or, slice_index_or, Option, Some, None, Result, Ok, Err, IfOk}
+use Rattle.std.specs.Prelude.{◌≡◌, ℕ, ◌+◌, ◌-◌, ◌≤◌, ◌<◌, Bool, true, false, cond, List, [], ◌∷◌, eqb, ltb, leb, length, get_or, set, slice_index_or, Option, Some, None, Result, Ok, Err, IfOk}
 use Rattle.std.proofs.Math.Path.{refl}
 use Rattle.std.proofs.Common.{◌∙◌, sym, ap, arith, ltb-true, le-ltb, ne_eqb, length-append}
 use Rattle.std.proofs.lemmas.Bool.{lt-leb}
 use denote.Ref.{Bor}
 use Rattle.ascii.specs.Bytes.{non_empty}
 use Rattle.refusals.specs.declared.refusal.Refusal.{Refusal}
-use Rattle.refusals.specs.declared.refusal.Refusal.TheVariants.{UnknownForm, NotAllowed}
+use Rattle.refusals.specs.declared.refusal.Refusal.TheVariants.{UnknownForm, NotAllowed, TooManyOpen}
 use Rattle.line_forms.specs.declared.line.Line.{Line}
 use Rattle.line_forms.specs.declared.line.Line.TheVariants.{Def, Value, BeginHeader, BeginTrailer, EndHeader, EndTrailer, Component, Message, Field, Group, Use, End, Member, RequiredTag, Unknown}
 use Rattle.layout_text.specs.declared.layout_text.LevelState.{LevelState}
@@ -33,6 +33,13 @@ takes_required-number Members = refl
 takes_required-number Required = refl
 takes_required-number Blocks = refl
 takes_required-number (Other above) = sym (lt-leb (3 + above) 1 (omega arith))
+
+-- of the named parts all but `Blocks` take required tags
+pub takes-other : (part : Part) → part_number part < 3 → (part ≡ Blocks → ⊥) → takes_required part ≡ true
+takes-other Members named other = refl
+takes-other Required named other = refl
+takes-other Blocks named other = absurd (other refl)
+takes-other (Other above) named other = absurd (omega (arith, named))
 
 abbrev part_numbered : ℕ → Part
 part_numbered number = cond (ltb number 3) (slice_index_or (Members ∷ Required ∷ Blocks ∷ []) number Members) (Other (number - 3))
@@ -89,6 +96,50 @@ module _ (state : LevelState) (number : ℕ) (within : state.depth ≤ 40) where
 
   pub taken-depth : (line : Line) (next : LevelState) → level_step_of state number line ≡ Ok next → next.depth ≤ 40
   taken-depth line next taken = rw taken at (level-depth line)
+
+-- ---- level_step_of: no step leads to what names no part
+
+abbrev pub Named : LevelState → Type 0
+Named state = part_number state.part < 3
+
+abbrev LeadsToNamed : Result LevelState Refusal → Type 0
+LeadsToNamed step = IfOk step Named
+
+named-either : (test : Bool) (this that : Result LevelState Refusal) → LeadsToNamed this → LeadsToNamed that → LeadsToNamed (cond test this that)
+named-either true this that one other = one
+named-either false this that one other = other
+
+module _ (state : LevelState) (number : ℕ) (named : Named state) where
+  close_level-named : (count : ℕ) → LeadsToNamed (close_level count state number)
+  close_level-named count =
+      named-either (eqb state.depth 0) (Err (NotAllowed number)) (close_open count state number) tt
+      (named-either (eqb count (get_or state.counts (state.depth - 1) 0)) (Ok (level Blocks (state.depth - 1) state.counts)) (Err (NotAllowed number)) (omega arith) tt)
+
+  numbered-named : (name : Option ℕ) → LeadsToNamed (numbered_end name state number)
+  numbered-named (Some count) = close_level-named count
+  numbered-named None = tt
+
+  level_step-named : (line : Line) → LeadsToNamed (level_step_of state number line)
+  unfolding level_step_of
+  level_step-named (Def tag place) = tt
+  level_step-named (Value admitted) = tt
+  level_step-named BeginHeader = tt
+  level_step-named BeginTrailer = tt
+  level_step-named EndHeader = tt
+  level_step-named EndTrailer = tt
+  level_step-named (Component name) = tt
+  level_step-named (Message letters app) = tt
+  level_step-named (Field tag flag) = tt
+  level_step-named (Group count delimiter flag) =
+      named-either (ltb state.depth 40) (Ok (level Members (state.depth + 1) (set state.counts state.depth count))) (Err (TooManyOpen number)) (omega arith) tt
+  level_step-named (Use name flag) = tt
+  level_step-named (End name read_letters) = numbered-named name
+  level_step-named (Member tag) = named-either (takes_member state.part) (Ok state) (Err (NotAllowed number)) named tt
+  level_step-named (RequiredTag tag) = named-either (takes_required state.part) (Ok (in_part Required state)) (Err (NotAllowed number)) (omega arith) tt
+  level_step-named Unknown = tt
+
+  pub taken-named : (line : Line) (next : LevelState) → level_step_of state number line ≡ Ok next → Named next
+  taken-named line next taken = rw taken at (level_step-named line)
 
 -- ---- layout_order_from
 

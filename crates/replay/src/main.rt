@@ -3,8 +3,8 @@
 #![tactic(auto)]
 
 use replay_lines::block::{BLOCK_WORDS, Parts};
-use replay_lines::cases::Cases;
-use replay_lines::recorded_files::replay_file;
+use replay_lines::cases::ByteCases;
+use replay_lines::recorded_files::replay_list;
 use replay_lines::recorded_values::MOST_NUMBERS;
 use replay_space::space::Word;
 use replay_texts::count_cases::CountCases;
@@ -123,8 +123,8 @@ fn replay_expansions(rt: &HostRuntime) -> io::Result<()> {
 
 // One line: the name of the call, the cases, those that differ and those whose line is of no known
 // form.
-fn replay<C: Cases>(rt: &HostRuntime, call: &str, file: &[u8], cases: C) -> io::Result<()> {
-    let tally = replay_file(rt, file, cases)?;
+fn replay<C: ByteCases>(rt: &HostRuntime, call: &str, file: &[u8], cases: C) -> io::Result<()> {
+    let tally = replay_list(rt, file, cases)?;
     let cases = tally.cases;
     let differ = tally.differ;
     let unread = tally.unread;

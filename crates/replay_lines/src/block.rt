@@ -1,8 +1,10 @@
 // What cases run on: lines before them give the words of a dictionary, of a layout and of a field
 // table, and the bytes of a message. The words stand in one lent array, those of each kind at a
 // place of their own.
-use crate::cases::NotReplayed;
-use crate::recorded_values::{read_numbers, read_pairs};
+ghost use Rattle.std.specs.Prelude.{◌≡◌, ◌≤◌, IfOk, IfSome, codes, take};
+
+use crate::cases::Unread;
+use crate::recorded_values::{read_numbers_in, read_pairs};
 
 // The room that the parts of a block are lent, and how many words or bytes the lines so far give;
 // None where their line is of no known form.
@@ -53,33 +55,45 @@ impl<'a> Parts<'a> {
 
     // Takes what a line gives whose first word begins as `dictionary`, `layout`, `fields` or
     // `message`.
-    pub fn read_part(&mut self, kind: &[u8], text: &[u8]) -> Result<(), NotReplayed> {
+    pub fn read_part(&mut self, kind: &[u8], text: &[u8]) -> Result<(), Unread> {
+        self.read_part_within(kind, text, DICTIONARY_WORDS)
+    }
+
+    // The same, where a line has at most so many words.
+    pub fn read_part_within(&mut self, kind: &[u8], text: &[u8], most: usize) -> Result<(), Unread>
+        ensures dictionary { take 1 kind.now ≡ codes "d" →
+            IfOk result (λ _. IfSome self.new.dictionary (λ words. words ≤ most)) }
+        ensures layout { take 1 kind.now ≡ codes "l" →
+            IfOk result (λ _. IfSome self.new.layout (λ words. words ≤ most)) }
+        ensures fields { take 1 kind.now ≡ codes "f" →
+            IfOk result (λ _. IfSome self.new.fields (λ words. words ≤ most)) }
+    {
         let words = &mut *self.words;
         // None first: a line of no known form leaves none of the part before it
         match kind.first() {
             Some(b'd') => {
                 self.dictionary = None;
-                self.dictionary = Some(put_words(text, words, 0, DICTIONARY_WORDS)?);
+                self.dictionary = Some(put_words(text, words, 0, DICTIONARY_WORDS, most)?);
             }
             Some(b'l') => {
                 self.layout = None;
-                self.layout = Some(put_words(text, words, DICTIONARY_WORDS, LAYOUT_PAST)?);
+                self.layout = Some(put_words(text, words, DICTIONARY_WORDS, LAYOUT_PAST, most)?);
             }
             Some(b'f') => {
                 self.fields = None;
-                self.fields = Some(put_words(text, words, LAYOUT_PAST, BLOCK_WORDS)?);
+                self.fields = Some(put_words(text, words, LAYOUT_PAST, BLOCK_WORDS, most)?);
             }
             Some(b'm') => {
                 self.message = None;
                 self.message = Some(read_pairs(text, self.bytes)?.len());
             }
-            _ => return Err(NotReplayed::NoForm),
+            _ => return Err(Unread::NoForm),
         }
         Ok(())
     }
 
     // The block, where the lines of all its parts are of a known form.
-    pub fn block(&self) -> Result<Block<'_>, NotReplayed> {
+    pub fn block(&self) -> Result<Block<'_>, Unread> {
         Ok(Block {
             dictionary: slice_of(self.words, 0, self.dictionary)?,
             layout: slice_of(self.words, DICTIONARY_WORDS, self.layout)?,
@@ -94,20 +108,25 @@ pub fn is_part(line: &[u8]) -> bool {
     matches!(line.first(), Some(b'd' | b'l' | b'f' | b'm'))
 }
 
-// Puts the words that the text gives from `first` on up to before `past`: how many there are.
+// Puts the words that the text gives, at most so many, from `first` on up to before `past`: how many
+// there are.
 fn put_words(
     text: &[u8],
     words: &mut [u32],
     first: usize,
     past: usize,
-) -> Result<usize, NotReplayed> {
-    let room = words.get_mut(first..past).ok_or(NotReplayed::NoForm)?;
-    Ok(read_numbers::<u32>(text, room)?.len())
+    most: usize,
+) -> Result<usize, Unread>
+    ensures { IfOk result (λ count. count ≤ most) }
+{
+    let room = words.get_mut(first..past).ok_or(Unread::NoForm)?;
+    let most = room.len().min(most);
+    Ok(read_numbers_in::<u32>(text, &mut room[..most])?.len())
 }
 
 // So many of the room from `first` on.
-fn slice_of<T>(room: &[T], first: usize, size: Option<usize>) -> Result<&[T], NotReplayed> {
-    let size = size.ok_or(NotReplayed::NoForm)?;
+fn slice_of<T>(room: &[T], first: usize, size: Option<usize>) -> Result<&[T], Unread> {
+    let size = size.ok_or(Unread::NoForm)?;
     let part = room.get(first..).and_then(|part| part.get(..size));
-    part.ok_or(NotReplayed::NoForm)
+    part.ok_or(Unread::NoForm)
 }

@@ -1,5 +1,5 @@
 // What a call gave, beside what was recorded of it.
-ghost use Rattle.std.specs.Prelude.{◌≡◌, ◌==◌, ◌↔◌, IsTrue, IfSome, MatchResult, Some, false, codes, take};
+ghost use Rattle.std.specs.Prelude.{◌≡◌, ◌==◌, ◌↔◌, ◌⊎◌, IsTrue, IfSome, MatchResult, Some, false, codes, take};
 ghost use Rattle.std.specs.List.{before_first, after_first};
 ghost use Rattle.counts.specs.Count.{count_of};
 ghost use Rattle.refusals.specs.Refusal.{refusal_number, refusal_place};
@@ -68,6 +68,13 @@ impl From<Refusal> for Refused {
 }
 
 impl Refused {
+    // Refused with 10 or 11: the lines of a layout text are in order, but make no layout.
+    pub fn is_of_layout(self) -> bool
+        ensures { IsTrue result ↔ ((self.number ≡ 10) ⊎ (self.number ≡ 11)) }
+    {
+        self.number == 10 || self.number == 11
+    }
+
     // The refusal whose number and place the text has, with a space between them; None where it has
     // another form.
     pub fn recorded(text: &[u8]) -> Option<Self>

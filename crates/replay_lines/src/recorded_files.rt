@@ -1,9 +1,10 @@
-// A recorded list, replayed line by line.
-use crate::cases::{Cases, NotReplayed, Replayed};
+// A recorded list, replayed line by line: its lines as bytes, in a buffer, or as text, on the heap.
+use crate::cases::{ByteCases, Cases, NotReplayed, Replayed, Unread};
 use crate::lines::{first_line, next_line};
 use files::file::{open_named, say_unread};
+use std::alloc::AllocError;
 use std::io;
-use std::io::Read;
+use std::io::{BufRead, BufReader, Read};
 use std::rt::Files;
 
 // How many cases ran, how many of them differ, and how many lines are of no known form.
@@ -25,7 +26,7 @@ impl Tally {
 
 // Replays the list that the file holds. Where it cannot be opened, the reason is said on standard
 // error.
-pub fn replay_file<R: Files + Print + Eprint, C: Cases>(
+pub fn replay_list<R: Files + Print + Eprint, C: ByteCases>(
     rt: &R,
     name: &[u8],
     cases: C,
@@ -42,14 +43,18 @@ pub fn replay_file<R: Files + Print + Eprint, C: Cases>(
 // Replays the list that the file holds, which is open, with room for its longest line. It is
 // compiled by itself, so that the room is taken only while the list is replayed.
 #[inline(never)]
-fn replay_open<R: Print, F: Read, C: Cases>(rt: &R, file: &mut F, cases: C) -> io::Result<Tally> {
+fn replay_open<R: Print, F: Read, C: ByteCases>(
+    rt: &R,
+    file: &mut F,
+    cases: C,
+) -> io::Result<Tally> {
     let mut buffer = [0u8; 131072];
     replay_lines(rt, file, &mut buffer, cases)
 }
 
 // A proved loop has to end, and nothing says that a file does: it takes as many turns as no run
 // uses up.
-fn replay_lines<R: Print, F: Read, C: Cases>(
+fn replay_lines<R: Print, F: Read, C: ByteCases>(
     rt: &R,
     file: &mut F,
     buffer: &mut [u8],
@@ -69,7 +74,7 @@ fn replay_lines<R: Print, F: Read, C: Cases>(
 
 // Replays the line, and prints it where it differs or is of no known form. One that is empty or
 // begins with # is a comment.
-fn replay_line<R: Print, C: Cases>(
+fn replay_line<R: Print, C: ByteCases>(
     rt: &R,
     line: &[u8],
     cases: &mut C,
@@ -78,7 +83,17 @@ fn replay_line<R: Print, C: Cases>(
     if line.is_empty() || line.starts_with(b"#") {
         return Ok(());
     }
-    match cases.replay(line) {
+    tell(rt, line, cases.replay(line), tally)
+}
+
+// Counts how the line's case went, and prints the line where it differs or is of no known form.
+fn tell<R: Print>(
+    rt: &R,
+    line: &[u8],
+    replayed: Result<Option<Replayed>, Unread>,
+    tally: &mut Tally,
+) -> io::Result<()> {
+    match replayed {
         Ok(None) => Ok(()),
         Ok(Some(Replayed::Same)) => {
             tally.add(0, 0);
@@ -88,7 +103,7 @@ fn replay_line<R: Print, C: Cases>(
             tally.add(1, 0);
             print_line(rt, b"differs: ", line)
         }
-        Err(NotReplayed::NoForm) => {
+        Err(Unread::NoForm) => {
             tally.add(0, 1);
             print_line(rt, b"of no known form: ", line)
         }
@@ -99,4 +114,53 @@ fn print_line<R: Print>(rt: &R, what: &[u8], line: &[u8]) -> io::Result<()> {
     rt.write_all(what)?;
     rt.write_all(line)?;
     rt.write_all(b"\n")
+}
+
+// Replays the list that the file holds, each line as text. Where it cannot be opened, the reason is
+// said on standard error. It ends with an error where a read fails, a line is no UTF-8 or there is no
+// memory.
+pub fn replay_file<R: Files + Print + Eprint + AllocGlobal, C: Cases>(
+    rt: &R,
+    name: &[u8],
+    cases: C,
+) -> io::Result<Tally> {
+    match open_named(rt, name) {
+        Ok(file) => replay_open_text(rt, file, cases),
+        Err(error) => {
+            say_unread(rt, name, error);
+            Ok(Tally::default())
+        }
+    }
+}
+
+// Replays the list that the file holds, which is open.
+fn replay_open_text<R: Print + AllocGlobal, F: Read + Drop, C: Cases>(
+    rt: &R,
+    file: F,
+    mut cases: C,
+) -> io::Result<Tally> {
+    let mut tally = Tally::default();
+    for line in BufReader::new(rt.alloc(), file)?.lines(rt.alloc()) {
+        let line = line?;
+        replay_text(rt, line.as_str(), &mut cases, &mut tally)?;
+    }
+    Ok(tally)
+}
+
+// The same as `replay_line`, of a line of text.
+fn replay_text<R: Print, C: Cases>(
+    rt: &R,
+    line: &str,
+    cases: &mut C,
+    tally: &mut Tally,
+) -> io::Result<()> {
+    if line.is_empty() || line.starts_with('#') {
+        return Ok(());
+    }
+    let replayed = match cases.replay(line) {
+        Ok(replayed) => Ok(replayed),
+        Err(NotReplayed::NoForm) => Err(Unread::NoForm),
+        Err(NotReplayed::OutOfMemory) => return Err(io::Error::from(AllocError)),
+    };
+    tell(rt, line.as_bytes(), replayed, tally)
 }

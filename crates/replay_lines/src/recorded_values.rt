@@ -5,12 +5,13 @@ ghost use Rattle.std.specs.List.{before_first, after_first};
 ghost use Rattle.hex.specs.Hex.{decode_of};
 ghost use Rattle.counts.specs.Count.{count_of};
 
-use crate::cases::NotReplayed;
+use crate::cases::{NotReplayed, Unread};
 use counts::count::parse_count;
+use std::alloc::Global;
 use std::num::ParseIntError;
 use std::str::FromStr;
 
-pub fn read_bytes<'a>(text: &[u8], bytes: &'a mut [u8]) -> Result<&'a [u8], NotReplayed>
+pub fn read_bytes<'a>(text: &[u8], bytes: &'a mut [u8]) -> Result<&'a [u8], Unread>
     ensures none { text.now ≡ codes "-" → IfOk result (λ bytes. bytes.now ≡ []) }
     ensures some { text.now ≢ codes "-" →
         IfOk result (λ bytes. decode_of text.now ≡ Ok bytes.now) }
@@ -19,14 +20,14 @@ pub fn read_bytes<'a>(text: &[u8], bytes: &'a mut [u8]) -> Result<&'a [u8], NotR
     if text == b"-".as_slice() {
         return Ok(&bytes[..0]);
     }
-    let bytes = bytes.get_mut(..text.len() / 2).ok_or(NotReplayed::NoForm)?;
+    let bytes = bytes.get_mut(..text.len() / 2).ok_or(Unread::NoForm)?;
     hex::decode_to_slice(text, bytes)?;
     Ok(bytes)
 }
 
 // The bytes as a list has them: none where the text is one byte, as - is; a digit at the end that
 // has no other after it is passed over. A digit in upper case is of no known form.
-pub fn read_pairs<'a>(text: &[u8], bytes: &'a mut [u8]) -> Result<&'a [u8], NotReplayed>
+pub fn read_pairs<'a>(text: &[u8], bytes: &'a mut [u8]) -> Result<&'a [u8], Unread>
     ensures one { length text.now ≡ 1 → IfOk result (λ bytes. bytes.now ≡ []) }
     ensures pairs { length text.now ≢ 1 → IfOk result (λ bytes.
         decode_of (take (length text.now / 2 * 2) text.now) ≡ Ok bytes.now) }
@@ -37,37 +38,58 @@ pub fn read_pairs<'a>(text: &[u8], bytes: &'a mut [u8]) -> Result<&'a [u8], NotR
     }
     let pairs = &text[..text.len() / 2 * 2]; // no byte alone, so not "-"
     if pairs.iter().any(|byte| byte.is_ascii_uppercase()) {
-        return Err(NotReplayed::NoForm);
+        return Err(Unread::NoForm);
     }
     read_bytes(pairs, bytes)
+}
+
+// The numbers of a text that have spaces or other white space between them, each as `parse` takes
+// it.
+pub fn read_numbers<W: FromStr<Err = ParseIntError> + Drop>(
+    alloc: Global,
+    text: &str,
+) -> Result<Vec<W>, NotReplayed> {
+    text.split_ascii_whitespace()
+        .map(|word| -> Result<W, NotReplayed> { Ok(word.parse::<W>()?) })
+        .try_collect(alloc)
+}
+
+// Puts the numbers at the start of the room, and gives them.
+pub fn read_numbers_in<'a, W: FromStr<Err = ParseIntError> + Drop>(
+    text: &[u8],
+    room: &'a mut [W],
+) -> Result<&'a [W], Unread>
+    ensures { IfOk result (λ numbers. length numbers.now ≤ length room.old) }
+{
+    let count = put_numbers(text, room)?;
+    Ok(room.split_at(count).0)
 }
 
 // More numbers than this are on no line of a list.
 pub const MOST_NUMBERS: usize = 24576;
 
-// Puts the numbers at the start of the room, and gives them.
-pub fn read_numbers<'a, W: FromStr<Err = ParseIntError> + Drop>(
+// The same, where no more numbers are read than a line of a list has.
+pub fn read_line_numbers<'a, W: FromStr<Err = ParseIntError> + Drop>(
     text: &[u8],
     room: &'a mut [W],
-) -> Result<&'a [W], NotReplayed>
+) -> Result<&'a [W], Unread>
     ensures room { IfOk result (λ numbers. length numbers.now ≤ length room.old) }
     ensures most { IfOk result (λ numbers. length numbers.now ≤ 24576) }
 {
-    let count = put_numbers(text, room)?;
-    Ok(room.split_at(count).0)
+    let most = room.len().min(MOST_NUMBERS);
+    read_numbers_in(text, &mut room[..most])
 }
 
 // Puts the numbers at the start of the room, and answers how many there are.
 fn put_numbers<W: FromStr<Err = ParseIntError> + Drop>(
     text: &[u8],
     room: &mut [W],
-) -> Result<usize, NotReplayed>
-    ensures room { IfOk result (λ count. count ≤ length room.old) }
-    ensures most { IfOk result (λ count. count ≤ 24576) }
+) -> Result<usize, Unread>
+    ensures { IfOk result (λ count. count ≤ length room.old) }
 {
-    let most = room.len().min(MOST_NUMBERS);
+    let most = room.len();
     let mut rest = text;
-    for (count, number) in room[..most].iter_mut().enumerate() {
+    for (count, number) in room.iter_mut().enumerate() {
         if rest.is_empty() {
             return Ok(count);
         }
@@ -78,15 +100,15 @@ fn put_numbers<W: FromStr<Err = ParseIntError> + Drop>(
     if rest.is_empty() {
         Ok(most)
     } else {
-        Err(NotReplayed::NoForm)
+        Err(Unread::NoForm)
     }
 }
 
 // A number in digits alone.
-fn read_number<W: FromStr<Err = ParseIntError> + Drop>(word: &[u8]) -> Result<W, NotReplayed> {
+fn read_number<W: FromStr<Err = ParseIntError> + Drop>(word: &[u8]) -> Result<W, Unread> {
     match str::from_utf8(word) {
         Ok(digits) if !digits.starts_with('+') => Ok(digits.parse::<W>()?),
-        _ => Err(NotReplayed::NoForm),
+        _ => Err(Unread::NoForm),
     }
 }
 
@@ -116,12 +138,12 @@ pub fn split_kind(line: &[u8]) -> (&[u8], &[u8])
 }
 
 // The same, where something has to follow.
-pub fn first_word(line: &[u8]) -> Result<(&[u8], &[u8]), NotReplayed>
+pub fn first_word(line: &[u8]) -> Result<(&[u8], &[u8]), Unread>
     ensures parts { IfOk result (λ parts. line.now ≡ parts.0.now ++ 32 ∷ parts.1.now) }
     ensures word { IfOk result (λ parts. parts.0.now ≡ before_first (λ byte. byte == 32) line.now) }
 {
     match space_in(line) {
         Some(space) => Ok((&line[..space], &line[space + 1..])),
-        None => Err(NotReplayed::NoForm),
+        None => Err(Unread::NoForm),
     }
 }

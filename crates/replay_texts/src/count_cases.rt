@@ -1,7 +1,7 @@
 // Cases of `parse_count`: the value in hexadecimal, then the number that the Rust gave, or `none`.
 use counts::count::parse_count;
 use itoa::Buffer;
-use replay_lines::cases::{Cases, NotReplayed, Replayed};
+use replay_lines::cases::{ByteCases, Replayed, Unread};
 use replay_lines::recorded_values::{first_word, read_pairs};
 
 #[derive(Drop)]
@@ -10,8 +10,8 @@ pub struct CountCases;
 // A value has at most so many bytes.
 const VALUE_BYTES: usize = 64;
 
-impl Cases for CountCases {
-    fn replay(&mut self, line: &[u8]) -> Result<Option<Replayed>, NotReplayed> {
+impl ByteCases for CountCases {
+    fn replay(&mut self, line: &[u8]) -> Result<Option<Replayed>, Unread> {
         let (value, answer) = first_word(line)?;
         let mut bytes = [0u8; VALUE_BYTES];
         let value = read_pairs(value, &mut bytes)?;

@@ -1,7 +1,7 @@
 // Texts in the recorded lists: their bytes in hexadecimal, or pieces `@N HEX`: the bytes N times,
 // one after the other.
 use counts::count::parse_count;
-use replay_lines::cases::NotReplayed;
+use replay_lines::cases::Unread;
 use replay_lines::recorded_values::{first_word, read_pairs, split_kind};
 
 // A text has at most so many bytes: those that the program lends room for.
@@ -24,7 +24,7 @@ impl<'a> TextAbove<'a> {
     }
 
     // The text that the line belongs to, and what follows it and a space.
-    pub fn read<'l>(&mut self, line: &'l [u8]) -> Result<(&[u8], &'l [u8]), NotReplayed> {
+    pub fn read<'l>(&mut self, line: &'l [u8]) -> Result<(&[u8], &'l [u8]), Unread> {
         let rest = if line.starts_with(b"w") {
             split_kind(line).1
         } else {
@@ -34,8 +34,8 @@ impl<'a> TextAbove<'a> {
             self.size = text.map(|text| text.len());
             rest
         };
-        let size = self.size.ok_or(NotReplayed::NoForm)?;
-        let text = self.room.get(..size).ok_or(NotReplayed::NoForm)?;
+        let size = self.size.ok_or(Unread::NoForm)?;
+        let text = self.room.get(..size).ok_or(Unread::NoForm)?;
         Ok((text, rest))
     }
 }
@@ -45,7 +45,7 @@ impl<'a> TextAbove<'a> {
 pub fn read_text<'a, 'l>(
     line: &'l [u8],
     room: &'a mut [u8],
-) -> Result<(Option<&'a [u8]>, &'l [u8]), NotReplayed> {
+) -> Result<(Option<&'a [u8]>, &'l [u8]), Unread> {
     if line.starts_with(b"@") {
         let (size, rest) = read_pieces(line, room)?;
         let text = size.and_then(|size| room.get(..size));
@@ -57,10 +57,7 @@ pub fn read_text<'a, 'l>(
 
 // Puts the pieces that the line begins with at the start of the room, one after the other: how many
 // bytes they are. After one of no known form there is to be no other.
-fn read_pieces<'l>(
-    line: &'l [u8],
-    room: &mut [u8],
-) -> Result<(Option<usize>, &'l [u8]), NotReplayed> {
+fn read_pieces<'l>(line: &'l [u8], room: &mut [u8]) -> Result<(Option<usize>, &'l [u8]), Unread> {
     let mut size = Some(0);
     let mut rest = line;
     // a proved loop has to end: a line has fewer pieces than bytes
@@ -70,8 +67,8 @@ fn read_pieces<'l>(
         };
         let (times, piece) = first_word(piece)?;
         let (bytes, next) = first_word(piece)?;
-        let times = parse_count(times).ok_or(NotReplayed::NoForm)?;
-        let before = size.ok_or(NotReplayed::NoForm)?;
+        let times = parse_count(times).ok_or(Unread::NoForm)?;
+        let before = size.ok_or(Unread::NoForm)?;
         size = repeated(bytes, times, room, before);
         rest = next;
     }

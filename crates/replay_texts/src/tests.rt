@@ -3,7 +3,7 @@ use crate::count_cases::CountCases;
 use crate::recorded_text::{TEXT_BYTES, TextAbove};
 use crate::text_cases::{DictionaryTextCases, LayoutTextCases};
 use crate::value_cases::ValueCases;
-use replay_lines::cases::{Cases, NotReplayed, Replayed};
+use replay_lines::cases::{ByteCases, Replayed, Unread};
 use std::test::Fail;
 
 #[test]
@@ -29,7 +29,7 @@ fn replays_lines(rt: HostRuntime) {
     assert_eq!(rt; CountCases.replay(b"2b none"), same);
     assert_eq!(rt; CountCases.replay(b"31 1"), same);
     assert_eq!(rt; CountCases.replay(b"31 2"), Ok(Some(Replayed::Differs)));
-    assert_eq!(rt; CountCases.replay(b"31"), Err(NotReplayed::NoForm));
+    assert_eq!(rt; CountCases.replay(b"31"), Err(Unread::NoForm));
     assert_eq!(rt; ValueCases.replay(b"00 - 0 0"), same);
     assert_eq!(rt; ValueCases.replay(b"00 30 1 1"), same);
     assert_eq!(rt;

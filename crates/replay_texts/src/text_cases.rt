@@ -5,7 +5,7 @@
 use crate::recorded_text::TextAbove;
 use layout_text::layout_text::check_layout_text;
 use refusals::refusal::Refusal;
-use replay_lines::cases::{Cases, NotReplayed, Replayed};
+use replay_lines::cases::{ByteCases, Replayed, Unread};
 use replay_lines::given::{Refused, is_refusal};
 use replay_lines::recorded_values::{same_number, split_kind};
 use texts::dictionary_text::check_dictionary_text;
@@ -23,8 +23,8 @@ impl<'a> DictionaryTextCases<'a> {
     }
 }
 
-impl Cases for DictionaryTextCases<'_> {
-    fn replay(&mut self, line: &[u8]) -> Result<Option<Replayed>, NotReplayed> {
+impl ByteCases for DictionaryTextCases<'_> {
+    fn replay(&mut self, line: &[u8]) -> Result<Option<Replayed>, Unread> {
         let (text, answer) = self.text.read(line)?;
         let recorded = split_kind(answer).1;
         let same = match check_dictionary_text(text) {
@@ -58,8 +58,8 @@ impl<'a> LayoutTextCases<'a> {
 }
 
 // The order of a layout text's lines; a text that is refused with 10 or 11 has its lines in order.
-impl Cases for LayoutTextCases<'_> {
-    fn replay(&mut self, line: &[u8]) -> Result<Option<Replayed>, NotReplayed> {
+impl ByteCases for LayoutTextCases<'_> {
+    fn replay(&mut self, line: &[u8]) -> Result<Option<Replayed>, Unread> {
         let (text, answer) = self.text.read(line)?;
         if line.starts_with(b"w") {
             return Ok(None);

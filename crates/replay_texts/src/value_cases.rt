@@ -2,7 +2,7 @@
 // answer, then the strict answer, 1 or 0 each, with single spaces between them.
 use field_types::field_type::FieldType;
 use formats::field_value::{is_strict_value, is_valid_value};
-use replay_lines::cases::{Cases, NotReplayed, Replayed};
+use replay_lines::cases::{ByteCases, Replayed, Unread};
 use replay_lines::recorded_values::read_pairs;
 
 #[derive(Drop)]
@@ -11,16 +11,16 @@ pub struct ValueCases;
 // A value has at most so many bytes.
 const VALUE_BYTES: usize = 512;
 
-impl Cases for ValueCases {
-    fn replay(&mut self, line: &[u8]) -> Result<Option<Replayed>, NotReplayed> {
+impl ByteCases for ValueCases {
+    fn replay(&mut self, line: &[u8]) -> Result<Option<Replayed>, Unread> {
         // the bytes after the type and between the answers are not looked at
         let [tens, ones, _, value @ .., space, plain, _, strict] = line else {
-            return Err(NotReplayed::NoForm);
+            return Err(Unread::NoForm);
         };
         if *space != b' ' || value.is_empty() || value.contains(&b' ') {
-            return Err(NotReplayed::NoForm);
+            return Err(Unread::NoForm);
         }
-        let field_type = type_of(*tens, *ones).ok_or(NotReplayed::NoForm)?;
+        let field_type = type_of(*tens, *ones).ok_or(Unread::NoForm)?;
         let mut bytes = [0u8; VALUE_BYTES];
         let value = read_pairs(value, &mut bytes)?;
         let same = recorded_as(is_valid_value(field_type, value), *plain)

@@ -4,9 +4,9 @@
 // `strict` that with document 01's strict mode, or `refused N P` the refusal.
 use crate::calls::{message_given, verdicts_given};
 use replay_lines::block::{Parts, is_part};
-use replay_lines::cases::{Cases, NotReplayed, Replayed};
+use replay_lines::cases::{ByteCases, Replayed, Unread};
 use replay_lines::given::{Given, Refused, is_refusal};
-use replay_lines::recorded_values::{read_numbers, split_kind};
+use replay_lines::recorded_values::{MOST_NUMBERS, read_numbers_in, split_kind};
 use replay_space::in_space::{replay_refused, replay_written};
 use replay_space::space::make_space;
 use replay_words::dictionary_line::read_dictionary_line;
@@ -42,13 +42,15 @@ impl<'a> MessageCases<'a> {
     }
 }
 
-impl Cases for MessageCases<'_> {
-    fn replay(&mut self, line: &[u8]) -> Result<Option<Replayed>, NotReplayed> {
+impl ByteCases for MessageCases<'_> {
+    fn replay(&mut self, line: &[u8]) -> Result<Option<Replayed>, Unread> {
         let (kind, rest) = split_kind(line);
         if self.form == DictionaryForm::Text && line.starts_with(b"d") {
             read_dictionary_line(rest, &mut self.parts)?;
         } else if is_part(line) {
-            self.parts.read_part(kind, rest)?;
+            // a line has as many words as there is room for numbers, or as a line of a list has
+            let most = self.numbers.len().max(MOST_NUMBERS);
+            self.parts.read_part_within(kind, rest, most)?;
         }
         let block = self.parts.block()?;
         if is_part(line) {
@@ -78,13 +80,13 @@ fn replay_call<F: Fn(&mut [u64]) -> Given>(
     answer: &[u8],
     numbers: &mut [u64],
     space: &mut [u64],
-) -> Result<Replayed, NotReplayed>
+) -> Result<Replayed, Unread>
     requires { F.IsAlwaysCallable call }
 {
     if is_refusal(answer) {
         let refused = Refused::recorded(split_kind(answer).1);
         return Ok(replay_refused(call, refused, space));
     }
-    let words = read_numbers(answer, numbers)?;
+    let words = read_numbers_in(answer, numbers)?;
     Ok(replay_written(call, 0, words, space))
 }

@@ -2,7 +2,8 @@
 use crate::message_cases::{DictionaryForm, MessageCases};
 use crate::walk_cases::WalkCases;
 use replay_lines::block::{BLOCK_WORDS, Parts};
-use replay_lines::cases::{Cases, NotReplayed, Replayed};
+use replay_lines::cases::{ByteCases, Replayed, Unread};
+use replay_lines::recorded_values::MOST_NUMBERS;
 use replay_space::space::Word;
 
 #[test]
@@ -30,7 +31,7 @@ fn replays_walks(rt: HostRuntime) {
         same
     );
     assert_eq!(rt; cases.replay(b"walk 2 9 3"), Ok(Some(Replayed::Differs)));
-    assert_eq!(rt; cases.replay(b"walk 2 9"), Err(NotReplayed::NoForm));
+    assert_eq!(rt; cases.replay(b"walk 2 9"), Err(Unread::NoForm));
 }
 
 #[test]
@@ -53,4 +54,26 @@ fn replays_verdicts(rt: HostRuntime) {
     assert_eq!(rt; cases.replay(b"plain"), Ok(Some(Replayed::Same)));
     assert_eq!(rt; cases.replay(b"strict"), Ok(Some(Replayed::Same)));
     assert_eq!(rt; cases.replay(b"plain 0"), Ok(Some(Replayed::Differs)));
+}
+
+// One number more than a line of a list has, where there is room for it and where there is not.
+#[test]
+fn replays_a_longer_line_in_more_room(rt: HostRuntime) {
+    let mut line = [b' '; 11 + 2 * MOST_NUMBERS + 1];
+    for (byte, letter) in line.iter_mut().zip(b"dictionary ") {
+        *byte = *letter;
+    }
+    for digit in line.iter_mut().skip(11).step_by(2) {
+        *digit = b'0';
+    }
+    let mut words = [0u32; BLOCK_WORDS];
+    let mut bytes = [0u8; 64];
+    let mut numbers = [0u64; MOST_NUMBERS + 1];
+    let mut space = [0u64; 64];
+    let parts = Parts::new(&mut words, &mut bytes);
+    let mut cases = WalkCases::new(parts, &mut numbers, &mut space);
+    assert_eq!(rt; cases.replay(&line), Ok(None));
+    let parts = Parts::new(&mut words, &mut bytes);
+    let mut cases = WalkCases::new(parts, &mut numbers[..64], &mut space);
+    assert_eq!(rt; cases.replay(&line), Err(Unread::NoForm));
 }

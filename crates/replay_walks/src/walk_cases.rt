@@ -3,8 +3,8 @@
 // Rust's walk has. Each walk runs also with more space than it can need.
 use crate::calls::group_given;
 use replay_lines::block::{Block, Parts, is_part};
-use replay_lines::cases::{Cases, NotReplayed, Replayed};
-use replay_lines::recorded_values::{read_numbers, split_kind};
+use replay_lines::cases::{ByteCases, Replayed, Unread};
+use replay_lines::recorded_values::{MOST_NUMBERS, read_numbers_in, split_kind};
 use replay_space::in_space::replay_written;
 use replay_space::space::make_space;
 
@@ -16,11 +16,13 @@ pub struct WalkCases<'a> {
 }
 
 // A line that gives no part of the block and is no walk is passed over.
-impl Cases for WalkCases<'_> {
-    fn replay(&mut self, line: &[u8]) -> Result<Option<Replayed>, NotReplayed> {
+impl ByteCases for WalkCases<'_> {
+    fn replay(&mut self, line: &[u8]) -> Result<Option<Replayed>, Unread> {
         let (kind, rest) = split_kind(line);
         if is_part(line) {
-            self.parts.read_part(kind, rest)?;
+            // a line has as many words as there is room for numbers, or as a line of a list has
+            let most = self.numbers.len().max(MOST_NUMBERS);
+            self.parts.read_part_within(kind, rest, most)?;
         }
         let block = self.parts.block()?;
         if !line.starts_with(b"w") {
@@ -46,12 +48,12 @@ fn replay_walk(
     walk: &[u8],
     numbers: &mut [u64],
     space: &mut [u64],
-) -> Result<Replayed, NotReplayed> {
-    let [position, tag, next, words @ ..] = read_numbers(walk, numbers)? else {
-        return Err(NotReplayed::NoForm);
+) -> Result<Replayed, Unread> {
+    let [position, tag, next, words @ ..] = read_numbers_in(walk, numbers)? else {
+        return Err(Unread::NoForm);
     };
     let position = *position as usize;
-    let tag = u32::try_from(*tag).or(Err(NotReplayed::NoForm))?;
+    let tag = u32::try_from(*tag).or(Err(Unread::NoForm))?;
     let ample = ample_space(block.fields.len() / 3, position);
     let Some((space, _)) = space.split_at_mut_checked(ample) else {
         return Ok(Replayed::Differs);

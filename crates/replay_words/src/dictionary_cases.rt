@@ -3,9 +3,9 @@
 // to be recorded, the number of lines is compared.
 use crate::dictionary_line::dictionary_given;
 use crate::recorded_words::replay_numbers;
-use replay_lines::cases::{Cases, NotReplayed, Replayed};
+use replay_lines::cases::{ByteCases, Replayed, Unread};
 use replay_lines::given::{Refused, is_refusal};
-use replay_lines::recorded_values::{read_numbers, same_number, split_kind};
+use replay_lines::recorded_values::{read_numbers_in, same_number, split_kind};
 use replay_space::in_space::{is_short_of_one, replay_refused};
 use replay_space::space::{clear, make_space};
 use replay_texts::recorded_text::TextAbove;
@@ -34,8 +34,8 @@ impl<'a> DictionaryCases<'a> {
     }
 }
 
-impl Cases for DictionaryCases<'_> {
-    fn replay(&mut self, line: &[u8]) -> Result<Option<Replayed>, NotReplayed> {
+impl ByteCases for DictionaryCases<'_> {
+    fn replay(&mut self, line: &[u8]) -> Result<Option<Replayed>, Unread> {
         let (text, answer) = self.text.read(line)?;
         let space = &mut *self.space;
         let numbered = split_kind(answer).1;
@@ -61,8 +61,8 @@ fn replay_words(
     numbers: &mut [u64],
     words: &mut [u32],
     space: &mut [u32],
-) -> Result<Replayed, NotReplayed> {
-    let recorded = read_numbers(split_kind(numbered).1, numbers)?;
+) -> Result<Replayed, Unread> {
+    let recorded = read_numbers_in(split_kind(numbered).1, numbers)?;
     if recorded.is_empty() {
         return Ok(replay_long(text, numbered, space));
     }

@@ -5,9 +5,11 @@ use crate::dictionary_line::read_dictionary_line;
 use crate::recorded_words::replay_numbers;
 use expand::expand_call::expand;
 use replay_lines::block::{Parts, is_part};
-use replay_lines::cases::{Cases, NotReplayed, Replayed};
+use replay_lines::cases::{ByteCases, Replayed, Unread};
 use replay_lines::given::{Given, Refused, Written, is_refusal};
-use replay_lines::recorded_values::{first_word, read_numbers, read_pairs, split_kind};
+use replay_lines::recorded_values::{
+    MOST_NUMBERS, first_word, read_numbers_in, read_pairs, split_kind,
+};
 use replay_space::in_space::replay_refused;
 use replay_space::space::make_space;
 
@@ -23,13 +25,15 @@ pub struct ExpandCases<'a> {
 const TYPE_BYTES: usize = 64;
 
 // Every line but `dictionary` is replayed as a case, one that gives a part too.
-impl Cases for ExpandCases<'_> {
-    fn replay(&mut self, line: &[u8]) -> Result<Option<Replayed>, NotReplayed> {
+impl ByteCases for ExpandCases<'_> {
+    fn replay(&mut self, line: &[u8]) -> Result<Option<Replayed>, Unread> {
         let (kind, rest) = split_kind(line);
         if line.starts_with(b"d") {
             read_dictionary_line(rest, &mut self.parts)?;
         } else if is_part(line) {
-            self.parts.read_part(kind, rest)?;
+            // a line has as many words as there is room for numbers, or as a line of a list has
+            let most = self.numbers.len().max(MOST_NUMBERS);
+            self.parts.read_part_within(kind, rest, most)?;
         }
         let dictionary = self.parts.block()?.dictionary;
         if line.starts_with(b"d") {
@@ -63,7 +67,7 @@ fn replay_type(
     numbers: &mut [u64],
     words: &mut [u32],
     space: &mut [u32],
-) -> Result<Replayed, NotReplayed> {
+) -> Result<Replayed, Unread> {
     let (letters, answer) = first_word(case)?;
     let mut bytes = [0u8; TYPE_BYTES];
     let message_type = read_pairs(letters, &mut bytes)?;
@@ -72,8 +76,8 @@ fn replay_type(
         let refused = Refused::recorded(split_kind(answer).1);
         return Ok(replay_refused(expansion, refused, space));
     }
-    let [nodes, recorded @ ..] = read_numbers(answer, numbers)? else {
-        return Err(NotReplayed::NoForm);
+    let [nodes, recorded @ ..] = read_numbers_in(answer, numbers)? else {
+        return Err(Unread::NoForm);
     };
     replay_numbers(expansion, *nodes as usize, recorded, words, space)
 }

@@ -2,9 +2,9 @@
 // layout on the line after it, or `refused` with the number and the place.
 use crate::recorded_words::replay_numbers;
 use read_layout::read_layout::read_layout;
-use replay_lines::cases::{Cases, NotReplayed, Replayed};
+use replay_lines::cases::{ByteCases, Replayed, Unread};
 use replay_lines::given::{Given, Refused, Written, is_refusal};
-use replay_lines::recorded_values::{read_numbers, split_kind};
+use replay_lines::recorded_values::{read_numbers_in, split_kind};
 use replay_space::in_space::replay_refused;
 use replay_space::space::make_space;
 use replay_texts::recorded_text::TextAbove;
@@ -33,8 +33,8 @@ impl<'a> LayoutCases<'a> {
     }
 }
 
-impl Cases for LayoutCases<'_> {
-    fn replay(&mut self, line: &[u8]) -> Result<Option<Replayed>, NotReplayed> {
+impl ByteCases for LayoutCases<'_> {
+    fn replay(&mut self, line: &[u8]) -> Result<Option<Replayed>, Unread> {
         let (text, answer) = self.text.read(line)?;
         let space = &mut *self.space;
         if line.starts_with(b"w") {
@@ -56,8 +56,8 @@ fn replay_words(
     numbers: &mut [u64],
     words: &mut [u32],
     space: &mut [u32],
-) -> Result<Replayed, NotReplayed> {
-    let recorded = read_numbers(answer, numbers)?;
+) -> Result<Replayed, Unread> {
+    let recorded = read_numbers_in(answer, numbers)?;
     replay_numbers(|lent| layout_given(text, lent), 0, recorded, words, space)
 }
 

@@ -1,5 +1,5 @@
 // A call that writes words of 32 bits, beside recorded numbers.
-use replay_lines::cases::{NotReplayed, Replayed};
+use replay_lines::cases::{Replayed, Unread};
 use replay_lines::given::Given;
 use replay_space::in_space::replay_written;
 
@@ -12,10 +12,10 @@ pub fn replay_numbers<F: Fn(&mut [u32]) -> Given>(
     recorded: &[u64],
     room: &mut [u32],
     space: &mut [u32],
-) -> Result<Replayed, NotReplayed>
+) -> Result<Replayed, Unread>
     requires { F.IsAlwaysCallable call }
 {
-    let words = room.get_mut(..recorded.len()).ok_or(NotReplayed::NoForm)?;
+    let words = room.get_mut(..recorded.len()).ok_or(Unread::NoForm)?;
     for (word, number) in words.iter_mut().zip(recorded) {
         *word = (*number & 0xffff_ffff) as u32;
     }

@@ -3,7 +3,7 @@ use crate::dictionary_cases::DictionaryCases;
 use crate::expand_cases::ExpandCases;
 use crate::layout_cases::LayoutCases;
 use replay_lines::block::{BLOCK_WORDS, Parts};
-use replay_lines::cases::{Cases, NotReplayed, Replayed};
+use replay_lines::cases::{ByteCases, Replayed, Unread};
 use replay_space::space::Word;
 
 #[test]
@@ -58,5 +58,5 @@ fn replays_expansions(rt: HostRuntime) {
     let line = b"expand 44 1 1 13 15 17 17 18 19 10 11 11 453 448 1 35 453 447 448 35 447";
     assert_eq!(rt; cases.replay(line), same);
     assert_eq!(rt; cases.replay(b"expand 45 refused 6 0"), same);
-    assert_eq!(rt; cases.replay(b"walk 0"), Err(NotReplayed::NoForm));
+    assert_eq!(rt; cases.replay(b"walk 0"), Err(Unread::NoForm));
 }
