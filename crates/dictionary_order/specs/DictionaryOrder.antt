@@ -119,7 +119,7 @@ group_step count state number =
     then open_group count state number
     else Err (NotAllowed number)
 
--- a component and a message
+-- of the named stages a component and a message
 abbrev pub has_uses : Stage → Bool
 has_uses stage = stage_number InComponent ≤ᵇ stage_number stage
 

@@ -15,7 +15,7 @@ use Rattle.dictionary_order.specs.declared.dictionary_order.Stage.TheVariants as
 use Rattle.dictionary_order.specs.declared.dictionary_order.Part.{Part}
 use Rattle.dictionary_order.specs.declared.dictionary_order.Part.TheVariants.{Fields, Groups, Uses, NoBody}
 use Rattle.dictionary_order.specs.declared.dictionary_order.Part.TheVariants as parts
-use Rattle.dictionary_order.specs.DictionaryOrder.{stage_number, part_number, is_at, is_from, goes_on_with, has_uses, standing, opened_block, closed_block, used_in, is_name, allowed_if, close_group, close_component, close_message, open_group, end_step, step_of}
+use Rattle.dictionary_order.specs.DictionaryOrder.{stage_number, part_number, is_at, is_from, goes_on_with, has_uses, start, standing, opened_block, closed_block, used_in, is_name, allowed_if, close_group, close_component, close_message, open_group, end_step, step_of}
 
 -- ---- stages
 
@@ -77,6 +77,9 @@ has_uses-named (stages.Other above) named = absurd (omega (arith, named))
 
 abbrev pub Named : State → Type 0
 Named state = (stage_number state.stage < 9) × (part_number state.part < 4)
+
+pub start-named : Named start
+start-named = (omega arith, omega arith)
 
 module _ (state : State) (number : ℕ) (named : Named state) where
   abbrev LeadsToNamed : Result State Refusal → Type 0

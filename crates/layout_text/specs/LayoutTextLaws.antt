@@ -102,6 +102,9 @@ module _ (state : LevelState) (number : ℕ) (within : state.depth ≤ 40) where
 abbrev pub Named : LevelState → Type 0
 Named state = part_number state.part < 3
 
+pub top-named : Named top
+top-named = omega arith
+
 abbrev LeadsToNamed : Result LevelState Refusal → Type 0
 LeadsToNamed step = IfOk step Named
 

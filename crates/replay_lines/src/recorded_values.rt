@@ -61,14 +61,14 @@ pub fn read_numbers_in<'a, W: FromStr<Err = ParseIntError> + Drop>(
 ) -> Result<&'a [W], Unread>
     ensures { IfOk result (λ numbers. length numbers.now ≤ length room.old) }
 {
-    let count = put_numbers(text, room)?;
+    let count = put_all_numbers(text, room)?;
     Ok(room.split_at(count).0)
 }
 
 // More numbers than this are on no line of a list.
 pub const MOST_NUMBERS: usize = 24576;
 
-// The same, where no more numbers are read than a line of a list has.
+// The same, where no more numbers are read than this.
 pub fn read_line_numbers<'a, W: FromStr<Err = ParseIntError> + Drop>(
     text: &[u8],
     room: &'a mut [W],
@@ -76,12 +76,24 @@ pub fn read_line_numbers<'a, W: FromStr<Err = ParseIntError> + Drop>(
     ensures room { IfOk result (λ numbers. length numbers.now ≤ length room.old) }
     ensures most { IfOk result (λ numbers. length numbers.now ≤ 24576) }
 {
+    let count = put_numbers(text, room)?;
+    Ok(room.split_at(count).0)
+}
+
+// Puts the numbers of a line of a list at the start of the room, and answers how many there are.
+fn put_numbers<W: FromStr<Err = ParseIntError> + Drop>(
+    text: &[u8],
+    room: &mut [W],
+) -> Result<usize, Unread>
+    ensures room { IfOk result (λ count. count ≤ length room.old) }
+    ensures most { IfOk result (λ count. count ≤ 24576) }
+{
     let most = room.len().min(MOST_NUMBERS);
-    read_numbers_in(text, &mut room[..most])
+    put_all_numbers(text, &mut room[..most])
 }
 
 // Puts the numbers at the start of the room, and answers how many there are.
-fn put_numbers<W: FromStr<Err = ParseIntError> + Drop>(
+fn put_all_numbers<W: FromStr<Err = ParseIntError> + Drop>(
     text: &[u8],
     room: &mut [W],
 ) -> Result<usize, Unread>
