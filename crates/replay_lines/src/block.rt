@@ -59,7 +59,7 @@ impl<'a> Parts<'a> {
         self.read_part_within(kind, text, DICTIONARY_WORDS)
     }
 
-    // The same, where a line has at most so many words.
+    // The same, where a line has at most so many words; a message has any number of bytes.
     pub fn read_part_within(&mut self, kind: &[u8], text: &[u8], most: usize) -> Result<(), Unread>
         ensures dictionary { take 1 kind.now ≡ codes "d" →
             IfOk result (λ _. IfSome self.new.dictionary (λ words. words ≤ most)) }

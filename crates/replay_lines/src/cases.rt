@@ -55,7 +55,7 @@ pub enum NotReplayed {
     OutOfMemory,
 }
 
-// The same for a line of text, whose cases may allocate.
+// What `?` converts where a line is text: its cases may lack memory too.
 impl From<AllocError> for NotReplayed {
     ghost from_gives = { λ error replayed. replayed ≡ OutOfMemory };
 

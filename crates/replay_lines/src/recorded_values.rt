@@ -1,6 +1,6 @@
 // Values in the recorded lists: bytes in lower-case hexadecimal, `-` for no bytes, and decimal
 // numbers with single spaces between them.
-ghost use Rattle.std.specs.Prelude.{◌≡◌, ◌≢◌, ◌==◌, ◌*◌, ◌/◌, [], ◌++◌, ◌∷◌, ◌↔◌, ◌≤◌, IfOk, IsTrue, codes, length, position, take};
+ghost use Rattle.std.specs.Prelude.{◌≡◌, ◌≢◌, ◌==◌, ◌*◌, ◌/◌, [], ◌++◌, ◌∷◌, ◌↔◌, ◌≤◌, IfOk, IsTrue, codes, length, max, position, take};
 ghost use Rattle.std.specs.List.{before_first, after_first};
 ghost use Rattle.hex.specs.Hex.{decode_of};
 ghost use Rattle.counts.specs.Count.{count_of};
@@ -68,7 +68,15 @@ pub fn read_numbers_in<'a, W: FromStr<Err = ParseIntError> + Drop>(
 // More numbers than this are on no line of a list.
 pub const MOST_NUMBERS: usize = 24576;
 
-// The same, where no more numbers are read than this.
+// How many numbers a line may have where so many have room: MOST_NUMBERS, or more where there is room
+// for more.
+pub fn most_numbers(room: usize) -> usize
+    ensures { result ≡ max room 24576 }
+{
+    room.max(MOST_NUMBERS)
+}
+
+// The same, where no more than MOST_NUMBERS are read.
 pub fn read_line_numbers<'a, W: FromStr<Err = ParseIntError> + Drop>(
     text: &[u8],
     room: &'a mut [W],

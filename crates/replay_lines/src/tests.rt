@@ -2,16 +2,16 @@
 use crate::block::{BLOCK_WORDS, DICTIONARY_WORDS, Parts};
 use crate::cases::{Cases, NotReplayed, Replayed, Unread};
 use crate::given::{Refused, is_refusal};
-use crate::recorded_files::replay_file;
+use crate::recorded_files::{Tally, replay_file};
 use crate::recorded_values::{
-    MOST_NUMBERS, first_word, read_bytes, read_line_numbers, read_numbers, read_numbers_in,
-    read_pairs, split_kind,
+    MOST_NUMBERS, first_word, most_numbers, read_bytes, read_line_numbers, read_numbers,
+    read_numbers_in, read_pairs, split_kind,
 };
 use refusals::refusal::Refusal;
 use std::alloc::{AllocError, AllocFailed};
-use std::fs;
 use std::io::Write;
 use std::test::Fail;
+use std::{fs, io};
 
 #[test]
 fn reads_values(rt: HostRuntime) -> Result<(), Fail> {
@@ -109,6 +109,8 @@ fn reads_more_numbers_where_they_have_room(rt: HostRuntime) -> Result<(), Fail> 
     }
     let mut words = [0u32; BLOCK_WORDS];
     assert_eq!(rt; read_numbers_in(&text, &mut words)?.len(), MOST_NUMBERS + 1);
+    assert_eq!(rt; most_numbers(64), MOST_NUMBERS);
+    assert_eq!(rt; most_numbers(BLOCK_WORDS), BLOCK_WORDS);
     let mut few = [0u32; MOST_NUMBERS];
     assert!(rt; read_numbers_in(&text, &mut few).is_err());
     assert!(rt; read_line_numbers(&text, &mut words).is_err());
@@ -152,8 +154,8 @@ impl Cases for SaidCases {
     }
 }
 
-// A file with these bytes, which no other test has.
-fn new_list(rt: &HostRuntime, bytes: &[u8]) -> Result<String, Fail> {
+// Replays a file with these bytes, which no other test has, and takes it away.
+fn replay_bytes(rt: &HostRuntime, bytes: &[u8]) -> Result<io::Result<Tally>, Fail> {
     let alloc = rt.alloc();
     for number in 0..1000u32 {
         let name = format!(in alloc; "/tmp/replay_lines_{number}")?;
@@ -162,8 +164,11 @@ fn new_list(rt: &HostRuntime, bytes: &[u8]) -> Result<String, Fail> {
             .create_new(true)
             .open(rt, name.as_str());
         if let Ok(mut file) = opened {
-            file.write_all(bytes)?;
-            return Ok(name);
+            let written = file.write_all(bytes);
+            let tally = replay_file(rt, name.as_bytes(), SaidCases);
+            fs::remove_file(rt, name.as_str())?;
+            written?;
+            return Ok(tally);
         }
     }
     Err(Fail::new("no name is free"))
@@ -172,17 +177,11 @@ fn new_list(rt: &HostRuntime, bytes: &[u8]) -> Result<String, Fail> {
 #[test]
 fn replays_text(rt: HostRuntime) -> Result<(), Fail> {
     let list = b"# a comment\n\ngives\nsame\r\nsame\ndiffers\nother\nsame".as_slice();
-    let name = new_list(&rt, list)?;
-    let tally = replay_file(&rt, name.as_bytes(), SaidCases)?;
+    let tally = replay_bytes(&rt, list)??;
     assert_eq!(rt; (tally.cases, tally.differ, tally.unread), (5, 1, 1));
-    fs::remove_file(&rt, name.as_str())?;
-    let name = new_list(&rt, b"same\nno memory\nsame\n")?;
-    assert!(rt; replay_file(&rt, name.as_bytes(), SaidCases).is_err());
-    fs::remove_file(&rt, name.as_str())?;
-    let name = new_list(&rt, b"same\n\xff\n")?;
-    assert!(rt; replay_file(&rt, name.as_bytes(), SaidCases).is_err());
-    fs::remove_file(&rt, name.as_str())?;
-    let tally = replay_file(&rt, b"/tmp/replay_lines", SaidCases)?;
+    assert!(rt; replay_bytes(&rt, b"same\nno memory\nsame\n")?.is_err());
+    assert!(rt; replay_bytes(&rt, b"same\n\xff\n")?.is_err());
+    let tally = replay_file(&rt, b"/tmp/replay_lines/there is no such file", SaidCases)?;
     assert_eq!(rt; (tally.cases, tally.differ, tally.unread), (0, 0, 0));
     Ok(())
 }

@@ -1,6 +1,6 @@
 // A call beside its recorded answer: lent space for just its words, more, and one word less than it
 // needs; one that is refused, with space and with none.
-use crate::space::{Word, is_unwritten, took_words};
+use crate::space::{Word, is_unwritten, took_from_start};
 use replay_lines::cases::Replayed;
 use replay_lines::given::{Given, Refused, Written, is_refused_as, is_short, is_written};
 
@@ -24,7 +24,7 @@ pub fn replay_written<W: Word, F: Fn(&mut [W]) -> Given>(
     Replayed::from(just && ample && short)
 }
 
-// The call writes just these words; `took_words` says what becomes of the space.
+// The call writes just these words; `took_from_start` says what becomes of the space.
 fn writes<W: Word, F: Fn(&mut [W]) -> Given>(
     call: &F,
     number: usize,
@@ -34,7 +34,7 @@ fn writes<W: Word, F: Fn(&mut [W]) -> Given>(
     requires { F.IsAlwaysCallable call.now }
 {
     let given = call(space);
-    let took = took_words(space, words);
+    let took = took_from_start(space, words);
     took && is_written(
         given,
         Written {

@@ -68,10 +68,22 @@ pub fn make_space<W: Word>(room: &mut [W]) -> &mut [W]
     space
 }
 
-// The space holds these words at its start and none after them. So many words at its start are made
-// as they were before, where it has so many. What was written after them stays, so that a later
-// case finds it.
+// The space holds these words at its start and none after them. It is made as it was before.
 pub fn took_words<W: Word>(space: &mut [W], words: &[W]) -> bool
+    ensures took { IsTrue result ↔ (
+        (take (length words.now) space.old ≡ words.now)
+        × All (λ word. word ≡ W.UNWRITTEN) (drop (length words.now) space.old)
+        ) }
+    ensures cleared { space.new ≡ replicate (length space.old) W.UNWRITTEN }
+{
+    let took = took_from_start(space, words);
+    clear(space);
+    took
+}
+
+// The same, but so many words at the start of the space are made as they were before, where it has
+// so many. What was written after them stays, so that a later case finds it.
+pub fn took_from_start<W: Word>(space: &mut [W], words: &[W]) -> bool
     ensures took { IsTrue result ↔ (
         (take (length words.now) space.old ≡ words.now)
         × All (λ word. word ≡ W.UNWRITTEN) (drop (length words.now) space.old)

@@ -1,6 +1,6 @@
 // Calls that are lent space, beside their recorded answers.
 use crate::in_space::{replay_refused, replay_written};
-use crate::space::{Word, is_unwritten, make_space};
+use crate::space::{Word, is_unwritten, make_space, took_from_start, took_words};
 use refusals::refusal::Refusal;
 use replay_lines::cases::Replayed;
 use replay_lines::given::{Given, Refused, Written};
@@ -53,4 +53,20 @@ fn replays_a_refusal(rt: HostRuntime) {
         space,
     );
     assert_eq!(rt; replayed, Replayed::Differs);
+}
+
+// After the recorded words one more is written.
+#[test]
+fn clears_what_was_written(rt: HostRuntime) {
+    let mut space = [5u32, 6, u32::UNWRITTEN];
+    assert!(rt; !took_from_start(&mut space, &[5]));
+    assert_eq!(rt; space, [u32::UNWRITTEN, 6, u32::UNWRITTEN]);
+    assert!(rt; !took_words(&mut space, &[u32::UNWRITTEN]));
+    assert!(rt; is_unwritten(&space));
+    let mut space = [5u32, 6, u32::UNWRITTEN];
+    assert!(rt; took_words(&mut space, &[5, 6]));
+    assert!(rt; is_unwritten(&space));
+    let mut space = [5u32];
+    assert!(rt; !took_words(&mut space, &[5, 6]));
+    assert!(rt; is_unwritten(&space));
 }

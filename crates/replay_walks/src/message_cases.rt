@@ -6,7 +6,7 @@ use crate::calls::{message_given, verdicts_given};
 use replay_lines::block::{Parts, is_part};
 use replay_lines::cases::{ByteCases, Replayed, Unread};
 use replay_lines::given::{Given, Refused, is_refusal};
-use replay_lines::recorded_values::{MOST_NUMBERS, read_numbers_in, split_kind};
+use replay_lines::recorded_values::{most_numbers, read_numbers_in, split_kind};
 use replay_space::in_space::{replay_refused, replay_written};
 use replay_space::space::make_space;
 use replay_words::dictionary_line::read_dictionary_line;
@@ -48,8 +48,7 @@ impl ByteCases for MessageCases<'_> {
         if self.form == DictionaryForm::Text && line.starts_with(b"d") {
             read_dictionary_line(rest, &mut self.parts)?;
         } else if is_part(line) {
-            // a line has as many words as there is room for numbers, or as a line of a list has
-            let most = self.numbers.len().max(MOST_NUMBERS);
+            let most = most_numbers(self.numbers.len());
             self.parts.read_part_within(kind, rest, most)?;
         }
         let block = self.parts.block()?;

@@ -4,7 +4,7 @@
 use crate::calls::group_given;
 use replay_lines::block::{Block, Parts, is_part};
 use replay_lines::cases::{ByteCases, Replayed, Unread};
-use replay_lines::recorded_values::{MOST_NUMBERS, read_numbers_in, split_kind};
+use replay_lines::recorded_values::{most_numbers, read_numbers_in, split_kind};
 use replay_space::in_space::replay_written;
 use replay_space::space::make_space;
 
@@ -20,8 +20,7 @@ impl ByteCases for WalkCases<'_> {
     fn replay(&mut self, line: &[u8]) -> Result<Option<Replayed>, Unread> {
         let (kind, rest) = split_kind(line);
         if is_part(line) {
-            // a line has as many words as there is room for numbers, or as a line of a list has
-            let most = self.numbers.len().max(MOST_NUMBERS);
+            let most = most_numbers(self.numbers.len());
             self.parts.read_part_within(kind, rest, most)?;
         }
         let block = self.parts.block()?;

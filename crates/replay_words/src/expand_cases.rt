@@ -8,7 +8,7 @@ use replay_lines::block::{Parts, is_part};
 use replay_lines::cases::{ByteCases, Replayed, Unread};
 use replay_lines::given::{Given, Refused, Written, is_refusal};
 use replay_lines::recorded_values::{
-    MOST_NUMBERS, first_word, read_numbers_in, read_pairs, split_kind,
+    first_word, most_numbers, read_numbers_in, read_pairs, split_kind,
 };
 use replay_space::in_space::replay_refused;
 use replay_space::space::make_space;
@@ -31,8 +31,7 @@ impl ByteCases for ExpandCases<'_> {
         if line.starts_with(b"d") {
             read_dictionary_line(rest, &mut self.parts)?;
         } else if is_part(line) {
-            // a line has as many words as there is room for numbers, or as a line of a list has
-            let most = self.numbers.len().max(MOST_NUMBERS);
+            let most = most_numbers(self.numbers.len());
             self.parts.read_part_within(kind, rest, most)?;
         }
         let dictionary = self.parts.block()?.dictionary;
