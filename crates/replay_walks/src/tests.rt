@@ -74,6 +74,7 @@ fn replays_a_longer_line_in_more_room(rt: HostRuntime) {
     let mut cases = WalkCases::new(parts, &mut numbers, &mut space);
     assert_eq!(rt; cases.replay(&line), Ok(None));
     let parts = Parts::new(&mut words, &mut bytes);
-    let mut cases = WalkCases::new(parts, &mut numbers[..64], &mut space);
+    let mut fewer = [0u64; 64];
+    let mut cases = WalkCases::new(parts, &mut fewer, &mut space);
     assert_eq!(rt; cases.replay(&line), Err(Unread::NoForm));
 }
