@@ -83,17 +83,7 @@ fn replay_line<R: Print, C: ByteCases>(
     if line.is_empty() || line.starts_with(b"#") {
         return Ok(());
     }
-    tell(rt, line, cases.replay(line), tally)
-}
-
-// Counts how the line's case went, and prints the line where it differs or is of no known form.
-fn tell<R: Print>(
-    rt: &R,
-    line: &[u8],
-    replayed: Result<Option<Replayed>, Unread>,
-    tally: &mut Tally,
-) -> io::Result<()> {
-    match replayed {
+    match cases.replay(line) {
         Ok(None) => Ok(()),
         Ok(Some(Replayed::Same)) => {
             tally.add(0, 0);
@@ -157,10 +147,20 @@ fn replay_text<R: Print, C: Cases>(
     if line.is_empty() || line.starts_with('#') {
         return Ok(());
     }
-    let replayed = match cases.replay(line) {
-        Ok(replayed) => Ok(replayed),
-        Err(NotReplayed::NoForm) => Err(Unread::NoForm),
-        Err(NotReplayed::OutOfMemory) => return Err(io::Error::from(AllocError)),
-    };
-    tell(rt, line.as_bytes(), replayed, tally)
+    match cases.replay(line) {
+        Ok(None) => Ok(()),
+        Ok(Some(Replayed::Same)) => {
+            tally.add(0, 0);
+            Ok(())
+        }
+        Ok(Some(Replayed::Differs)) => {
+            tally.add(1, 0);
+            print_line(rt, b"differs: ", line.as_bytes())
+        }
+        Err(NotReplayed::NoForm) => {
+            tally.add(0, 1);
+            print_line(rt, b"of no known form: ", line.as_bytes())
+        }
+        Err(NotReplayed::OutOfMemory) => Err(io::Error::from(AllocError)),
+    }
 }

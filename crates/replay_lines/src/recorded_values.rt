@@ -1,5 +1,5 @@
 // Values in the recorded lists: bytes in lower-case hexadecimal, `-` for no bytes, and decimal
-// numbers with single spaces between them.
+// numbers with single spaces between them. `read_numbers` takes any text.
 ghost use Rattle.std.specs.Prelude.{◌≡◌, ◌≢◌, ◌==◌, ◌*◌, ◌/◌, [], ◌++◌, ◌∷◌, ◌↔◌, ◌≤◌, IfOk, IsTrue, codes, length, max, position, take};
 ghost use Rattle.std.specs.List.{before_first, after_first};
 ghost use Rattle.hex.specs.Hex.{decode_of};
@@ -65,18 +65,18 @@ pub fn read_numbers_in<'a, W: FromStr<Err = ParseIntError> + Drop>(
     Ok(room.split_at(count).0)
 }
 
-// More numbers than this are on no line of a list.
+// More numbers than this are on no line of the lists that the program replays.
 pub const MOST_NUMBERS: usize = 24576;
 
-// How many numbers a line may have where so many have room: MOST_NUMBERS, or more where there is room
-// for more.
+// How many numbers a line may have, or words a part on it, where cases are lent room for so many
+// numbers: MOST_NUMBERS, or as many as have room where that is more.
 pub fn most_numbers(room: usize) -> usize
     ensures { result ≡ max room 24576 }
 {
     room.max(MOST_NUMBERS)
 }
 
-// The same, where no more than MOST_NUMBERS are read.
+// As `read_numbers_in`, but more numbers than MOST_NUMBERS are of no known form, whatever the room.
 pub fn read_line_numbers<'a, W: FromStr<Err = ParseIntError> + Drop>(
     text: &[u8],
     room: &'a mut [W],

@@ -100,7 +100,7 @@ fn reads_numbers_of_text(rt: HostRuntime) -> Result<(), Fail> {
     Ok(())
 }
 
-// One number more than a line of a list has.
+// One number more than a line of a list has at most.
 #[test]
 fn reads_more_numbers_where_they_have_room(rt: HostRuntime) -> Result<(), Fail> {
     let mut text = [b' '; 2 * MOST_NUMBERS + 1];

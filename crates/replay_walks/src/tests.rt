@@ -56,7 +56,7 @@ fn replays_verdicts(rt: HostRuntime) {
     assert_eq!(rt; cases.replay(b"plain 0"), Ok(Some(Replayed::Differs)));
 }
 
-// One number more than a line of a list has, where there is room for it and where there is not.
+// One number more than a line of a list has at most, where there is room for it and where there is not.
 #[test]
 fn replays_a_longer_line_in_more_room(rt: HostRuntime) {
     let mut line = [b' '; 11 + 2 * MOST_NUMBERS + 1];
